@@ -12,13 +12,16 @@ use Rattle.gx_model.specs.declared.faults.Fault.{Fault}
 use Rattle.gx_import.specs.declared.tables.Tables.{Tables}
 use Rattle.gx_import.specs.Additions.{Clash, blob_added, blobs_added, unless_refused}
 use Rattle.gx_import.specs.Answers.{AddsAs}
+use Rattle.gx_import.specs.Asking.{AsksByChange, AsksByOne, TellsVain}
 use Rattle.gx_import.specs.Explaining.{IsRefused, IsRefusedAt, path_of}
 use Rattle.gx_model.specs.Texts.Paths.{Path}
 use Rattle.std.specs.Prelude.{Option}
 use Rattle.std.proofs.lemmas.List.{length-append, length-map}
 use Rattle.gx_import.specs.Standing.{Follows, Stands}
 use Rattle.gx_model.specs.Objects.NameMaps.{AreFiles}
+use Rattle.gx_import.specs.declared.explanation.Asked.{Asked}
 use Rattle.gx_import.proofs.AddedAnswers.{adds_so, adds_then, both_given}
+use Rattle.gx_import.proofs.AskedReferences.{vain_as}
 use Rattle.gx_import.proofs.Clashes.{change_later, clash_first}
 
 -- the number of a change is that of those before it, and one
@@ -130,3 +133,11 @@ module _ (name : Kind → Bytes → Bytes) {A : Type 0} where
             | inr (inr refused) ↦ inr (inr refused)
           ];
         }
+
+    -- and what it asks for is what all ask for
+    pub next_vain : {B : Type 0} (e : Fault) (told : Option (Asked B)) → ((t : State) → Stands name now tables t → TellsVain (AsksByOne name t (shown here) e) e told) → TellsVain (AsksByChange name s f (map shown xs) e) e told
+    next_vain e told step =
+        let made = with_next in
+        vain_as (AsksByOne name made.state (shown here) e) (AsksByChange name s f (map shown xs) e) e told
+        (λ r k. record { before = made.before; change = shown here; after = map shown right; all = made.parts; made = (made.state, made.files); steps = made.done; asks = k })
+        (step made.state made.follows.stands)

@@ -1,5 +1,5 @@
 -- A commit command run over what an import holds: what its calls answer goes together with the model's step.
-use Rattle.std.proofs.Common.{◌≡◌, List, Option, None, Result, Ok, Err, sym, ap, subst, ◌∙◌}
+use Rattle.std.proofs.Common.{◌≡◌, List, Option, None, Result, Ok, Err, refl, sym, ap, subst, ◌∙◌}
 use Rattle.std.specs.Prelude.{IfErr, IfOk, OnOk}
 use Rattle.std.specs.List.{AllByRecursion}
 use Rattle.gx_model.specs.declared.objects.Kind.{Kind}
@@ -22,14 +22,17 @@ use Rattle.gx_model.specs.declared.faults.Fault.{Fault}
 use Rattle.gx_model.specs.declared.faults.Fault.TheVariants.{OutOfMemory}
 use Rattle.gx_import.specs.Additions.{Clash, added_by_commit, blobs_added, commit_added, commit_made}
 use Rattle.gx_import.specs.Answers.{AddsAs}
+use Rattle.gx_import.specs.Asking.{Reference, TellsVain}
 use Rattle.gx_import.specs.Calls.{SetsCommit}
 use Rattle.gx_import.specs.Explaining.{Tells}
+use Rattle.gx_import.specs.declared.explanation.Asked.{Asked}
 use Rattle.gx_import.specs.declared.explanation.Explanation.{Explanation}
 use Rattle.gx_import.specs.Objects.{IsCommitOf}
 use Rattle.gx_import.specs.Rows.{AreAll, AreBoth}
 use Rattle.gx_import.specs.Standing.{Follows, Stands}
 use Rattle.gx_model.specs.Objects.NameMaps.{AreFiles}
 use Rattle.gx_model.proofs.FilesByName.{files_named}
+use Rattle.gx_import.proofs.AskedReferences.{adds_free, none_vain}
 use Rattle.gx_import.proofs.HeldParts.{commits_hold}
 use Rattle.gx_import.proofs.MadeCommits.{changes_refused, made_refused, parents_after, parents_known, step_made, stepped}
 use Rattle.gx_import.proofs.Standings.{one_has}
@@ -104,6 +107,11 @@ module _ (name : Kind → Bytes → Bytes) {A : Type 0} (r mid new : Records) (b
     pub add_told : {B : Type 0} (e : Fault) → AddGives name A mid new stop parents t (Err e) → (told : Explanation B) → told.change ≡ None → Tells name {X = Unit {0}} s (command.Commit t) (Err e) told
     add_told e adds told blank = adding_told name {X = Name} {Y = State} s (command.Commit t) told blank (Clash name (values_of mid) (commit_added m.0.1 v))
         (λ u called. Follows name new tables m.0.0 u × (called.bytes ≡ name_of name (commit_value v))) e (added (commit_value v) m.0.0) (added_as (Err e) adds)
+
+    -- nor anything that it asks for
+    pub add_vain : {B : Type 0} (Asks : Reference → Type 0) (e : Fault) → AddGives name A mid new stop parents t (Err e) → (told : Option (Asked B)) → told ≡ None → TellsVain Asks e told
+    add_vain Asks e adds told blank = none_vain Asks e told blank (adds_free {X = Name} {Y = State} (Clash name (values_of mid) (commit_added m.0.1 v))
+        (λ u called. Follows name new tables m.0.0 u × (called.bytes ≡ name_of name (commit_value v))) e (Ok (added (commit_value v) m.0.0)) (added_as (Err e) adds) (added (commit_value v) m.0.0) refl)
 
     -- it is, and then its mark and its branch are set
     pub commit_done : (called : Name) → AddGives name A mid new stop parents t (Ok called) → (after : NamedTree) → after.files ≡ stop → (now : Tables A) → SetsCommit tables now t.mark t.ref called after

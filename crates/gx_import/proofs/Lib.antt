@@ -10,6 +10,7 @@ pub mod Parents
 pub mod NamedEdits
 pub mod HeldBlobs
 pub mod ForwardBranches
+pub mod AskedCommands
 pub mod Losses
 pub mod SetRefs
 pub mod PublishedNames
@@ -19,6 +20,8 @@ pub mod Clashes
 pub mod Contents
 pub mod KeptFiles
 pub mod EditedFiles
+pub mod AskedReferences
+pub mod AskedRows
 pub mod ChangesSoFar
 pub mod Marking
 pub mod ProgressTexts

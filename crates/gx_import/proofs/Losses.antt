@@ -1,6 +1,6 @@
 -- The ref that would lose a commit: where one is told, and where none is.
-use Rattle.std.proofs.Common.{◌≡◌, Bool, true, false, Option, Some, None, Ok, Err, refl, inl, inr, sym, ap, subst, ◌∙◌}
-use Rattle.std.specs.Prelude.{◌≢◌, ◌||◌, MatchOption, Result}
+use Rattle.std.proofs.Common.{◌≡◌, Bool, true, false, Option, Some, None, Ok, Err, refl, inr, sym, ap, subst, ◌∙◌}
+use Rattle.std.specs.Prelude.{◌≢◌, ◌||◌, IfErr, MatchOption, Result}
 use Rattle.std.proofs.lemmas.Bool.{true≢false}
 use Rattle.gx_model.specs.declared.objects.Kind.{Kind}
 use Rattle.gx_model.specs.declared.objects.Kind.TheVariants as kinds
@@ -24,12 +24,14 @@ use Rattle.gx_object.specs.declared.name.Name.{Name}
 use Rattle.gx_command.specs.CommandFaults.{fault_of as of_command}
 use Rattle.gx_command.specs.declared.fault.CommandFault.{CommandFault}
 use Rattle.gx_command.specs.declared.fault.CommandFault.TheVariants as reader
+use Rattle.gx_import.specs.Asking.{AsksInVain, TellsVainIn, is_of_reference}
 use Rattle.gx_import.specs.Explaining.{Tells, TellsAll}
 use Rattle.gx_import.specs.Losing.{IsLoss, LosesCommit, TellsLoss, TellsLossAt, TellsLossBy}
 use Rattle.gx_import.specs.Objects.{IsCommitOf}
 use Rattle.gx_import.specs.Rows.{AreBoth}
 use Rattle.gx_import.specs.declared.explanation.Explanation.{Explanation}
 use Rattle.gx_import.specs.declared.explanation.RefLoss.{RefLoss}
+use Rattle.gx_import.proofs.AskedReferences.{none_vain}
 use Rattle.gx_import.proofs.ForwardBranches.{IsBranchOf, target_of}
 use Rattle.gx_import.proofs.ToldCommits.{none_told}
 
@@ -91,14 +93,15 @@ module _ (name : Kind → Bytes → Bytes) {A : Type 0} (s : State) where
   at_checkpoint fault (Some loss) h = (refl, h.0, h.1)
 
   -- all that is told of a checkpoint
-  pub checkpoint_told : {X : Type 0} (told : Explanation A) → told.change ≡ None → (r : Result X Fault) → TellsLossAt name s r told.loss → TellsAll name s Checkpoint r told
-  checkpoint_told told blank (Ok x) h = record { change = blank; loss = h }
-  checkpoint_told told blank (Err e) h = (none_told name s Checkpoint e told blank (inr (inr (λ number path none. none))), at_checkpoint e told.loss h)
+  pub checkpoint_told : {X : Type 0} (told : Explanation A) → told.change ≡ None → told.asked ≡ None → (r : Result X Fault) → TellsLossAt name s r told.loss → IfErr r (λ e. is_of_reference e ≡ false) → TellsAll name s Checkpoint r told
+  checkpoint_told told blank unasked (Ok x) h free = record { change = blank; asked = unasked; loss = h }
+  checkpoint_told told blank unasked (Err e) h free =
+      (none_told name s Checkpoint e told blank (inr (inr (λ number path none. none))), at_checkpoint e told.loss h, none_vain (AsksInVain name s Checkpoint e) e told.asked unasked free)
 
   -- and of another command
-  pub all_told : {X : Type 0} (c : Command) → (c ≡ Checkpoint → ⊥) → (told : Explanation A) (r : Result X Fault) → Tells name s c r told → told.loss ≡ None → TellsAll name s c r told
-  all_told c other told (Ok x) h blank = record { change = h; loss = blank }
-  all_told c other told (Err e) h blank = (h, none_lost_by c e told.loss blank (λ is. absurd (other is)))
+  pub all_told : {X : Type 0} (c : Command) → (c ≡ Checkpoint → ⊥) → (told : Explanation A) (r : Result X Fault) → Tells name s c r told → told.loss ≡ None → TellsVainIn (AsksInVain name s c) r told.asked → TellsAll name s c r told
+  all_told c other told (Ok x) h blank asked = record { change = h; asked = asked; loss = blank }
+  all_told c other told (Err e) h blank asked = (h, none_lost_by c e told.loss blank (λ is. absurd (other is)), asked)
 
 module _ (name : Kind → Bytes → Bytes) (namer : IsNamer name) (r : Records) (sound : IsSound name r) where
   -- the name of the commit that a ref's object gives

@@ -11,7 +11,59 @@ use Rattle.gx_model.specs.Replay.{State, all_committed, committed_for, with_firs
 use Rattle.gx_object.specs.declared.name.Name.{Name}
 use Rattle.gx_import.specs.Objects.{IsCommitOf}
 use Rattle.gx_import.specs.Rows.{AreAll, AreBoth}
+use Rattle.gx_import.specs.Asking.{AsksByMerge, Reference, of_commit_ish}
+use Rattle.gx_import.proofs.AddedAnswers.{both_given, fault_so}
 use Rattle.gx_import.proofs.FaultSteps.{fault_then}
+
+module _ (name : Kind → Bytes → Bytes) (b : Bytes) (s : State) where
+  -- of what is merged, some gave commits, and the rest is left
+  pub record ArePassed (whole rest : List CommitIsh) : Type 0 where
+    pub before : List CommitIsh
+    pub commits : List Commit
+    pub parts : whole ≡ before ++ rest
+    pub given : all_committed name b s before ≡ Ok commits
+
+  pub none_passed : (xs : List CommitIsh) → ArePassed xs xs
+  none_passed xs = record { before = []; commits = []; parts = refl; given = refl }
+
+  abbrev behind_first : Commit → List Commit → Result (List Commit) Fault
+  behind_first c cs = Ok (c ∷ cs)
+
+  -- one that is merged behind others
+  merged_behind : (before : List CommitIsh) (x : CommitIsh) (done : List Commit) (c : Commit) → all_committed name b s before ≡ Ok done → committed_for name b s x ≡ Ok c
+      → all_committed name b s (before ++ x ∷ []) ≡ Ok (done ++ c ∷ [])
+  merged_behind [] x done c h k =
+      let e : [] ≡ done = cc h in
+      subst (λ cs. all_committed name b s (x ∷ []) ≡ Ok (cs ++ c ∷ [])) e (ap (λ r. and_then r (λ d. Ok (d ∷ []))) k)
+  merged_behind (y ∷ ys) x done c h k =
+      let p = both_given (committed_for name b s y) (λ d. and_then (all_committed name b s ys) (behind_first d)) done h in
+      let q = both_given (all_committed name b s ys) (behind_first p.0) done p.2 in
+      let e : p.0 ∷ q.0 ≡ done = cc q.2 in
+      subst (λ cs. all_committed name b s (y ∷ ys ++ x ∷ []) ≡ Ok (cs ++ c ∷ [])) e
+      (ap (λ r. and_then r (λ d. and_then (all_committed name b s (ys ++ x ∷ [])) (behind_first d))) p.1
+      ∙ ap (λ r. and_then r (behind_first p.0)) (merged_behind ys x q.0 c q.1 k))
+
+  -- one more
+  pub next_passed : (whole rest : List CommitIsh) (x : CommitIsh) → ArePassed whole (x ∷ rest) → (c : Commit) → committed_for name b s x ≡ Ok c → ArePassed whole rest
+  next_passed whole rest x h c e = record {
+    before = h.before ++ x ∷ [];
+    commits = h.commits ++ c ∷ [];
+    parts = h.parts ∙ sym (append_assoc h.before (x ∷ []) rest);
+    given = merged_behind h.before x h.commits c h.given e;
+  }
+
+  -- one is refused, and is what is asked for
+  pub passed_vain : (whole rest : List CommitIsh) (x : CommitIsh) → ArePassed whole (x ∷ rest) → (e : Fault) → IsFaultOf e (committed_for name b s x) → (r : Reference) → r ≡ of_commit_ish x → AsksByMerge name b s whole e r
+  passed_vain whole rest x h e k r same = record {
+    before = h.before;
+    merged = x;
+    after = rest;
+    all = h.parts;
+    commits = h.commits;
+    given = h.given;
+    asks = same;
+    refused = fault_so e (committed_for name b s x) k;
+  }
 
 module _ (name : Kind → Bytes → Bytes) (b : Bytes) (s : State) (made : Option Commit) where
   -- these names are those of the parents so far, and the rest of what is merged is left

@@ -29,8 +29,10 @@ use Rattle.gx_command.specs.declared.fault.CommandFault.{CommandFault}
 use Rattle.gx_import.specs.Additions.{ClashesAt}
 use Rattle.gx_import.specs.Applying.{Applies}
 use Rattle.gx_command.specs.CommandFaults.{fault_of as of_command}
+use Rattle.gx_import.specs.Asking.{AsksInVain}
 use Rattle.gx_import.specs.Explaining.{ExplainsFault, HasNoneRefused, HasRefused, TellsAll, TellsNext, TellsNothing}
 use Rattle.gx_import.specs.Losing.{TellsLoss}
+use Rattle.gx_import.proofs.AskedReferences.{none_vain}
 use Rattle.gx_import.proofs.Losses.{memory_forward, none_lost, none_lost_by, read_forward}
 use Rattle.gx_import.specs.declared.explanation.Explanation.{Explanation}
 use Rattle.std.specs.Prelude.{MatchOption}
@@ -289,10 +291,11 @@ module _ (asks : Features) (name : Kind → Bytes → Bytes) where
 
   -- where memory ran out, nothing needs to be told of the next command
   memory_told : {B : Type 0} (s : State) (left : List Command) (explanation : Explanation B) → TellsNothing explanation → TellsNext name s left OutOfMemory explanation
-  memory_told s [] explanation blank = (blank.change, none_lost name s OutOfMemory explanation.loss blank.loss memory_forward)
+  memory_told s [] explanation blank = (blank.change, none_lost name s OutOfMemory explanation.loss blank.loss memory_forward, blank.asked)
   memory_told s (c ∷ cs) explanation blank = (
     subst (λ o. MatchOption o (HasNoneRefused name s c OutOfMemory) (λ number. HasRefused name s c OutOfMemory number explanation.path)) (sym blank.change) (inl refl),
     none_lost_by name s c OutOfMemory explanation.loss blank.loss (λ is. memory_forward),
+    none_vain (AsksInVain name s c OutOfMemory) OutOfMemory explanation.asked blank.asked refl,
   )
 
   -- of the reader's refusal
@@ -300,18 +303,18 @@ module _ (asks : Features) (name : Kind → Bytes → Bytes) where
       → (f : CommandFault) → Reads {A = A} ahead later (Err f) → (explanation : Explanation B) → TellsNothing explanation → (count : ℕ)
       → ExplainsFault name asks old coming (record { command = n + 1; kind = of_command f; checkpoints = count }) explanation
   told_refused A old None n s ahead later was now k f reads explanation blank count =
-      (behind k.0 (stops (Some (of_command f))), (f, refl), record { before = k.0; after = []; all = refl; number = sym (ap (λ m. m + 1) k.1.count); state = s; reached = k.1.reached; tells = (blank.change, none_lost name s (of_command f) explanation.loss blank.loss (read_forward f)) })
+      (behind k.0 (stops (Some (of_command f))), (f, refl), record { before = k.0; after = []; all = refl; number = sym (ap (λ m. m + 1) k.1.count); state = s; reached = k.1.reached; tells = (blank.change, none_lost name s (of_command f) explanation.loss blank.loss (read_forward f), blank.asked) })
   told_refused A old (Some coming) n s ahead later was now k f reads explanation blank count =
       let q = subst (λ o. Reads {A = A} o later (Err f)) k.2 reads in
       elim q.1 as (λ _. ExplainsFault name asks old (Some coming) (record { command = n + 1; kind = of_command f; checkpoints = count }) explanation) [
         | inl e ↦
             let memory : OutOfMemory ≡ of_command f = sym (ap of_command e) in
             record { before = k.0; after = k.1.list; all = ap (λ cs. cs.list) k.3; number = sym (ap (λ m. m + 1) k.4.count); state = s; reached = k.4.reached; tells = subst (λ g. TellsNext name s k.1.list g explanation) memory (memory_told s k.1.list explanation blank) }
-        | inr e ↦ record { before = k.0; after = []; all = ap (λ cs. cs.list) (k.3 ∙ ap (behind k.0) e); number = sym (ap (λ m. m + 1) k.4.count); state = s; reached = k.4.reached; tells = (blank.change, none_lost name s (of_command f) explanation.loss blank.loss (read_forward f)) }
+        | inr e ↦ record { before = k.0; after = []; all = ap (λ cs. cs.list) (k.3 ∙ ap (behind k.0) e); number = sym (ap (λ m. m + 1) k.4.count); state = s; reached = k.4.reached; tells = (blank.change, none_lost name s (of_command f) explanation.loss blank.loss (read_forward f), blank.asked) }
       ]
 
   -- of a refusal behind the last command
-  pub told_last : {B : Type 0} (old : Records) (coming : Option Coming) (n : ℕ) (s : State) (was now : Option Taken) → EndsAs asks name old coming n s was now → (kind : Fault) (explanation : Explanation B) → (explanation.change ≡ None) × TellsLoss name s kind explanation.loss → (count : ℕ)
+  pub told_last : {B : Type 0} (old : Records) (coming : Option Coming) (n : ℕ) (s : State) (was now : Option Taken) → EndsAs asks name old coming n s was now → (kind : Fault) (explanation : Explanation B) → (explanation.change ≡ None) × TellsLoss name s kind explanation.loss × (explanation.asked ≡ None) → (count : ℕ)
       → ExplainsFault name asks old coming (record { command = n + 1; kind = kind; checkpoints = count }) explanation
   told_last old None n s was now k kind explanation blank count =
       (only k.0, tt, record { before = k.0; after = []; all = sym (append-nil k.0); number = sym (ap (λ m. m + 1) k.1.count); state = s; reached = k.1.reached; tells = blank })

@@ -126,6 +126,16 @@ module _ {N : Type 0} (names : N → Kind → Bytes → Bytes) {A : Type 0} wher
       GivesAs (AreBoth (IsCommitOf (names repository.0) s.history.values)) answer
       (optional_commit (names repository.0) s reset.branch.bytes.items (option_map shown_commit_ish reset.from)))
 
+  -- the commit that a tag names
+  abbrev pub NamesTagged : Repository N → Tables A → CommitIsh A → Result Name Fault → Type 0
+  NamesTagged repository tables named answer =
+      InEach repository tables (λ s.
+      GivesAs (IsCommitOf (names repository.0) s.history.values) answer (replay.committed (names repository.0) replay.commit_alone s (shown_commit_ish named)))
+
+  -- a name is that of the commit that a tag names
+  abbrev pub IsTagged : Repository N → Tables A → CommitIsh A → Name → Type 0
+  IsTagged repository tables named called = NamesTagged repository tables named (Ok called)
+
   -- a branch's own commit
   abbrev pub IsOwnCommit : Repository N → Tables A → Bytes → Option Name → Type 0
   IsOwnCommit repository tables branch answer =

@@ -1,5 +1,5 @@
--- What the explanation of a refusal tells: which change of a commit is refused, or which ref would lose a commit.
--- Source: git-fast-import(1), "filemodify" to "filedeleteall", and "force".
+-- What the explanation of a refusal tells: which change of a commit is refused, what was asked for in vain, or which ref would
+-- lose a commit. Source: git-fast-import(1), "from", "merge", "filemodify" to "filedeleteall", and "force".
 use Rattle.std.specs.Prelude.{◌≡◌, ◌⊎◌, ℕ, ◌+◌, Bool, List, [], ◌∷◌, ◌++◌, length, Option, Some, None, Result, Ok, Err, MatchOption}
 use Rattle.std.specs.Option.{option_map}
 use Rattle.gx_model.specs.declared.objects.Kind.{Kind}
@@ -20,6 +20,7 @@ use Rattle.gx_text.specs.Devices.{Coming}
 use Rattle.gx_command.specs.Reading.{commands_asked_from}
 use Rattle.gx_repo.specs.Repositories.{Repository}
 use Rattle.gx_import.specs.Additions.{Clash, blob_added}
+use Rattle.gx_import.specs.Asking.{AsksInVain, TellsVain}
 use Rattle.gx_import.specs.Imports.{AreRead}
 use Rattle.gx_import.specs.Losing.{TellsLoss, TellsLossBy}
 use Rattle.gx_import.specs.declared.explanation.Explanation.{Explanation}
@@ -33,12 +34,13 @@ path_of (Copy source destination) = Some source
 path_of (Rename source destination) = Some source
 path_of Clear = None
 
--- neither a change nor a ref is told
+-- neither a change nor a reference nor a ref is told
 pub record TellsNothing {A : Type 0} (told : Explanation A) : Type 0 where
   pub change : told.change ≡ None
+  pub asked : told.asked ≡ None
   pub loss : told.loss ≡ None
 
--- a refusal tells this path, and nothing else
+-- a refusal tells this path, and no other change and no ref
 abbrev pub TellsPath : {X E A : Type 0} → Option Path → Result X E → Explanation A → Explanation A → Type 0
 TellsPath path (Ok _) old new = new ≡ old
 TellsPath path (Err _) old new = (new.change ≡ old.change) × (new.path ≡ path) × (new.loss ≡ old.loss)
@@ -90,14 +92,16 @@ module _ (name : Kind → Bytes → Bytes) where
   Tells s c (Ok _) told = told.change ≡ None
   Tells s c (Err fault) told = MatchOption told.change (HasNoneRefused s c fault) (λ number. HasRefused s c fault number told.path)
 
-  -- of a command all is told, the change that is refused and the ref that would lose a commit; or nothing, where it is applied
+  -- of a command all is told, the change that is refused, what it asks for in vain, and the ref that would lose a commit; or
+  -- nothing, where it is applied
   abbrev pub TellsAll : {X A : Type 0} → State → Command → Result X Fault → Explanation A → Type 0
   TellsAll s c (Ok _) told = TellsNothing told
-  TellsAll s c (Err fault) told = Tells {X = Unit {0}} s c (Err fault) told × TellsLossBy name s c fault told.loss
+  TellsAll s c (Err fault) told =
+      Tells {X = Unit {0}} s c (Err fault) told × TellsLossBy name s c fault told.loss × TellsVain (AsksInVain name s c fault) fault told.asked
 
-  -- the same of the next of these commands; behind the last no change is told
+  -- the same of the next of these commands; behind the last neither a change nor a reference is told
   abbrev pub TellsNext : {A : Type 0} → State → List Command → Fault → Explanation A → Type 0
-  TellsNext s [] fault told = (told.change ≡ None) × TellsLoss name s fault told.loss
+  TellsNext s [] fault told = (told.change ≡ None) × TellsLoss name s fault told.loss × (told.asked ≡ None)
   TellsNext s (c ∷ cs) fault told = TellsAll {X = Unit {0}} s c (Err fault) told
 
   -- the commands before the one with the fault's number are replayed without a fault, and of that one this is told

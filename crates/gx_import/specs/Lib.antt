@@ -12,8 +12,10 @@ pub mod RefChanges
 pub mod Publishing
 pub mod Imports
 pub mod Losing
+pub mod Asking
 pub mod Explaining
 pub mod Telling
+pub mod TellingAsked
 pub mod Keeping
 pub mod Replaying
 pub mod Exported

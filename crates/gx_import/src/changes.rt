@@ -1,6 +1,6 @@
 //! The changes of a commit's files. Source: git-fast-import(1), "filemodify" to "filedeleteall".
 
-ghost use Rattle.std.specs.Prelude.{◌≡◌, ◌≢◌, None, Ok, Some, IfOk, IsTrue, OnErr};
+ghost use Rattle.std.specs.Prelude.{◌≡◌, ◌≢◌, None, Ok, Some, IfOk, IsTrue, OnErr, OnOk};
 ghost use Rattle.gx_model.specs.Histories.Edits.{copied, removed, renamed};
 ghost use Rattle.gx_model.specs.declared.objects.Mode.TheVariants as modes;
 ghost use Rattle.gx_command.specs.DataRefs.{is_suited};
@@ -12,10 +12,11 @@ ghost use Rattle.gx_import.specs.Standing.{Extends, StayAtHome};
 ghost use Rattle.gx_import.specs.Calls.{AddsContent, Changes, EditsAll, GivesBlob, MakesChange, Modifies, NamesContent};
 ghost use Rattle.gx_import.specs.Explaining.{TellsPath, path_of};
 ghost use Rattle.gx_import.specs.Telling.{TellsEdits};
+ghost use Rattle.gx_import.specs.TellingAsked.{AskedByChange, AskedByData, AskedByEdits, AskedByModify};
 
 use crate::object::{Object, name_of_kind};
 use crate::tables::Tables;
-use crate::{Explanation, ImportKind};
+use crate::{Asked, Explanation, ImportKind};
 use gx_command::{Change, DataRef, Digits, Modify};
 use gx_model::repository_laws::puts_add_values;
 use gx_object::{Kind, Mode, Name, Namer};
@@ -33,12 +34,14 @@ pub(crate) fn change_all<N: Namer, A: Allocator + Copy>(
     told: &mut Explanation<A>,
 ) -> Result<(), ImportKind>
     requires blank { told.now.change ≡ None }
+    requires unasked { told.now.asked ≡ None }
     ensures namer { repo.new.0 ≡ repo.old.0 }
     ensures refs { repo.new.1.refs ≡ repo.old.1.refs }
     ensures extends { Extends repo.old.1.records repo.new.1.records }
     ensures home { IfOk result (λ _. StayAtHome N.name_of repo.old repo.new files.old files.new) }
     ensures steps { EditsAll N.name_of repo.old repo.new tables.now files.old files.new changes result }
     ensures told { TellsEdits N.name_of repo.old tables.now files.old changes result told.new }
+    ensures asked { AskedByEdits N.name_of repo.old tables.now files.old changes result told.new }
     ensures loss { told.new.loss ≡ told.old.loss }
 {
     let count = changes.len();
@@ -53,7 +56,7 @@ pub(crate) fn change_all<N: Namer, A: Allocator + Copy>(
     Ok(())
 }
 
-/// Makes one change. A refusal tells its path.
+/// Makes one change. A refusal tells its path, and what it asks for.
 fn change_files<N: Namer, A: Allocator + Copy>(
     repo: &mut Repo<N, A>,
     tables: &Tables<A>,
@@ -61,12 +64,14 @@ fn change_files<N: Namer, A: Allocator + Copy>(
     change: Change<A>,
     told: &mut Explanation<A>,
 ) -> Result<(), ImportKind>
+    requires unasked { told.now.asked ≡ None }
     ensures namer { repo.new.0 ≡ repo.old.0 }
     ensures refs { repo.new.1.refs ≡ repo.old.1.refs }
     ensures extends { Extends repo.old.1.records repo.new.1.records }
     ensures home { IfOk result (λ _. StayAtHome N.name_of repo.old repo.new files.old files.new) }
     ensures steps { Changes N.name_of repo.old repo.new tables.now files.old files.new change result }
     ensures told { TellsPath (path_of (shown_change change)) result told.old told.new }
+    ensures asked { AskedByChange N.name_of repo.old tables.now change result told.new.asked }
 {
     match change {
         Change::Modify(modify) => modify_files(repo, tables, files, modify, told)?,
@@ -95,6 +100,7 @@ fn remove_files<A: Allocator + Copy>(
     ensures unchanged { OnErr result (files.new ≡ files.old) }
     ensures home { KeepsHome files.old files.new }
     ensures told { TellsPath (Some path) result told.old told.new }
+    ensures asked { told.new.asked ≡ told.old.asked }
 {
     let done = files.remove(&path);
     if done.is_err() {
@@ -114,6 +120,7 @@ fn copy_files<A: Allocator + Copy>(
     ensures unchanged { OnErr result (files.new ≡ files.old) }
     ensures home { KeepsHome files.old files.new }
     ensures told { TellsPath (Some source) result told.old told.new }
+    ensures asked { told.new.asked ≡ told.old.asked }
 {
     let done = files.copy(&source, destination);
     if done.is_err() {
@@ -133,6 +140,7 @@ fn rename_files<A: Allocator + Copy>(
     ensures unchanged { OnErr result (files.new ≡ files.old) }
     ensures home { KeepsHome files.old files.new }
     ensures told { TellsPath (Some source) result told.old told.new }
+    ensures asked { told.new.asked ≡ told.old.asked }
 {
     let done = files.rename(&source, destination);
     if done.is_err() {
@@ -141,7 +149,7 @@ fn rename_files<A: Allocator + Copy>(
     done
 }
 
-/// Sets a file. A refusal tells its path.
+/// Sets a file. A refusal tells its path, and what it asks for.
 fn modify_files<N: Namer, A: Allocator + Copy>(
     repo: &mut Repo<N, A>,
     tables: &Tables<A>,
@@ -149,12 +157,14 @@ fn modify_files<N: Namer, A: Allocator + Copy>(
     modify: Modify<A>,
     told: &mut Explanation<A>,
 ) -> Result<(), ImportKind>
+    requires unasked { told.now.asked ≡ None }
     ensures namer { repo.new.0 ≡ repo.old.0 }
     ensures refs { repo.new.1.refs ≡ repo.old.1.refs }
     ensures extends { Extends repo.old.1.records repo.new.1.records }
     ensures home { IfOk result (λ _. StayAtHome N.name_of repo.old repo.new files.old files.new) }
     ensures steps { Modifies N.name_of repo.old repo.new tables.now files.old files.new modify result }
     ensures told { TellsPath (Some modify.path) result told.old told.new }
+    ensures asked { AskedByModify N.name_of repo.old tables.now modify result told.new.asked }
 {
     let done = set_file(
         repo,
@@ -163,6 +173,7 @@ fn modify_files<N: Namer, A: Allocator + Copy>(
         modify.mode,
         modify.data_ref,
         &modify.path,
+        &mut told.asked,
     );
     if done.is_err() {
         told.path = Some(modify.path);
@@ -170,7 +181,7 @@ fn modify_files<N: Namer, A: Allocator + Copy>(
     done
 }
 
-/// Sets the file at a path. What it gets is resolved first.
+/// Sets the file at a path. What it gets is resolved first, and a refusal tells what that asks for.
 fn set_file<N: Namer, A: Allocator + Copy>(
     repo: &mut Repo<N, A>,
     tables: &Tables<A>,
@@ -178,19 +189,50 @@ fn set_file<N: Namer, A: Allocator + Copy>(
     mode: Mode,
     data_ref: DataRef<A>,
     path: &TreePath<A>,
+    asked: &mut Option<Asked<A>>,
 ) -> Result<(), ImportKind>
     requires suits { IsTrue (is_suited mode data_ref) }
+    requires unasked { asked.now ≡ None }
     ensures namer { repo.new.0 ≡ repo.old.0 }
     ensures refs { repo.new.1.refs ≡ repo.old.1.refs }
     ensures extends { Extends repo.old.1.records repo.new.1.records }
     ensures home { IfOk result (λ _. StayAtHome N.name_of repo.old repo.new files.old files.new) }
     ensures steps { MakesChange N.name_of repo.old repo.new tables.now files.old files.new (model.Modify mode (shown_data data_ref) path.now) result }
+    ensures unasked { OnOk result (asked.new ≡ None) }
+    ensures asked { AskedByData N.name_of repo.old tables.now mode data_ref result asked.new }
 {
     records_keep_home();
-    let name = content(repo, tables, mode, data_ref)?;
+    let name = told_content(repo, tables, mode, data_ref, asked)?;
     files.modify(path, mode, name)?;
     files.name_map();
     Ok(())
+}
+
+/// The name of what a file gets. A refusal tells what the data reference asks for.
+fn told_content<N: Namer, A: Allocator + Copy>(
+    repo: &mut Repo<N, A>,
+    tables: &Tables<A>,
+    mode: Mode,
+    data_ref: DataRef<A>,
+    asked: &mut Option<Asked<A>>,
+) -> Result<Name, ImportKind>
+    requires suits { IsTrue (is_suited mode data_ref) }
+    requires unasked { asked.now ≡ None }
+    ensures namer { repo.new.0 ≡ repo.old.0 }
+    ensures refs { repo.new.1.refs ≡ repo.old.1.refs }
+    ensures extends { Extends repo.old.1.records repo.new.1.records }
+    ensures steps { AddsContent N.name_of repo.old repo.new tables.now mode data_ref result }
+    ensures unasked { OnOk result (asked.new ≡ None) }
+    ensures asked { AskedByData N.name_of repo.old tables.now mode data_ref result asked.new }
+{
+    let refers = Asked::of_data(&data_ref);
+    match content(repo, tables, mode, data_ref) {
+        Ok(name) => Ok(name),
+        Err(kind) => {
+            *asked = refers;
+            Err(kind)
+        }
+    }
 }
 
 /// The name of what a file gets. Bytes that came in the stream are put as a blob, by no copy, and nothing is looked up

@@ -11,6 +11,7 @@ ghost use Rattle.gx_tree.specs.Named.{IsAtHome};
 ghost use Rattle.gx_import.specs.Objects.{AreHeldCommits, commit_object};
 ghost use Rattle.gx_import.specs.Rows.{IsSorted};
 ghost use Rattle.gx_import.specs.Telling.{TellsCommit, TellsEditsFrom};
+ghost use Rattle.gx_import.specs.TellingAsked.{AskedByCommit, AskedByEditsFrom, AskedByMerges};
 ghost use Rattle.gx_import.specs.Standing.{Extends, HasTipsAtHome, StandsForSome};
 ghost use Rattle.gx_import.specs.Calls.{AddsWithTrees, AddsCommitAlone, AreParentsOf, EditsFrom, IsOwnCommit, IsSomeCommit, KeepsTipsAtHomeWith, MakesCommit, NamesFirstParent, NamesParents, SetsCommit};
 
@@ -20,7 +21,7 @@ use crate::commit_ish::{committed_for, committed_with};
 use crate::files::starting_files;
 use crate::object::Object;
 use crate::tables::Tables;
-use crate::{Explanation, ImportKind};
+use crate::{Asked, Explanation, ImportKind};
 use gx_command::{Change, Commit, Identity, RefName};
 use gx_model::repository_laws::{puts_add_values, trees_add_file_maps};
 use gx_object::{CommitParts, Kind, Name, Namer};
@@ -32,14 +33,15 @@ use std::alloc::{AllocError, Allocator};
 use std::mem;
 
 /// Makes a commit: its parents, its changes in their order, its trees, itself, its mark, its branch. A refusal tells the
-/// change that is refused.
+/// change that is refused, and what a parent or a change asks for.
 pub(crate) fn apply_commit<N: Namer, A: Allocator + Copy>(
     repo: &mut Repo<N, A>,
     tables: &mut Tables<A>,
-    commit: Commit<A>,
+    mut commit: Commit<A>,
     told: &mut Explanation<A>,
 ) -> Result<(), ImportKind>
     requires blank { told.now.change ≡ None }
+    requires unasked { told.now.asked ≡ None }
     requires stands { StandsForSome N.name_of repo.now tables.now }
     requires homes { HasTipsAtHome N.name_of repo.now tables.now }
     ensures homes { IfOk result (λ _. HasTipsAtHome N.name_of (repo.old.0, repo.new.1) tables.new) }
@@ -48,10 +50,17 @@ pub(crate) fn apply_commit<N: Namer, A: Allocator + Copy>(
     ensures extends { Extends repo.old.1.records repo.new.1.records }
     ensures steps { MakesCommit N.name_of repo.old repo.new tables.old tables.new commit result }
     ensures told { TellsCommit N.name_of repo.old tables.old commit result told.new }
+    ensures asked { AskedByCommit N.name_of repo.old tables.old commit result told.new }
     ensures loss { told.new.loss ≡ told.old.loss }
 {
-    let first = first_parent(repo, tables, &commit)?;
-    let parents = parents(repo, tables, &commit, first)?;
+    let first = match first_parent(repo, tables, &commit) {
+        Ok(first) => first,
+        Err(kind) => {
+            told.asked = Asked::of_line(commit.from);
+            return Err(kind);
+        }
+    };
+    let parents = parents(repo, tables, &mut commit, first, &mut told.asked)?;
     make_commit(repo, tables, commit, first, parents.as_slice(), told)
 }
 
@@ -65,6 +74,7 @@ fn make_commit<N: Namer, A: Allocator + Copy>(
     told: &mut Explanation<A>,
 ) -> Result<(), ImportKind>
     requires blank { told.now.change ≡ None }
+    requires unasked { told.now.asked ≡ None }
     requires stands { StandsForSome N.name_of repo.now tables.now }
     requires parents { AreParentsOf N.name_of repo.now tables.now commit first parents.now }
     requires homes { HasTipsAtHome N.name_of repo.now tables.now }
@@ -74,6 +84,7 @@ fn make_commit<N: Namer, A: Allocator + Copy>(
     ensures extends { Extends repo.old.1.records repo.new.1.records }
     ensures steps { MakesCommit N.name_of repo.old repo.new tables.old tables.new commit result }
     ensures told { TellsCommit N.name_of repo.old tables.old commit result told.new }
+    ensures asked { AskedByCommit N.name_of repo.old tables.old commit result told.new }
     ensures loss { told.new.loss ≡ told.old.loss }
 {
     records_keep_home();
@@ -96,6 +107,7 @@ fn changed_files<N: Namer, A: Allocator + Copy>(
     told: &mut Explanation<A>,
 ) -> Result<PathTree<A>, ImportKind>
     requires blank { told.now.change ≡ None }
+    requires unasked { told.now.asked ≡ None }
     requires stands { IsSomeCommit N.name_of repo.now tables.now first }
     requires homes { HasTipsAtHome N.name_of repo.now tables.now }
     ensures homes { IfOk result (λ _. HasTipsAtHome N.name_of (repo.old.0, repo.new.1) tables.new) }
@@ -105,6 +117,7 @@ fn changed_files<N: Namer, A: Allocator + Copy>(
     ensures extends { Extends repo.old.1.records repo.new.1.records }
     ensures steps { EditsFrom N.name_of repo.old repo.new tables.old tables.new first changes result }
     ensures told { TellsEditsFrom N.name_of repo.old tables.old first changes result told.new }
+    ensures asked { AskedByEditsFrom N.name_of repo.old tables.old first changes result told.new }
     ensures loss { told.new.loss ≡ told.old.loss }
 {
     repo.sound();
@@ -171,23 +184,36 @@ fn own_commit<N: Namer, A: Allocator + Copy>(
     }
 }
 
-/// The first parent, where there is one, and those that are merged.
+/// The first parent, where there is one, and those that are merged. One that is refused is taken out of the commit and told.
 fn parents<N: Namer, A: Allocator + Copy>(
     repo: &Repo<N, A>,
     tables: &Tables<A>,
-    commit: &Commit<A>,
+    commit: &mut Commit<A>,
     first: Option<Name>,
+    asked: &mut Option<Asked<A>>,
 ) -> Result<Vec<Name, A>, ImportKind>
     requires sorted { IsSorted tables.now.branches }
-    ensures { NamesParents N.name_of repo.now tables.now commit.now first result }
+    requires unasked { asked.now ≡ None }
+    ensures names { NamesParents N.name_of repo.now tables.now commit.old first result }
+    ensures kept { OnOk result (commit.new ≡ commit.old) }
+    ensures unasked { OnOk result (asked.new ≡ None) }
+    ensures asked { AskedByMerges N.name_of repo.now tables.now commit.old result asked.new }
 {
-    let branch = commit.branch.bytes.as_slice();
     let mut parents = first_alone(tables.alloc, first)?;
     // the ancestors of one commit, `merge p~1`, `merge p~2` and so on, are one walk
     let mut first_parents = FirstParents::new(tables.alloc);
-    for merged in &commit.merges {
-        let name = committed_with(repo, tables, &mut first_parents, branch, merged)?;
-        parents.push(name)?;
+    for place in 0..commit.merges.len() {
+        let branch = &commit.branch;
+        let branch = branch.bytes.as_slice();
+        let merged = &commit.merges[place];
+        match committed_with(repo, tables, &mut first_parents, branch, merged) {
+            Ok(name) => parents.push(name)?,
+            Err(kind) => {
+                let merged = commit.merges.swap_remove(place);
+                *asked = Some(Asked::of_commit_ish(merged));
+                return Err(kind);
+            }
+        }
     }
     Ok(parents)
 }

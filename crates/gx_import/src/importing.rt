@@ -94,12 +94,13 @@ pub fn import_asking<N: Namer, A: Allocator + Copy, R: Source + Drop, W: Sink>(
 }
 
 /// Imports a stream as `import_asking` does, and tells what a refusal is about: which change of the commit is refused, by its
-/// number and its path; or of `NotFastForward` which ref would lose a commit, with its commit and the new one. The changes
-/// before it are made without a fault. An import that is accepted tells nothing, and neither does a refusal of another
-/// cause. What was told before is forgotten.
+/// number and its path; which mark, text or object name a `from`, a `merge` or an `M` asks for in vain; or of `NotFastForward`
+/// which ref would lose a commit, with its commit and the new one. The changes before it are made without a fault, and the
+/// parents before it are found. An import that is accepted tells nothing, and neither does a refusal of another cause. What was
+/// told before is forgotten.
 ///
-/// Errors and cost: those of `import`. No path is copied, and the name of one ref is.
-/// Source: git-fast-import(1), "filemodify" to "filedeleteall", and "force".
+/// Errors and cost: those of `import`. No path and no text that is asked for is copied, and the name of one ref is.
+/// Source: git-fast-import(1), "from", "merge", "filemodify" to "filedeleteall", and "force".
 pub fn import_explained<N: Namer, A: Allocator + Copy, R: Source + Drop, W: Sink>(
     alloc: A,
     repo: &mut Repo<N, A>,

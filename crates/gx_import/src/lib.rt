@@ -25,7 +25,7 @@ mod table;
 mod tables;
 mod tag;
 
-pub use explanation::{Explanation, RefLoss};
+pub use explanation::{Asked, Explanation, RefLoss};
 pub use fault::{ImportFault, ImportKind};
 pub use importing::{import, import_asking, import_explained};
 pub use report::Report;

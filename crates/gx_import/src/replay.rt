@@ -152,8 +152,8 @@ fn apply<N: Namer, A: Allocator + Copy, W: Sink>(
     match command {
         Command::Blob(blob) => apply_blob(repo, tables, blob),
         Command::Commit(commit) => apply_commit(repo, tables, commit, told),
-        Command::Tag(tag) => apply_tag(repo, tables, &tag),
-        Command::Reset(reset) => apply_reset(repo, tables, reset),
+        Command::Tag(tag) => apply_tag(repo, tables, tag, &mut told.asked),
+        Command::Reset(reset) => apply_reset(repo, tables, reset, &mut told.asked),
         Command::Progress(text) => apply_progress(sink, text.as_slice()),
         Command::Feature(feature) => {
             apply_feature(tables, feature);

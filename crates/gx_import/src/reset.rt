@@ -1,28 +1,40 @@
 //! Reset commands. Source: git-fast-import(1), "reset".
 
+ghost use Rattle.std.specs.Prelude.{◌≡◌, None};
+ghost use Rattle.gx_command.specs.Views.{shown_reset};
 ghost use Rattle.gx_import.specs.Rows.{IsSorted};
 ghost use Rattle.gx_import.specs.Calls.{KeepsTipsAtHome, NamesTarget, Resets};
+ghost use Rattle.gx_import.specs.TellingAsked.{AskedBy};
 
-use crate::ImportKind;
 use crate::branches::Tip;
 use crate::commit_ish::committed_for;
 use crate::tables::Tables;
+use crate::{Asked, ImportKind};
 use gx_command::Reset;
 use gx_object::{Name, Namer};
 use gx_repo::Repo;
 use std::alloc::Allocator;
 
-/// Sets a branch to a commit, or to none.
+/// Sets a branch to a commit, or to none. A refusal tells what its `from` asks for.
 pub(crate) fn apply_reset<N: Namer, A: Allocator + Copy>(
     repo: &Repo<N, A>,
     tables: &mut Tables<A>,
     reset: Reset<A>,
+    asked: &mut Option<Asked<A>>,
 ) -> Result<(), ImportKind>
     requires sorted { IsSorted tables.now.branches }
+    requires unasked { asked.now ≡ None }
     ensures homes { KeepsTipsAtHome tables.old tables.new result }
     ensures steps { Resets N.name_of repo.now tables.old tables.new reset result }
+    ensures asked { AskedBy N.name_of repo.now tables.old (shown_reset reset) result asked.new }
 {
-    let commit = target(repo, tables, &reset)?;
+    let commit = match target(repo, tables, &reset) {
+        Ok(commit) => commit,
+        Err(kind) => {
+            *asked = Asked::of_line(reset.from);
+            return Err(kind);
+        }
+    };
     let tip = Tip {
         commit,
         files: None,

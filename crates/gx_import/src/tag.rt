@@ -1,6 +1,6 @@
 //! Tag commands. Source: git-fast-import(1), "tag".
 
-ghost use Rattle.std.specs.Prelude.{◌≡◌, IfOk};
+ghost use Rattle.std.specs.Prelude.{◌≡◌, IfOk, None};
 ghost use Rattle.gx_model.specs.declared.objects.Kind.TheVariants as kinds;
 ghost use Rattle.gx_model.specs.Texts.RefNames.{tag_ref};
 ghost use Rattle.gx_model.specs.Records.Sound.{Holds};
@@ -8,26 +8,68 @@ ghost use Rattle.gx_object.specs.Parts.{tag_parts as shown_parts};
 ghost use Rattle.gx_command.specs.Views.{shown_tag};
 ghost use Rattle.gx_import.specs.Objects.{tag_object};
 ghost use Rattle.gx_import.specs.Standing.{Extends, StandsForSome};
-ghost use Rattle.gx_import.specs.Calls.{AddsTagOf, Makes};
+ghost use Rattle.gx_import.specs.Calls.{AddsTagOf, IsTagged, Makes, NamesTagged};
+ghost use Rattle.gx_import.specs.Rows.{IsSorted};
+ghost use Rattle.gx_import.specs.TellingAsked.{AskedBy};
 
-use crate::ImportKind;
 use crate::commit::ident;
 use crate::commit_ish::object_named;
 use crate::object::{Object, name_of_kind};
 use crate::tables::Tables;
-use gx_command::Tag;
+use crate::{Asked, ImportKind};
+use gx_command::{CommitIsh, Tag};
 use gx_model::repository_laws::puts_add_values;
 use gx_object::{Kind, Name, Namer, TagParts};
 use gx_repo::Repo;
 use std::alloc::{AllocError, Allocator};
 
-/// Makes a tag object and its mark. A later tag of one name replaces an earlier one.
+/// Makes a tag object and its mark. A later tag of one name replaces an earlier one. A refusal tells what its `from` asks for.
 pub(crate) fn apply_tag<N: Namer, A: Allocator + Copy>(
     repo: &mut Repo<N, A>,
     tables: &mut Tables<A>,
-    tag: &Tag<A>,
+    tag: Tag<A>,
+    asked: &mut Option<Asked<A>>,
 ) -> Result<(), ImportKind>
     requires stands { StandsForSome N.name_of repo.now tables.now }
+    requires unasked { asked.now ≡ None }
+    ensures branches { tables.new.branches ≡ tables.old.branches }
+    ensures loaded { tables.new.loaded ≡ tables.old.loaded }
+    ensures namer { repo.new.0 ≡ repo.old.0 }
+    ensures refs { repo.new.1.refs ≡ repo.old.1.refs }
+    ensures extends { Extends repo.old.1.records repo.new.1.records }
+    ensures steps { Makes N.name_of repo.old repo.new tables.old tables.new (shown_tag tag) result }
+    ensures asked { AskedBy N.name_of repo.old tables.old (shown_tag tag) result asked.new }
+{
+    match target(repo, tables, &tag.from) {
+        Ok(target) => make_tag(repo, tables, &tag, target),
+        Err(kind) => {
+            *asked = Some(Asked::of_commit_ish(tag.from));
+            Err(kind)
+        }
+    }
+}
+
+/// The commit of its `from`, which is a commit itself.
+fn target<N: Namer, A: Allocator + Copy>(
+    repo: &Repo<N, A>,
+    tables: &Tables<A>,
+    from: &CommitIsh<A>,
+) -> Result<Name, ImportKind>
+    requires sorted { IsSorted tables.now.branches }
+    ensures { NamesTagged N.name_of repo.now tables.now from.now result }
+{
+    name_of_kind(object_named(repo, tables, from)?, Kind::Commit)
+}
+
+/// Makes the tag object of this commit, and its mark.
+fn make_tag<N: Namer, A: Allocator + Copy>(
+    repo: &mut Repo<N, A>,
+    tables: &mut Tables<A>,
+    tag: &Tag<A>,
+    target: Name,
+) -> Result<(), ImportKind>
+    requires stands { StandsForSome N.name_of repo.now tables.now }
+    requires target { IsTagged N.name_of repo.now tables.now tag.now.from target }
     ensures branches { tables.new.branches ≡ tables.old.branches }
     ensures loaded { tables.new.loaded ≡ tables.old.loaded }
     ensures namer { repo.new.0 ≡ repo.old.0 }
@@ -36,8 +78,6 @@ pub(crate) fn apply_tag<N: Namer, A: Allocator + Copy>(
     ensures steps { Makes N.name_of repo.old repo.new tables.old tables.new (shown_tag tag.now) result }
 {
     repo.sound();
-    let object = object_named(repo, tables, &tag.from)?;
-    let target = name_of_kind(object, Kind::Commit)?;
     let name = add(repo, target, tag)?;
     let kind = Kind::Tag;
     tables.marks.set(tag.mark, Object { kind, name })?;

@@ -9,9 +9,10 @@ use Rattle.gx_command.specs.Views.{shown_change}
 use Rattle.gx_import.specs.Standing.{Follows, Stands}
 use Rattle.gx_model.specs.Objects.NameMaps.{AreFiles}
 use Rattle.gx_import.specs.Answers.{AddsAs}
+use Rattle.gx_import.specs.Asking.{AsksByOne, TellsVain}
 use Rattle.gx_import.specs.Additions.{Clash, blob_added}
 use Rattle.gx_import.proofs.Extensions.{extends_more, extends_none}
-use Rattle.gx_import.proofs.ChangesSoFar.{AreMade, all_made, next_made, next_refused, next_told, none_made}
+use Rattle.gx_import.proofs.ChangesSoFar.{AreMade, all_made, next_made, next_refused, next_told, next_vain, none_made}
 use Rattle.gx_import.proofs.changes.change_all.Goals as goal
 
 pub loop-change-init : goal.loop-change-init
@@ -31,6 +32,7 @@ loop-change-init g c =
       omega (arith, all.1, c.len-count.ensures),
       omega (arith, c.len-count.ensures),
       refl,
+      c.requires.unasked,
     )
 
 pub loop-change-preserved : goal.loop-change-preserved
@@ -50,6 +52,7 @@ loop-change-preserved g c =
       omega (arith, c.in-Some.ensures.steps.1, l.invariant.7),
       omega (arith, l.invariant.8),
       ap (λ told. told.loss) c.in_default.ensures.told ∙ l.invariant.9,
+      ap (λ told. told.asked) c.in_default.ensures.told ∙ l.invariant.10,
     )
 
 pub returns-in-Err-clause-steps : goal.returns-in-Err-clause-steps
@@ -93,6 +96,20 @@ returns-in-Err-clause-extends g c =
 
 pub returns-clause-told : goal.returns-clause-told
 returns-clause-told g c = λ s f h are. c.loop-change.invariant.6
+
+pub change_files-requires : goal.change_files-requires
+change_files-requires g c = record { unasked = c.loop-change.invariant.10 }
+
+pub returns-in-Err-clause-asked : goal.returns-in-Err-clause-asked
+returns-in-Err-clause-asked g c = λ s f h are.
+    let name = g.N.Namer.name_of c.args.repo.now.0 in
+    let l = c.loop-change in
+    let change = shown_change c.in-Some.change in
+    let step = subst (λ n. (t : State) → Stands (g.N.Namer.name_of n) l.repo.1 c.args.tables.now t → TellsVain (AsksByOne (g.N.Namer.name_of n) t change c.in-Err.kind) c.in-Err.kind c.change_files.new.told.asked) l.invariant.0 c.in-Err.ensures.asked in
+    next_vain name c.args.repo.now.1 l.repo.1 c.args.tables.now s f c.args.changes.items (into_iter_items l.change-iterator) (into_iter_items c.next.new.self) shown_change c.in-Some.change l.files.files c.in-Some.ensures.steps.0 (l.invariant.3 s f h are) c.in-Err.kind c.change_files.new.told.asked step
+
+pub returns-clause-asked : goal.returns-clause-asked
+returns-clause-asked g c = λ s f h are. c.loop-change.invariant.10
 
 pub returns-in-Err-clause-loss : goal.returns-in-Err-clause-loss
 returns-in-Err-clause-loss g c = c.in-Err.ensures.told.2 ∙ c.loop-change.invariant.9

@@ -23,3 +23,4 @@ invariant-loop-change g l =
     × (l.left ≡ into_iter_len l.change-iterator)
     × (l.left ≤ length l.fn.changes.items)
     × (l.told.loss ≡ l.initial.told.loss)
+    × (l.told.asked ≡ None)

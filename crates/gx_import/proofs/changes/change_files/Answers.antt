@@ -13,7 +13,9 @@ use Rattle.gx_model.specs.Objects.NameMaps.{AreFiles, IsNameMap}
 use Rattle.gx_import.specs.Additions.{Clash, blob_added}
 use Rattle.gx_import.specs.Answers.{AddsAs}
 use Rattle.gx_tree.specs.Faults.{fault_of as of_tree}
+use Rattle.gx_import.specs.Asking.{AsksByOne}
 use Rattle.gx_import.specs.Standing.{Follows}
+use Rattle.gx_import.proofs.AskedReferences.{none_vain, tree_free}
 use Rattle.gx_import.proofs.EditedFiles.{cleared_kept, copied_free, copied_names, edit_done, edit_refused, removed_kept, removed_names, renamed_free, renamed_names}
 use Rattle.gx_import.proofs.KeptFiles.{IsKnownLeaf, copied_leaves, renamed_leaves}
 use Rattle.gx_import.proofs.changes.change_files.Goals as goal
@@ -85,3 +87,34 @@ pub returns-in_err-modify_files-in-Modify-clause-steps : goal.returns-in_err-mod
 returns-in_err-modify_files-in-Modify-clause-steps g c = λ s f h are.
     let p = err_from_is_err_and c.from_residual.result c.from_residual.ensures.1 in
     rw (c.in-Modify.is, p.1, p.2) (c.in_err-modify_files-in-Modify.ensures.steps s f h are)
+
+-- ---- what is asked for
+
+pub returns-in_err-modify_files-in-Modify-clause-asked : goal.returns-in_err-modify_files-in-Modify-clause-asked
+returns-in_err-modify_files-in-Modify-clause-asked g c = λ s h.
+    let p = err_from_is_err_and c.from_residual.result c.from_residual.ensures.1 in
+    rw (c.in-Modify.is, p.1, p.2) (c.in_err-modify_files-in-Modify.ensures.asked s h)
+
+pub returns-in_err-remove_files-in-Remove-clause-asked : goal.returns-in_err-remove_files-in-Remove-clause-asked
+returns-in_err-remove_files-in-Remove-clause-asked g c = λ s h.
+    let name = g.N.Namer.name_of c.args.repo.now.0 in
+    let v = c.from_residual-in_err-remove_files-in-Remove in
+    let p = err_from_is_err_and v.result v.ensures.1 in
+    let e = c.in_err-remove_files-in-Remove.field-0.0 in
+    rw (p.1, p.2) (none_vain (AsksByOne name s (shown_change c.args.change) (of_tree e)) (of_tree e) c.remove_files.new.told.asked (c.remove_files.ensures.asked ∙ c.requires.unasked) (tree_free e))
+
+pub returns-in_err-copy_files-in-Copy-clause-asked : goal.returns-in_err-copy_files-in-Copy-clause-asked
+returns-in_err-copy_files-in-Copy-clause-asked g c = λ s h.
+    let name = g.N.Namer.name_of c.args.repo.now.0 in
+    let v = c.from_residual-in_err-copy_files-in-Copy in
+    let p = err_from_is_err_and v.result v.ensures.1 in
+    let e = c.in_err-copy_files-in-Copy.field-0.0 in
+    rw (p.1, p.2) (none_vain (AsksByOne name s (shown_change c.args.change) (of_tree e)) (of_tree e) c.copy_files.new.told.asked (c.copy_files.ensures.asked ∙ c.requires.unasked) (tree_free e))
+
+pub returns-in_err-rename_files-in-Rename-clause-asked : goal.returns-in_err-rename_files-in-Rename-clause-asked
+returns-in_err-rename_files-in-Rename-clause-asked g c = λ s h.
+    let name = g.N.Namer.name_of c.args.repo.now.0 in
+    let v = c.from_residual-in_err-rename_files-in-Rename in
+    let p = err_from_is_err_and v.result v.ensures.1 in
+    let e = c.in_err-rename_files-in-Rename.field-0.0 in
+    rw (p.1, p.2) (none_vain (AsksByOne name s (shown_change c.args.change) (of_tree e)) (of_tree e) c.rename_files.new.told.asked (c.rename_files.ensures.asked ∙ c.requires.unasked) (tree_free e))

@@ -5,7 +5,10 @@ use Rattle.gx_tree.specs.Named.{NamedTree, IsAtHome}
 use Rattle.gx_import.specs.Calls.{EditsFrom}
 use Rattle.gx_import.specs.Standing.{Follows}
 use Rattle.gx_model.specs.Objects.NameMaps.{AreFiles}
-use Rattle.gx_import.proofs.CommitRuns.{AddGives, add_fails, add_told, changes_fail, commit_done, named_after, on_ok, parents_held, set_or_full}
+use Rattle.gx_import.specs.Asking.{AsksByCommit}
+use Rattle.gx_import.specs.TellingAsked.{AskedByEditsFrom}
+use Rattle.gx_import.proofs.AskedReferences.{change_vain, late_vain}
+use Rattle.gx_import.proofs.CommitRuns.{AddGives, add_fails, add_told, add_vain, changes_fail, commit_done, named_after, on_ok, parents_held, set_or_full}
 use Rattle.gx_import.proofs.Extended.{extended_more}
 use Rattle.gx_import.specs.Telling.{TellsEditsFrom}
 use Rattle.gx_import.proofs.ToldCommits.{change_told, late_told}
@@ -117,3 +120,32 @@ returns-clause-told g c = λ s h.
     let name = g.N.Namer.name_of c.args.repo.now.0 in
     let p = c.requires.parents s h in
     late_told name s (shown_commit c.args.commit) c.changed_files.new.told (c.in_ok-files.ensures.told s p.0 h p.4) c.set_mark_and_branch.result c.set_mark_and_branch.ensures.fault
+
+-- ---- what is asked for
+
+pub returns-in_err-files-clause-asked : goal.returns-in_err-files-clause-asked
+returns-in_err-files-clause-asked g c = λ s h.
+    let name = g.N.Namer.name_of c.args.repo.now.0 in
+    let f = err_from_is_err_and c.from_residual.result c.from_residual.ensures.1 in
+    let p = c.requires.parents s h in
+    let e = c.in_err-files.field-0.0 in
+    let told = c.changed_files.new.told in
+    let asked = subst (λ cs. AskedByEditsFrom g.N.Namer.name_of {X = NamedTree} c.args.repo.now c.args.tables.now c.args.first cs (Err e) told) c.replace-changes.ensures.value c.in_err-files.ensures.asked in
+    rw (f.1, f.2) (change_vain name s (commit_parts c.args.commit) p.0 p.1 p.2 p.3 e told.asked (asked s p.0 h p.4))
+
+pub returns-in_err-name-clause-asked : goal.returns-in_err-name-clause-asked
+returns-in_err-name-clause-asked g c = λ s h.
+    let name = g.N.Namer.name_of c.args.repo.now.0 in
+    let f = err_from_is_err_and c.from_residual-in_err-name.result c.from_residual-in_err-name.ensures.1 in
+    let p = c.requires.parents s h in
+    let steps = rw c.replace-changes.ensures.value at c.in_ok-files.ensures.steps in
+    let e = c.in_err-name.field-0.0 in
+    let blank = c.in_ok-files.ensures.asked s p.0 h p.4 in
+    let adds = subst (λ n. AddGives (g.N.Namer.name_of n) g.row.A.Denot c.changed_files.new.repo.1 c.add.new.repo.1 c.in_ok-files.files.files c.args.parents.now (commit_parts c.args.commit) (Err e)) c.changed_files.ensures.namer c.in_err-name.ensures.steps in
+    rw (f.1, f.2) (add_vain name c.args.repo.now.1 c.changed_files.new.repo.1 c.add.new.repo.1 c.args.tables.now c.changed_files.new.tables c.in_ok-files.files.files s h (commit_parts c.args.commit) c.args.first c.args.parents.now p (steps s p.0 h p.4) (AsksByCommit name s (commit_parts c.args.commit) e) e adds c.changed_files.new.told.asked blank)
+
+pub returns-clause-asked : goal.returns-clause-asked
+returns-clause-asked g c = λ s h.
+    let name = g.N.Namer.name_of c.args.repo.now.0 in
+    let p = c.requires.parents s h in
+    late_vain (AsksByCommit name s (commit_parts c.args.commit)) c.changed_files.new.told.asked (c.in_ok-files.ensures.asked s p.0 h p.4) c.set_mark_and_branch.result c.set_mark_and_branch.ensures.fault

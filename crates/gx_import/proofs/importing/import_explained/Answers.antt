@@ -14,7 +14,7 @@ use Rattle.gx_import.proofs.importing.import_explained.Goals as goal
 
 pub replay_and_publish-requires : goal.replay_and_publish-requires
 replay_and_publish-requires g c =
-    record { blank = record { change = c.none.ensures.change; loss = c.none.ensures.loss }; none = record { records = c.new-checkpoints.ensures.records ∙ c.len.ensures.count ∙ ap (λ z. length z.1) c.store.ensures.held; count = c.new-checkpoints.ensures.count; refs = c.new-checkpoints.ensures.refs; all = λ all. c.has_no_refs.ensures (sym c.new-checkpoints.ensures.has_all ∙ all) } }
+    record { blank = record { change = c.none.ensures.change; asked = c.none.ensures.asked; loss = c.none.ensures.loss }; none = record { records = c.new-checkpoints.ensures.records ∙ c.len.ensures.count ∙ ap (λ z. length z.1) c.store.ensures.held; count = c.new-checkpoints.ensures.count; refs = c.new-checkpoints.ensures.refs; all = λ all. c.has_no_refs.ensures (sym c.new-checkpoints.ensures.has_all ∙ all) } }
 
 pub truncate-requires : goal.truncate-requires
 truncate-requires g c = record { targets = c.in-Err.ensures.left.targets }

@@ -84,13 +84,13 @@ pub returns-in-Err-clause-explained : goal.returns-in-Err-clause-explained
 returns-in-Err-clause-explained g c =
     let k = c.in_ok-commands.ensures.replayed in
     let stands = subst (λ n. Stands (g.N.Namer.name_of n) c.replay.new.repo.1 c.replay.new.tables k.0) {y = c.replay.new.repo.0} (sym {a = c.replay.new.repo.0} c.replay.ensures.namer) k.1 in
-    let told : Explanation g.row.A.Denot = record { change = c.replay.new.told.change; path = c.replay.new.told.path; loss = c.publish.new.loss } in
+    let told : Explanation g.row.A.Denot = record { change = c.replay.new.told.change; path = c.replay.new.told.path; asked = c.replay.new.told.asked; loss = c.publish.new.loss } in
     let loss = subst (λ n. TellsLoss (g.N.Namer.name_of n) k.0 c.in-Err.kind c.publish.new.loss) {y = c.args.repo.now.0} c.replay.ensures.namer (c.in-Err.ensures.loss k.0 stands) in
-    told_last c.args.features (g.N.Namer.name_of c.args.repo.now.0) c.args.repo.now.1 (g.R.Source.coming c.args.source) c.in_ok-commands.commands k.0 (g.W.Sink.taken c.args.sink.now) (g.W.Sink.taken c.replay.new.sink) k.3 c.in-Err.kind told (c.in_ok-commands.ensures.explained.change, loss)
+    told_last c.args.features (g.N.Namer.name_of c.args.repo.now.0) c.args.repo.now.1 (g.R.Source.coming c.args.source) c.in_ok-commands.commands k.0 (g.W.Sink.taken c.args.sink.now) (g.W.Sink.taken c.replay.new.sink) k.3 c.in-Err.kind told (c.in_ok-commands.ensures.explained.change, loss, c.in_ok-commands.ensures.explained.asked)
     c.replay.new.checkpoints.count
 
 pub returns-clause-explained : goal.returns-clause-explained
 returns-clause-explained g c =
     let k = c.in_ok-commands.ensures.replayed in
     let stands = subst (λ n. Stands (g.N.Namer.name_of n) c.replay.new.repo.1 c.replay.new.tables k.0) {y = c.replay.new.repo.0} (sym {a = c.replay.new.repo.0} c.replay.ensures.namer) k.1 in
-    record { change = c.in_ok-commands.ensures.explained.change; loss = c.in_default.ensures.loss k.0 stands }
+    record { change = c.in_ok-commands.ensures.explained.change; asked = c.in_ok-commands.ensures.explained.asked; loss = c.in_default.ensures.loss k.0 stands }

@@ -6,7 +6,9 @@ use Rattle.gx_command.specs.Views.{shown_blob, shown_command, shown_commit, show
 use Rattle.gx_import.specs.Additions.{values_added}
 use Rattle.gx_import.proofs.AppliedCommands.{added_as, clash_here, given_as, progress_as, unchanged}
 use Rattle.std.proofs.Common.{refl}
-use Rattle.gx_model.specs.Streams.Commands.{Asks, Checkpoint, Progress}
+use Rattle.gx_model.specs.Streams.Commands.{Asks, Progress}
+use Rattle.gx_import.specs.Asking.{AsksInVain}
+use Rattle.gx_import.proofs.AskedCommands.{made_vain, published_free, written_vain}
 use Rattle.gx_import.proofs.Losses.{all_told, checkpoint_told}
 use Rattle.gx_import.proofs.ToldCommits.{nothing_told}
 use Rattle.gx_import.specs.declared.explanation.Explanation.{Explanation}
@@ -206,7 +208,13 @@ returns-in-Feature-clause-homes g c =
 -- ---- what is told
 
 pub apply_commit-requires : goal.apply_commit-requires
-apply_commit-requires g c = record { blank = c.requires.blank.change; stands = c.requires.stands; homes = c.requires.homes }
+apply_commit-requires g c = record { blank = c.requires.blank.change; unasked = c.requires.blank.asked; stands = c.requires.stands; homes = c.requires.homes }
+
+pub apply_tag-requires : goal.apply_tag-requires
+apply_tag-requires g c = record { stands = c.requires.stands; unasked = c.requires.blank.asked }
+
+pub apply_reset-requires : goal.apply_reset-requires
+apply_reset-requires g c = record { sorted = c.requires.stands.1.branches_sorted; unasked = c.requires.blank.asked }
 
 pub apply_checkpoint-requires : goal.apply_checkpoint-requires
 apply_checkpoint-requires g c = record { stands = c.requires.stands; room = c.requires.room; sorted = c.requires.sorted; has_all = c.requires.has_all; blank = c.requires.blank.loss }
@@ -214,31 +222,37 @@ apply_checkpoint-requires g c = record { stands = c.requires.stands; room = c.re
 pub returns-in-Commit-clause-told : goal.returns-in-Commit-clause-told
 returns-in-Commit-clause-told g c = λ s h.
     let name = g.N.Namer.name_of c.args.repo.now.0 in
-    rw c.in-Commit.is (all_told name s (shown_commit c.in-Commit.commit) (λ is. absurd (cc is)) c.apply_commit.new.told c.apply_commit.result (c.apply_commit.ensures.told s h) (c.apply_commit.ensures.loss ∙ c.requires.blank.loss))
+    rw c.in-Commit.is (all_told name s (shown_commit c.in-Commit.commit) (λ is. absurd (cc is)) c.apply_commit.new.told c.apply_commit.result (c.apply_commit.ensures.told s h) (c.apply_commit.ensures.loss ∙ c.requires.blank.loss) (c.apply_commit.ensures.asked s h))
 
 pub returns-in-Blob-clause-told : goal.returns-in-Blob-clause-told
 returns-in-Blob-clause-told g c = λ s h.
     let name = g.N.Namer.name_of c.args.repo.now.0 in
-    let none = nothing_told name s (shown_blob c.in-Blob.blob) (λ e number path none. none) c.args.told.now c.requires.blank.change c.apply_blob.result in
-    rw c.in-Blob.is (all_told name s (shown_blob c.in-Blob.blob) (λ is. absurd (cc is)) c.args.told.now c.apply_blob.result none c.requires.blank.loss)
+    let command = shown_blob c.in-Blob.blob in
+    let none = nothing_told name s command (λ e number path none. none) c.args.told.now c.requires.blank.change c.apply_blob.result in
+    let free = made_vain (AsksInVain name s command) c.args.told.now.asked c.requires.blank.asked _ _ c.apply_blob.result (step name s command) _ refl (c.apply_blob.ensures.steps s h) in
+    rw c.in-Blob.is (all_told name s command (λ is. absurd (cc is)) c.args.told.now c.apply_blob.result none c.requires.blank.loss free)
 
 pub returns-in-Tag-clause-told : goal.returns-in-Tag-clause-told
 returns-in-Tag-clause-told g c = λ s h.
     let name = g.N.Namer.name_of c.args.repo.now.0 in
-    let none = nothing_told name s (shown_tag c.in-Tag.tag) (λ e number path none. none) c.args.told.now c.requires.blank.change c.apply_tag.result in
-    rw c.in-Tag.is (all_told name s (shown_tag c.in-Tag.tag) (λ is. absurd (cc is)) c.args.told.now c.apply_tag.result none c.requires.blank.loss)
+    let told : Explanation g.row.A.Denot = record { change = c.args.told.now.change; path = c.args.told.now.path; asked = c.apply_tag.new.asked; loss = c.args.told.now.loss } in
+    let none = nothing_told name s (shown_tag c.in-Tag.tag) (λ e number path none. none) told c.requires.blank.change c.apply_tag.result in
+    rw c.in-Tag.is (all_told name s (shown_tag c.in-Tag.tag) (λ is. absurd (cc is)) told c.apply_tag.result none c.requires.blank.loss (c.apply_tag.ensures.asked s h))
 
 pub returns-in-Reset-clause-told : goal.returns-in-Reset-clause-told
 returns-in-Reset-clause-told g c = λ s h.
     let name = g.N.Namer.name_of c.args.repo.now.0 in
-    let none = nothing_told name s (shown_reset c.in-Reset.reset) (λ e number path none. none) c.args.told.now c.requires.blank.change c.apply_reset.result in
-    rw c.in-Reset.is (all_told name s (shown_reset c.in-Reset.reset) (λ is. absurd (cc is)) c.args.told.now c.apply_reset.result none c.requires.blank.loss)
+    let told : Explanation g.row.A.Denot = record { change = c.args.told.now.change; path = c.args.told.now.path; asked = c.apply_reset.new.asked; loss = c.args.told.now.loss } in
+    let none = nothing_told name s (shown_reset c.in-Reset.reset) (λ e number path none. none) told c.requires.blank.change c.apply_reset.result in
+    rw c.in-Reset.is (all_told name s (shown_reset c.in-Reset.reset) (λ is. absurd (cc is)) told c.apply_reset.result none c.requires.blank.loss (c.apply_reset.ensures.asked s h))
 
 pub returns-in-Progress-clause-told : goal.returns-in-Progress-clause-told
 returns-in-Progress-clause-told g c = λ s h.
     let name = g.N.Namer.name_of c.args.repo.now.0 in
-    let none = nothing_told name s (Progress c.in-Progress.text.items) (λ e number path none. none) c.args.told.now c.requires.blank.change c.apply_progress.result in
-    rw c.in-Progress.is (all_told name s (Progress c.in-Progress.text.items) (λ is. absurd (cc is)) c.args.told.now c.apply_progress.result none c.requires.blank.loss)
+    let command = Progress c.in-Progress.text.items in
+    let none = nothing_told name s command (λ e number path none. none) c.args.told.now c.requires.blank.change c.apply_progress.result in
+    let free = written_vain (AsksInVain name s command) c.args.told.now.asked c.requires.blank.asked _ _ _ c.apply_progress.result c.apply_progress.ensures in
+    rw c.in-Progress.is (all_told name s command (λ is. absurd (cc is)) c.args.told.now c.apply_progress.result none c.requires.blank.loss free)
 
 pub returns-in-Feature-clause-told : goal.returns-in-Feature-clause-told
 returns-in-Feature-clause-told g c = λ s h. c.requires.blank
@@ -248,5 +262,7 @@ returns-clause-told g c = λ s h. c.requires.blank
 
 pub returns-in-Checkpoint-clause-told : goal.returns-in-Checkpoint-clause-told
 returns-in-Checkpoint-clause-told g c = λ s h.
-    let told : Explanation g.row.A.Denot = record { change = c.args.told.now.change; path = c.args.told.now.path; loss = c.apply_checkpoint.new.loss } in
-    rw c.in-Checkpoint.is (checkpoint_told (g.N.Namer.name_of c.args.repo.now.0) s told c.requires.blank.change c.apply_checkpoint.result (c.apply_checkpoint.ensures.loss s h))
+    let name = g.N.Namer.name_of c.args.repo.now.0 in
+    let told : Explanation g.row.A.Denot = record { change = c.args.told.now.change; path = c.args.told.now.path; asked = c.args.told.now.asked; loss = c.apply_checkpoint.new.loss } in
+    let free = published_free s c.args.repo.now.1 c.apply_checkpoint.new.repo.1 c.apply_checkpoint.result (c.apply_checkpoint.ensures.published s h) in
+    rw c.in-Checkpoint.is (checkpoint_told name s told c.requires.blank.change c.requires.blank.asked c.apply_checkpoint.result (c.apply_checkpoint.ensures.loss s h) free)

@@ -1,92 +1,39 @@
-use Rattle.std.proofs.Common.{◌≡◌, Ok, Err, refl, sym, ap, subst, ◌∙◌}
-use Rattle.std.proofs.lemmas.Result.{err_from_is_err_and}
-use Rattle.std.specs.FinMap.Entries.{put}
+use Rattle.std.proofs.Common.{ap, ◌∙◌}
+use Rattle.gx_model.specs.Replay.{State, commit_alone, committed, step}
 use Rattle.gx_model.specs.Faults.{and_then}
-use Rattle.gx_model.specs.Texts.RefNames.{tag_ref}
-use Rattle.gx_model.specs.Replay.{State, added, byte_cmp, commit_alone, committed}
-use Rattle.gx_model.specs.Laws.RepositoryLaws.{values_of}
-use Rattle.gx_model.specs.Histories.Values.{Commit, tag_value}
-use Rattle.gx_command.specs.Views.{tag_parts}
-use Rattle.gx_import.specs.Additions.{tag_made}
-use Rattle.gx_import.specs.Objects.{IsCommitOf}
-use Rattle.gx_import.specs.Rows.{rows_of}
+use Rattle.gx_model.specs.Histories.Values.{Commit}
+use Rattle.gx_command.specs.Views.{shown_commit_ish, shown_tag, tag_parts}
+use Rattle.gx_import.specs.Asking.{AsksInVain}
 use Rattle.gx_import.specs.Standing.{Follows}
-use Rattle.gx_import.proofs.HeldParts.{commit_holds}
-use Rattle.gx_import.proofs.MarkedStates.{tag_set}
+use Rattle.gx_import.proofs.AddedAnswers.{fault_so}
+use Rattle.gx_import.proofs.AskedCommands.{made_vain}
 use Rattle.gx_import.proofs.PartAnswers.{gives_refused}
 use Rattle.gx_import.proofs.Refusals.{target_answers}
-use Rattle.gx_import.proofs.Standings.{one_has}
-use Rattle.gx_import.proofs.TagTargets.{tag_next, tag_refused, tag_step, tagged, target_named, target_refused}
+use Rattle.gx_import.proofs.TagTargets.{tag_next, tag_step}
 use Rattle.gx_import.proofs.tag.apply_tag.Goals as goal
 
-pub returns-in_err-object-clause-steps : goal.returns-in_err-object-clause-steps
-returns-in_err-object-clause-steps g c = λ s h.
+pub target-requires : goal.target-requires
+target-requires g c = record { sorted = c.requires.stands.1.branches_sorted }
+
+pub make_tag-requires : goal.make_tag-requires
+make_tag-requires g c = record { stands = c.requires.stands; target = c.in-Ok.ensures }
+
+pub returns-in-Err-clause-steps : goal.returns-in-Err-clause-steps
+returns-in-Err-clause-steps g c = λ s h.
     let name = g.N.Namer.name_of c.args.repo.now.0 in
-    let p = err_from_is_err_and c.from_residual.result c.from_residual.ensures.1 in
-    let t = tag_parts c.args.tag.now in
-    let e = c.in_err-object.field-0.0 in
-    rw (p.1, p.2) (gives_refused {Y = Commit} {Z = Unit {0}} {W = State} _ (λ u x. Follows name c.args.repo.now.1 c.args.tables.now s u) e (committed name commit_alone s t.target) (tag_next t s)
-    (target_answers name s t.target) (target_refused name s t.target e (c.in_err-object.ensures s h)))
+    let t = tag_parts c.args.tag in
+    gives_refused {Y = Commit} {Z = Unit {0}} {W = State} _ (λ u x. Follows name c.args.repo.now.1 c.args.tables.now s u) c.in-Err.kind (committed name commit_alone s t.target) (tag_next t s)
+    (target_answers name s t.target) (c.in-Err.ensures s h)
 
-pub returns-in_err-target-clause-steps : goal.returns-in_err-target-clause-steps
-returns-in_err-target-clause-steps g c = λ s h.
+pub returns-in-Err-clause-asked : goal.returns-in-Err-clause-asked
+returns-in-Err-clause-asked g c = λ s h.
     let name = g.N.Namer.name_of c.args.repo.now.0 in
-    let p = err_from_is_err_and c.from_residual-in_err-target.result c.from_residual-in_err-target.ensures.1 in
-    let t = tag_parts c.args.tag.now in
-    let e = c.in_err-target.field-0.0 in
-    let k = c.in_ok-object.ensures s h in
-    rw (p.1, p.2) (gives_refused {Y = Commit} {Z = Unit {0}} {W = State} _ (λ u x. Follows name c.args.repo.now.1 c.args.tables.now s u) e (committed name commit_alone s t.target) (tag_next t s)
-    (target_answers name s t.target) (target_named name s.history.values s t.target k.0 k.1 c.in_ok-object.object k.2 (Err e) c.in_err-target.ensures))
+    let x = shown_commit_ish c.args.tag.from in
+    (c.of_commit_ish.ensures, fault_so c.in-Err.kind (committed name commit_alone s x) (c.in-Err.ensures s h))
 
-pub returns-in_err-name-clause-steps : goal.returns-in_err-name-clause-steps
-returns-in_err-name-clause-steps g c = λ s h.
+pub returns-in-Ok-clause-asked : goal.returns-in-Ok-clause-asked
+returns-in-Ok-clause-asked g c = λ s h.
     let name = g.N.Namer.name_of c.args.repo.now.0 in
-    let p = err_from_is_err_and c.from_residual-in_err-name.result c.from_residual-in_err-name.ensures.1 in
-    let t = tag_parts c.args.tag.now in
-    let k = c.in_ok-object.ensures s h in
-    let d = target_named name s.history.values s t.target k.0 k.1 c.in_ok-object.object k.2 (Ok c.in_ok-target.target) c.in_ok-target.ensures in
-    rw (p.1, p.2) (tag_refused name {X = Unit {0}} {Z = Unit {0}} (values_of c.args.repo.now.1) s t d.0 d.1 (λ u x. Unit {0}) (λ u x. Unit {0}) c.in_err-name.field-0.0
-    (c.in_err-name.ensures.steps c.args.tables.now s d.0 h d.2))
-
-pub add-requires : goal.add-requires
-add-requires g c =
-    let name = g.N.Namer.name_of c.args.repo.now.0 in
-    let t = tag_parts c.args.tag.now in
-    let s = c.requires.stands.0 in
-    let h = c.requires.stands.1 in
-    let k = c.in_ok-object.ensures s h in
-    let d = target_named name s.history.values s t.target k.0 k.1 c.in_ok-object.object k.2 (Ok c.in_ok-target.target) c.in_ok-target.ensures in
-    record { object = commit_holds name (g.met.N.Namer.is_namer c.args.repo.now.0) c.args.repo.now.1 c.sound.ensures d.0 c.in_ok-target.target (subst (λ z. IsCommitOf name z.values d.0 c.in_ok-target.target) (sym h.history) d.2) }
-
-pub returns-clause-steps : goal.returns-clause-steps
-returns-clause-steps g c = λ s h.
-    let name = g.N.Namer.name_of c.args.repo.now.0 in
-    let t = tag_parts c.args.tag.now in
-    let called = c.in_ok-name.name in
-    let k = c.in_ok-object.ensures s h in
-    let d = target_named name s.history.values s t.target k.0 k.1 c.in_ok-object.object k.2 (Ok c.in_ok-target.target) c.in_ok-target.ensures in
-    let v = tag_made d.0 t in
-    let a = c.in_ok-name.ensures.steps c.args.tables.now s d.0 h d.2 in
-    let same : added (tag_value v) s ≡ a.0 = cc a.1 in
-    let f = subst (Follows name c.add.new.repo.1 c.args.tables.now s) (sym same) a.2.0 in
-    let ref = c.in_ok-tag_ref.ensures ∙ ap tag_ref c.as_slice.ensures.value in (
-      tagged t v (added (tag_value v) s),
-      tag_step name s t ∙ ap (λ o. and_then o (tag_next t s)) d.1,
-      tag_set name c.add.new.repo.1 c.args.tables.now s (added (tag_value v) s) f v called (one_has s.history.values (tag_value v)) a.2.1 t.mark c.set.new.self _ refl refl c.in_ok-set.ensures _ refl refl refl
-          (c.in_ok-set-2.ensures ∙ ap (λ n. put byte_cmp n called (rows_of c.args.tables.now.tags)) ref),
-    )
-
-pub returns-in_err-set-clause-steps : goal.returns-in_err-set-clause-steps
-returns-in_err-set-clause-steps g c = λ s h.
-    let p = err_from_is_err_and c.from_residual-in_err-set.result c.from_residual-in_err-set.ensures.1 in
-    rw (p.1, p.2) tt
-
-pub returns-in_err-tag_ref-clause-steps : goal.returns-in_err-tag_ref-clause-steps
-returns-in_err-tag_ref-clause-steps g c = λ s h.
-    let p = err_from_is_err_and c.from_residual-in_err-tag_ref.result c.from_residual-in_err-tag_ref.ensures.1 in
-    rw (p.1, p.2) tt
-
-pub returns-in_err-set-2-clause-steps : goal.returns-in_err-set-2-clause-steps
-returns-in_err-set-2-clause-steps g c = λ s h.
-    let p = err_from_is_err_and c.from_residual-in_err-set-2.result c.from_residual-in_err-set-2.ensures.1 in
-    rw (p.1, p.2) tt
+    let t = tag_parts c.args.tag in
+    let k = c.in-Ok.ensures s h in
+    made_vain (AsksInVain name s (shown_tag c.args.tag)) c.args.asked.now c.requires.unasked _ _ c.make_tag.result (step name s (shown_tag c.args.tag)) _ (tag_step name s t ∙ ap (λ o. and_then o (tag_next t s)) k.1) (c.make_tag.ensures.steps s h)

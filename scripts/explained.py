@@ -45,13 +45,17 @@ CASES = [
     ("MissingDone", b"blob\ndata 1\nx\n@@", b""),
     ("MissingDone", b"blob\ndata 1\nx@@", b""),
     ("MissingDone", b"reset refs/heads/y@@", b""),
-    ("UnknownMark", COMMIT + b"D a\n@@M 100644 :77 x/y\nM 100644 :78 z\nblob\n", b"gx: change 2: x/y\n"),
-    ("UnknownMark", COMMIT + b"\nM 100644 inline d\ndata 4\nD\nD\nR a e\n@@M 100644 :77 x/y", b"gx: change 3: x/y\n"),
-    ("UnknownObject", COMMIT + b"@@M 100644 " + DIGITS + b' "\\303\\244"\n', b'gx: change 1: "\\303\\244"\n'),
+    ("UnknownMark", COMMIT + b"D a\n@@M 100644 :77 x/y\nM 100644 :78 z\nblob\n", b"gx: change 2: x/y\ngx: asked for :77\n"),
+    ("UnknownMark", COMMIT + b"\nM 100644 inline d\ndata 4\nD\nD\nR a e\n@@M 100644 :77 x/y", b"gx: change 3: x/y\ngx: asked for :77\n"),
+    ("UnknownObject", COMMIT + b"@@M 100644 " + DIGITS + b' "\\303\\244"\n', b'gx: change 1: "\\303\\244"\ngx: asked for ' + DIGITS + b"\n"),
     ("NoSuchPath", COMMIT + b"deleteall\nM 100644 :1 g\n@@R nothing d\n\nblob\ndata 0\n", b"gx: change 3: nothing\n"),
     ("PathTooLong", COMMIT + b"M 100644 :1 p/q\n@@C p " + b"r/" * 2047 + b"s\n", b"gx: change 2: p\n"),
     ("RootNotTree", b"blob\ndata 0\n\n" + COMMIT + b'@@C a ""\n\n', b"gx: change 1: a\n"),
-    ("WrongKind", COMMIT + b"@@M 100644 :4 a\n", b"gx: change 1: a\n"),
+    ("WrongKind", COMMIT + b"@@M 100644 :4 a\n", b"gx: change 1: a\ngx: asked for :4\n"),
+    ("UnknownMark", b"@@" + COMMIT + b"from :4\nmerge :4\nmerge :77\n", b"gx: asked for :77\n"),
+    ("UnknownRef", b"@@reset refs/heads/new\nfrom n\303\266~2\n", b'gx: asked for "n\\303\\266~2"\n'),
+    ("UnknownObject", b"@@reset refs/heads/new\nfrom " + DIGITS + b"\n", b"gx: asked for " + DIGITS + b"\n"),
+    ("WrongKind", b"@@tag v1\nfrom :1\ntagger A <a@x> 1 +0000\ndata 0\n", b"gx: asked for :1\n"),
 ]
 results = []
 randoms = random.Random(1)

@@ -1,10 +1,12 @@
 -- The lines that explain a refused import.
--- Source: git-fast-import(1), "filemodify" to "filedeleteall", and "force".
+-- Source: git-fast-import(1), "from", "filemodify" to "filedeleteall", and "force".
 use Rattle.std.specs.Prelude.{ℕ, [], ◌∷◌, ◌++◌, Option, Some, None, codes}
 use Rattle.std.specs.Fmt.{decimal}
 use Rattle.gx_model.specs.Texts.{Bytes}
 use Rattle.gx_model.specs.Texts.Paths.{Path, path_text, printed}
 use Rattle.gx_model.specs.Objects.{hex}
+use Rattle.gx_import.specs.declared.explanation.Asked.{Asked}
+use Rattle.gx_import.specs.declared.explanation.Asked.TheVariants.{Mark, Object, Text}
 use Rattle.gx_import.specs.declared.explanation.Explanation.{Explanation}
 use Rattle.gx_import.specs.declared.explanation.RefLoss.{RefLoss}
 
@@ -17,6 +19,16 @@ behind_number (Some path) = codes ": " ++ printed (path_text path) ++ 10 ∷ []
 abbrev pub change_line : ℕ → Option Path → Bytes
 change_line number path = codes "gx: change " ++ decimal number ++ behind_number path
 
+-- what was asked for: a colon and the number of a mark, a text as paths are printed, or the digits of an object's name
+abbrev pub asked_text : {A : Type 0} → Asked A → Bytes
+asked_text (Mark number) = 58 ∷ decimal number
+asked_text (Text text) = printed text.items
+asked_text (Object name) = name.digits
+
+-- the line of what was asked for in vain
+abbrev pub asked_line : {A : Type 0} → Asked A → Bytes
+asked_line asked = codes "gx: asked for " ++ asked_text asked ++ 10 ∷ []
+
 -- the ref that would lose a commit, the digits of its commit and those of the new one
 abbrev pub loss_line : {A : Type 0} → RefLoss A → Bytes
 loss_line loss = codes "gx: " ++ loss.name.items ++ codes ": from " ++ hex loss.old.bytes ++ codes " to " ++ hex loss.new.bytes ++ 10 ∷ []
@@ -26,6 +38,11 @@ abbrev pub told_change : Option ℕ → Option Path → Bytes
 told_change None path = []
 told_change (Some number) path = change_line number path
 
+-- that of a reference
+abbrev pub told_asked : {A : Type 0} → Option (Asked A) → Bytes
+told_asked None = []
+told_asked (Some asked) = asked_line asked
+
 -- and that of a ref
 abbrev pub told_loss : {A : Type 0} → Option (RefLoss A) → Bytes
 told_loss None = []
@@ -33,7 +50,7 @@ told_loss (Some loss) = loss_line loss
 
 -- what is told of a refusal, one line for each
 abbrev pub explanation_text : {A : Type 0} → Explanation A → Bytes
-explanation_text told = told_change told.change told.path ++ told_loss told.loss
+explanation_text told = told_change told.change told.path ++ told_asked told.asked ++ told_loss told.loss
 
 -- what stands before the text of a line: its number, from 1, and the byte at which it begins, from 0
 abbrev pub place_head : ℕ → ℕ → Bytes

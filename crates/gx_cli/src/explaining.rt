@@ -1,18 +1,20 @@
-//! What explains a refused import, in lines. Source: git-fast-import(1), "filemodify" to "filedeleteall", and "force".
+//! What explains a refused import, in lines. Source: git-fast-import(1), "from", "filemodify" to "filedeleteall", and "force".
 
-ghost use Rattle.std.specs.Prelude.{◌≡◌, ◌++◌, IfOk, OnOk};
-ghost use Rattle.gx_cli.specs.ExplainedLines.{change_line, explanation_text, item_line, loss_line, place_head};
+ghost use Rattle.std.specs.Prelude.{◌≡◌, ◌∷◌, ◌++◌, IfOk, OnOk};
+ghost use Rattle.std.specs.Fmt.{decimal};
+ghost use Rattle.gx_cli.specs.ExplainedLines.{asked_line, asked_text, change_line, explanation_text, item_line, loss_line, place_head};
 
 use crate::printing::put_printed;
-use gx_import::{Explanation, RefLoss};
+use gx_import::{Asked, Explanation, RefLoss};
 use gx_text::TreePath;
 use itoa::Buffer;
 use std::alloc::{AllocError, Allocator};
 
-/// The lines that explain a refused import: the change of the commit that is refused, by its number and its path; and the ref that
-/// would lose a commit, with its commit and the new one. There are none where nothing is told.
+/// The lines that explain a refused import: the change of the commit that is refused, by its number and its path; what was asked
+/// for in vain, `:` and the number of a mark, a text as paths are printed or the digits of a name; and the ref that would lose a
+/// commit, with its commit and the new one. There are none where nothing is told.
 ///
-/// Cost: their length, at most four bytes for each of a path's.
+/// Cost: their length, at most four bytes for each of a path's or a text's.
 pub fn explanation_lines<A: Allocator + Copy>(
     alloc: A,
     told: &Explanation<A>,
@@ -22,6 +24,9 @@ pub fn explanation_lines<A: Allocator + Copy>(
     let mut lines = Vec::new(alloc);
     if let Some(number) = told.change {
         put_change(&mut lines, number, &told.path)?;
+    }
+    if let Some(asked) = &told.asked {
+        put_asked(&mut lines, asked)?;
     }
     if let Some(loss) = &told.loss {
         put_loss(&mut lines, loss)?;
@@ -84,6 +89,42 @@ fn put_change<A: Allocator + Copy>(
     }
     lines.push(b'\n')?;
     Ok(())
+}
+
+/// Appends the line of what was asked for.
+fn put_asked<A: Allocator + Copy>(
+    lines: &mut Vec<u8, A>,
+    asked: &Asked<A>,
+) -> Result<(), AllocError>
+    ensures { OnOk result (lines.new.items ≡ lines.old.items ++ asked_line asked.now) }
+{
+    lines.extend_from_slice(b"gx: asked for ")?;
+    put_reference(lines, asked)?;
+    lines.push(b'\n')?;
+    Ok(())
+}
+
+/// Appends a reference.
+fn put_reference<A: Allocator + Copy>(
+    line: &mut Vec<u8, A>,
+    asked: &Asked<A>,
+) -> Result<(), AllocError>
+    ensures { OnOk result (line.new.items ≡ line.old.items ++ asked_text asked.now) }
+{
+    match asked {
+        Asked::Mark(number) => put_mark(line, *number),
+        Asked::Text(text) => put_printed(line, text.as_slice()),
+        Asked::Object(digits) => line.extend_from_slice(&digits.digits),
+    }
+}
+
+/// Appends the number of a mark.
+fn put_mark<A: Allocator + Copy>(line: &mut Vec<u8, A>, number: u64) -> Result<(), AllocError>
+    ensures { OnOk result (line.new.items ≡ line.old.items ++ 58 ∷ decimal number) }
+{
+    let mut digits = Buffer::new();
+    line.push(b':')?;
+    line.extend_from_slice(digits.format(number).as_bytes())
 }
 
 /// Appends the line of a ref that would lose a commit.

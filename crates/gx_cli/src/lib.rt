@@ -41,7 +41,7 @@ pub use explaining::{explanation_lines, item_line};
 pub use fault::CliFault;
 pub use gx_adapt::Report as AdaptReport;
 pub use gx_blobs::{BlobsFault, BlobsKind, blobs};
-pub use gx_import::{Explanation, ImportFault, ImportKind, RefLoss, Report as ImportReport};
+pub use gx_import::{Asked, Explanation, ImportFault, ImportKind, RefLoss, Report as ImportReport};
 pub use gx_line::{ExportForm, Line, LineFault, LogOptions, read_line};
 pub use gx_model::Features;
 pub use gx_repo::{Pruned, Repo};

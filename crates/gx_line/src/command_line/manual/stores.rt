@@ -49,6 +49,8 @@ Output:
                                line, from 1, the byte at which it begins, from
                                0, and the first 200 bytes of the line
     gx: change N: PATH         the Nth change of the commit, and its path
+    gx: asked for NAME         the mark, the revision or the object that a from,
+                               a merge or an M asks for in vain
     gx: REF: from OLD to NEW   the ref that would lose a commit, its commit and
                                the one to which it would move
   TEXT and PATH are printed as gx ls prints a path.

@@ -182,9 +182,9 @@ fn lines_of(
 fn lines_are_read_as_they_end(rt: HostRuntime) -> Result<(), Fail> {
     let text = b"main\r\n\nv1\0x".as_slice();
     let lf = lines_of(rt.alloc(), LineEnding::Lf, Bytes::new(text, 1, false))?;
-    assert!(rt; lf == b"main||v1\0x|".as_slice());
+    assert!(rt; lf.as_slice() == b"main||v1\0x|".as_slice());
     let nul = lines_of(rt.alloc(), LineEnding::Nul, Bytes::new(text, 100, false))?;
-    assert!(rt; nul == b"main\r\n\nv1|x|".as_slice());
+    assert!(rt; nul.as_slice() == b"main\r\n\nv1|x|".as_slice());
     let cut = lines_of(rt.alloc(), LineEnding::Nul, Bytes::new(text, 3, true))?;
     assert!(rt; cut.is_empty());
     Ok(())

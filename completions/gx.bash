@@ -23,7 +23,7 @@ __gx_operands() {
   operands=()
   for ((i = 2; i < ${#words[@]} - 1; i++)); do
     case ${words[i]} in
-      --max-count | --prefix) i=$((i + 1)) ;;
+      --max-count | -n | --prefix | --format) i=$((i + 1)) ;;
       -?*) ;;
       *) operands+=("${words[i]}") ;;
     esac
@@ -92,15 +92,24 @@ __gx_options() {
   case ${words[1]} in
     ls) __gx_answer '' "$1" -r --recursive --help ;;
     archive) __gx_answer '' "$1" --prefix --help ;;
-    batch) __gx_answer '' "$1" --check --help ;;
+    where) __gx_answer '' "$1" --fault --done --force --help ;;
+    drop) __gx_answer '' "$1" --stdin --help ;;
+    batch) __gx_answer '' "$1" --check --command --format -z --help ;;
     adapt) __gx_answer '' "$1" --drop-signatures --help ;;
     import) __gx_answer '' "$1" --done --force --report --explain --help ;;
     try) __gx_answer '' "$1" --done --force --explain --help ;;
     gc) __gx_answer '' "$1" --report --help ;;
     export) __gx_answer '' "$1" --changes --no-done --help ;;
-    log) __gx_answer '' "$1" --reverse --max-count --parents --help ;;
+    log) __gx_answer '' "$1" --all --stdin --format --reverse --max-count -n --parents --help ;;
     *) __gx_answer '' "$1" --help ;;
   esac
+}
+
+# Answers what may stand behind an option that takes a value: only a list's format is one of a few.
+__gx_value() {
+  if [[ ${words[1]}:${words[-2]} == log:--format ]]; then
+    __gx_answer '' "$1" oneline raw subject author dates
+  fi
 }
 
 __gx_words_of_command() {
@@ -127,8 +136,10 @@ _gx() {
     __gx_answer '' "$last" "${commands[@]}" help --help
   elif [[ ${words[1]} == help ]]; then
     __gx_answer '' "$last" "${commands[@]}"
-  elif [[ ${words[-2]} =~ ^--(max-count|prefix)$ ]]; then
-    return
+  elif [[ ${words[-2]} =~ ^(-n|--(max-count|prefix|format))$ ]]; then
+    __gx_value "$last"
+  elif [[ ${words[1]} == log && $last == --format=* ]]; then
+    __gx_answer '' "$last" --format={oneline,raw,subject,author,dates}
   elif [[ $last == -* ]]; then
     __gx_options "$last"
   else

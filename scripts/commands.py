@@ -16,7 +16,8 @@ import sys
 from pathlib import Path
 
 TOP = Path(__file__).resolve().parent.parent
-MANUAL = (TOP / "docs" / "gx.1").read_text()
+# a line that ends with a backslash goes on in the next one
+MANUAL = (TOP / "docs" / "gx.1").read_text().replace("\\\n", "")
 LINE = TOP / "crates" / "gx_line" / "src" / "command_line"
 COMMANDS = (LINE / "commands.rt").read_text()
 PAGES = "".join(path.read_text() for path in [LINE / "manual.rt", *sorted((LINE / "manual").iterdir())])
@@ -53,18 +54,23 @@ def of_all_commands():
     return {name for head in heads for name in re.findall(r"--([\w-]+)", head)}
 
 
+def heads_below():
+    """The heads of the manual's part COMMANDS, each with how many lists it is in."""
+    depth, lines = 0, section("COMMANDS").splitlines()
+    for line, behind in zip(lines, lines[1:]):
+        depth += {".RS": 1, ".RE": -1}.get(line, 0)
+        if line == ".TP":
+            yield depth, re.findall(r"[\w-]+", re.sub(r"^\.[A-Z]+ ", "", shown(behind).replace('"', "")))
+
+
 def told_below():
     """The commands that the manual's part COMMANDS tells of, each with the options told there."""
     found = {}
-    heads = re.split(r"^\.TP\n", section("COMMANDS"), flags=re.M)[1:]
-    for head in heads:
-        line = shown(head.split("\n", 1)[0])
-        words = re.findall(r"[\w-]+", re.sub(r"^\.[A-Z]+ ", "", line.replace('"', "")))
-        if words[0].startswith("-"):
-            last = found[list(found)[-1]]
-            last |= {word for word in words if word.startswith("-")}
-        else:
+    for depth, words in heads_below():
+        if depth == 0:
             found[words[0]] = set()
+        elif depth == 1:
+            found[list(found)[-1]] |= {word for word in words if word.startswith("-")}
     return found
 
 

@@ -73,7 +73,8 @@ line 'gx adapt '
 line 'gx adapt -' --drop-signatures --help
 line 'gx w' where
 line 'gx where '
-line 'gx where -' --help
+line 'gx where -' --fault --done --force --help
+line 'gx where --f' --fault --force
 line 'gx import -' --done --force --report --explain --help
 line 'gx import --done st' store
 line 'gx import store < st'
@@ -83,10 +84,18 @@ line 'gx archive -' --prefix --help
 line 'gx archive --prefix '
 line 'gx archive --prefix p/ st' store
 line 'gx archive --prefix=p/ store t' topic
-line 'gx batch -' --check --help
+line 'gx batch -' --check --command --format -z --help
+line 'gx batch --format '
+line 'gx batch --command --format x st' store
 line 'gx batch --check st' store
 line 'gx batch store '
-line 'gx log --' --reverse --max-count --parents --help
+line 'gx log --' --all --stdin --format --reverse --max-count --parents --help
+line 'gx log -n '
+line 'gx log -n 3 --format raw st' store
+line 'gx log --format ' oneline raw subject author dates
+line 'gx log --format o' oneline
+line 'gx log --format=r' raw
+line 'gx log --all store m' main
 line 'gx show -' --help
 line 'gx show s' store sub
 line 'gx ls -r st' store
@@ -97,6 +106,8 @@ line 'gx init su' sub
 line 'gx ex' export
 line 'gx d' drop
 line 'gx drop su' sub
+line 'gx drop -' --stdin --help
+line 'gx drop --stdin st' store
 line 'gx g' gc
 line 'gx gc -' --report --help
 line 'gx gc --report st' store

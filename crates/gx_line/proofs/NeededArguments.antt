@@ -1,21 +1,47 @@
--- What clap is told of an argument that is refused where another one is missing.
+-- What clap is told of an argument that is refused where another one is missing, or beside another one.
 use Rattle.std.proofs.Common.{◌≡◌, Bool, true, false, not, ◌&&◌, ◌∷◌, [], refl, ap, ◌∙◌}
 use Rattle.std.specs.Borrow.{Bor}
 use Rattle.clap.proofs.SimpleLemmas.{not_empty}
-use Rattle.clap.specs.Adds.{AddsRequirements}
+use Rattle.clap.specs.Adds.{AddsConflicts, AddsRequiredUnless, AddsRequirements}
 use Rattle.clap.specs.Walk.{is_empty}
 use Rattle.clap.specs.Words.{Text, rule_of}
 use Rattle.clap.specs.declared.builder.arg.Arg.{Arg}
 use Rattle.clap.specs.declared.builder.arg.ArgPredicate.{ArgPredicate}
+use Rattle.gx_line.specs.CommandLine.{bound}
+
+second_false : (a b c : Bool) → b ≡ false → (a && (b && c)) ≡ false
+second_false true b c e = ap (λ z. z && c) e
+second_false false b c e = refl
 
 third_false : (a b c d : Bool) → c ≡ false → (a && (b && (c && d))) ≡ false
-third_false true true c d e = ap (λ z. z && d) e
-third_false true false c d e = refl
+third_false true b c d e = second_false b c d e
 third_false false b c d e = refl
 
+sixth_false : (a b c d e f g : Bool) → f ≡ false → (a && (b && (c && (d && (e && (f && g)))))) ≡ false
+sixth_false true true true d e f g h = third_false d e f g h
+sixth_false true true false d e f g h = refl
+sixth_false true false c d e f g h = refl
+sixth_false false b c d e f g h = refl
+
 -- it has a rule on another argument, and is as before otherwise
-pub needs_rule : (old new : Arg) (needed : ArgPredicate × Bor Text) → AddsRequirements old new (needed ∷ []) → rule_of new ≡ record (rule_of old) { is_free = false }
+pub needs_rule : (old new : Arg) (needed : ArgPredicate × Bor Text) → AddsRequirements old new (needed ∷ []) → rule_of new ≡ bound (rule_of old)
 needs_rule old new needed h =
     let others : Bool = is_empty old.r_ifs.items && (is_empty old.r_ifs_all.items && (is_empty old.r_unless.items && is_empty old.r_unless_all.items)) in
     let some : is_empty new.needs.items ≡ false = ap is_empty h.1 ∙ not_empty old.needs.items needed in
     ap rule_of h.0 ∙ ap (λ free. record (rule_of old) { is_free = free }) (third_false (not old.exclusive) (is_empty old.conflicts.items) (is_empty new.needs.items) others some)
+
+-- it is refused beside another argument
+pub conflict_rule : (old new : Arg) (other : Bor Text) → AddsConflicts old new (other ∷ []) → rule_of new ≡ bound (rule_of old)
+conflict_rule old new other h =
+    let others : Bool = is_empty old.needs.items
+    && (is_empty old.r_ifs.items && (is_empty old.r_ifs_all.items && (is_empty old.r_unless.items && is_empty old.r_unless_all.items))) in
+    let some : is_empty new.conflicts.items ≡ false = ap is_empty h.1 ∙ not_empty old.conflicts.items other in
+    ap rule_of h.0 ∙ ap (λ free. record (rule_of old) { is_free = free }) (second_false (not old.exclusive) (is_empty new.conflicts.items) others some)
+
+-- it is refused where it is missing with another argument
+pub unless_rule : (old new : Arg) (other : Bor Text) → AddsRequiredUnless old new (other ∷ []) → rule_of new ≡ bound (rule_of old)
+unless_rule old new other h =
+    let some : is_empty new.r_unless.items ≡ false = ap is_empty h.1 ∙ not_empty old.r_unless.items other in
+    ap rule_of h.0 ∙ ap (λ free. record (rule_of old) { is_free = free })
+    (sixth_false (not old.exclusive) (is_empty old.conflicts.items) (is_empty old.needs.items) (is_empty old.r_ifs.items)
+    (is_empty old.r_ifs_all.items) (is_empty new.r_unless.items) (is_empty old.r_unless_all.items) some)

@@ -1,5 +1,5 @@
 -- The command line of gx: what clap is told of it, and what a line says of the words that clap took.
-use Rattle.std.specs.Prelude.{◌≡◌, ◌⊎◌, ⊤, ℕ, Bool, true, false, not, List, [], map, Option, Some, None, Result, IfOk, codes, IsSomeAnd}
+use Rattle.std.specs.Prelude.{◌≡◌, ◌⊎◌, ⊤, ℕ, Bool, true, false, not, List, [], map, Option, Some, None, Result, IfOk, codes, IsSomeAnd, option_map, unwrap_or}
 use Rattle.std.specs.Borrow.{Bor}
 use Rattle.std.specs.Str.Parse.{ParsesUnsigned}
 use Rattle.std.specs.declared.num.ParseIntError.{ParseIntError}
@@ -11,12 +11,16 @@ use Rattle.clap.specs.declared.builder.action.ArgAction.TheVariants.{SetTrue}
 use Rattle.clap.specs.declared.builder.value_parser.ValueParser.TheVariants as parser
 use Rattle.clap.specs.declared.error.kind.ErrorKind.{ErrorKind}
 use Rattle.clap.specs.declared.error.kind.ErrorKind.TheVariants.{DisplayHelp, DisplayVersion}
+use Rattle.gx_line.specs.declared.command_line.BatchForm.{BatchForm}
+use Rattle.gx_line.specs.declared.command_line.BatchForm.TheVariants.{Bytes, Check, Commands}
 use Rattle.gx_line.specs.declared.command_line.ExportForm.{ExportForm}
 use Rattle.gx_line.specs.declared.command_line.ExportForm.TheVariants.{Changes, FullTree}
 use Rattle.gx_line.specs.declared.command_line.Line.{Line}
-use Rattle.gx_line.specs.declared.command_line.Line.TheVariants.{Blobs, Try, Adapt, Where, Init, Import, Drop, Gc, Export, ExportRange, Show, Ls, Archive, Batch, Refs, Log, RevParse}
+use Rattle.gx_line.specs.declared.command_line.Line.TheVariants.{Blobs, Try, Adapt, Where, WhereFault, Init, Import, Drop, Gc, Export, ExportRange, Show, Ls, Archive, Batch, Refs, Log, RevParse}
 use Rattle.gx_line.specs.declared.command_line.LineFault.{LineFault}
 use Rattle.gx_line.specs.declared.command_line.LineFault.TheVariants.{OutOfMemory, Status}
+use Rattle.gx_line.specs.declared.command_line.LogFormat.{LogFormat}
+use Rattle.gx_line.specs.declared.command_line.LogFormat.TheVariants.{Names, Oneline, Raw, Subject, Author, Dates}
 use Rattle.gx_line.specs.declared.command_line.LogOptions.{LogOptions}
 
 -- ---- arguments
@@ -41,6 +45,14 @@ any_words id = record (words id) { required = false }
 abbrev pub flag : Text → Rule
 flag id = record (new_rule id) { long = Some id; action = Some SetTrue }
 
+-- an argument that is refused beside another one, or where another one is missing
+abbrev pub bound : Rule → Rule
+bound rule = record rule { is_free = false }
+
+-- a hyphen and the letter
+abbrev pub letter : Text → ℕ → Rule
+letter id code = record (new_rule id) { short = Some code; action = Some SetTrue }
+
 -- --ID, or a hyphen and the letter
 abbrev pub letter_flag : Text → ℕ → Rule
 letter_flag id letter = record (flag id) { short = Some letter }
@@ -56,10 +68,6 @@ whole_number id = record (new_rule id) { value_names = 1; parser = Some (parser.
 -- --ID and a whole number below 2^64
 abbrev pub number : Text → Rule
 number id = record (whole_number id) { long = Some id }
-
--- a positional whole number below 2^64 that isn't left out
-abbrev pub needed_number : Text → Rule
-needed_number id = record (whole_number id) { required = true }
 
 abbrev pub file : Rule
 file = one_word (codes "file")
@@ -96,20 +104,54 @@ changes = flag (codes "changes")
 
 -- a flag that is refused where it stands without --changes
 abbrev pub no_done : Rule
-no_done = record (flag (codes "no-done")) { is_free = false }
+no_done = bound (flag (codes "no-done"))
 
 -- range words that are refused where they stand without --changes
 abbrev pub sent_ranges : Rule
-sent_ranges = record (any_words (codes "range")) { is_free = false }
+sent_ranges = bound (any_words (codes "range"))
+
+-- the number of a command, which is needed where --fault isn't given
+abbrev pub place : Rule
+place = bound (whole_number (codes "number"))
+
+-- a flag that is refused beside a number
+abbrev pub fault : Rule
+fault = bound (flag (codes "fault"))
+
+-- the names of refs, which are needed where --stdin isn't given
+abbrev pub refs : Rule
+refs = bound (any_words (codes "ref"))
+
+abbrev pub stdin : Rule
+stdin = flag (codes "stdin")
+
+abbrev pub ranges : Rule
+ranges = any_words (codes "range")
 
 abbrev pub reverse : Rule
 reverse = flag (codes "reverse")
 
+-- --max-count, or -n, and a whole number
 abbrev pub max_count : Rule
-max_count = number (codes "max-count")
+max_count = record (number (codes "max-count")) { short = Some 110 }
 
+-- a flag that is refused beside --format
 abbrev pub parents : Rule
-parents = flag (codes "parents")
+parents = bound (flag (codes "parents"))
+
+abbrev pub all : Rule
+all = flag (codes "all")
+
+abbrev pub format : Rule
+format = text (codes "format")
+
+-- a flag that is refused beside --check
+abbrev pub commands : Rule
+commands = bound (flag (codes "command"))
+
+-- -z
+abbrev pub nul : Rule
+nul = letter (codes "nul") 122
 
 -- ---- commands
 
@@ -138,7 +180,7 @@ abbrev pub import_command : App
 import_command = with_rule (with_rule (with_features (file_command (codes "import"))) report) explain
 
 abbrev pub drop_command : App
-drop_command = with_rule (file_command (codes "drop")) (words (codes "ref"))
+drop_command = with_rule (with_rule (file_command (codes "drop")) refs) stdin
 
 abbrev pub gc_command : App
 gc_command = with_rule (file_command (codes "gc")) report
@@ -147,7 +189,7 @@ abbrev pub export_command : App
 export_command = with_rule (with_rule (with_rule (file_command (codes "export")) changes) no_done) sent_ranges
 
 abbrev pub where_command : App
-where_command = with_rule (new_app (codes "where")) (needed_number (codes "number"))
+where_command = with_rule (with_rule (with_rule (with_rule (new_app (codes "where")) place) fault) (bound done)) (bound force)
 
 abbrev pub show_command : App
 show_command = with_rule (file_command (codes "show")) revision
@@ -159,13 +201,15 @@ abbrev pub archive_command : App
 archive_command = with_rule (with_rule (file_command (codes "archive")) revision) prefix
 
 abbrev pub batch_command : App
-batch_command = with_rule (file_command (codes "batch")) check
+batch_command = with_rule (with_rule (with_rule (with_rule (file_command (codes "batch")) check) commands) format) nul
 
-abbrev pub ranges_command : App
-ranges_command = with_rule (file_command (codes "log")) (words (codes "range"))
+-- which commits log lists
+abbrev pub chosen_command : App
+chosen_command = with_rule (with_rule (with_rule (with_rule (file_command (codes "log")) ranges) all) stdin) max_count
 
+-- and how
 abbrev pub log_command : App
-log_command = with_rule (with_rule (with_rule ranges_command reverse) max_count) parents
+log_command = with_rule (with_rule (with_rule chosen_command reverse) parents) format
 
 abbrev pub rev_parse_command : App
 rev_parse_command = with_rule (file_command (codes "rev-parse")) (words (codes "rev"))
@@ -215,6 +259,13 @@ IsWord id rows word = first_of id rows ≡ Some word.now
 abbrev pub AreWords : Text → List Row → List (Bor Text) → Type 0
 AreWords id rows words = all_of id rows ≡ Some (map (λ s. s.now) words)
 
+-- no word where none is given
+abbrev pub AreAnyWords : Text → List Row → List (Bor Text) → Type 0
+AreAnyWords id rows words = unwrap_or (all_of id rows) [] ≡ map (λ s. s.now) words
+
+abbrev pub IsOption : Text → List Row → Option (Bor Text) → Type 0
+IsOption id rows text = first_of id rows ≡ option_map (λ s. s.now) text
+
 -- the empty text where none is given
 abbrev pub IsText : Text → List Row → Bor Text → Type 0
 IsText id rows text = first_of id rows ≡ Some text.now ⊎ ((first_of id rows ≡ None) × (text.now ≡ []))
@@ -229,9 +280,26 @@ abbrev pub IsNumber : Text → List Row → Option ℕ → Type 0
 IsNumber id rows number = (one_of id rows ≡ None → number ≡ None)
     × ((text : Text) → one_of id rows ≡ Some text → ReadsOne {E = ParseIntError} (λ bytes read. ParsesUnsigned 64 10 bytes read) text number)
 
+-- the word that asks for a format
+abbrev pub format_word : LogFormat → Option Text
+format_word Names = None
+format_word Oneline = Some (codes "oneline")
+format_word Raw = Some (codes "raw")
+format_word Subject = Some (codes "subject")
+format_word Author = Some (codes "author")
+format_word Dates = Some (codes "dates")
+
+abbrev pub IsLogFormat : List Row → LogFormat → Type 0
+IsLogFormat rows format = first_of (codes "format") rows ≡ format_word format
+
+-- which commits are listed
+abbrev pub AreChosen : List Row → LogOptions → Type 0
+AreChosen rows options = IsFlag (codes "all") rows options.all
+    × (IsFlag (codes "stdin") rows options.stdin × IsNumber (codes "max-count") rows options.max_count)
+
 abbrev pub AreLogOptions : List Row → LogOptions → Type 0
-AreLogOptions rows options = IsFlag (codes "reverse") rows options.reverse
-    × (IsNumber (codes "max-count") rows options.max_count × IsFlag (codes "parents") rows options.parents)
+AreLogOptions rows options = AreChosen rows options × (IsFlag (codes "reverse") rows options.reverse
+    × (IsFlag (codes "parents") rows options.parents × IsLogFormat rows options.format))
 
 abbrev pub AreFeatures : List Row → Bool → Bool → Type 0
 AreFeatures rows done force = IsFlag (codes "done") rows done × IsFlag (codes "force") rows force
@@ -240,17 +308,24 @@ abbrev pub IsForm : List Row → ExportForm → Type 0
 IsForm rows FullTree = IsFlag (codes "changes") rows false × IsFlag (codes "no-done") rows false
 IsForm rows (Changes done) = IsFlag (codes "changes") rows true × IsFlag (codes "no-done") rows (not done)
 
+abbrev pub IsBatchForm : List Row → BatchForm → Type 0
+IsBatchForm rows Bytes = IsFlag (codes "check") rows false × IsFlag (codes "command") rows false
+IsBatchForm rows Check = IsFlag (codes "check") rows true × IsFlag (codes "command") rows false
+IsBatchForm rows Commands = IsFlag (codes "check") rows false × IsFlag (codes "command") rows true
+
 -- the line is the command `name` with the options and words that clap found for it
 unfoldable pub Says : Text → List Row → Line → Type 0
 Says name rows Blobs = name ≡ codes "blobs"
 Says name rows (Try revision done force explain) = (name ≡ codes "try") × (AreFeatures rows done force
     × (IsFlag (codes "explain") rows explain × IsWord (codes "rev") rows revision))
 Says name rows (Adapt drop_signatures) = (name ≡ codes "adapt") × IsFlag (codes "drop-signatures") rows drop_signatures
-Says name rows (Where command) = (name ≡ codes "where") × IsNumber (codes "number") rows (Some command)
+Says name rows (Where command) = (name ≡ codes "where") × (IsFlag (codes "fault") rows false × IsNumber (codes "number") rows (Some command))
+Says name rows (WhereFault done force) = (name ≡ codes "where") × (IsFlag (codes "fault") rows true × AreFeatures rows done force)
 Says name rows (Init file) = (name ≡ codes "init") × IsWord (codes "file") rows file
 Says name rows (Import file done force report explain) = (name ≡ codes "import") × (AreFeatures rows done force
     × (IsFlag (codes "report") rows report × (IsFlag (codes "explain") rows explain × IsWord (codes "file") rows file)))
-Says name rows (Drop file refs) = (name ≡ codes "drop") × (IsWord (codes "file") rows file × AreWords (codes "ref") rows refs.items)
+Says name rows (Drop file refs stdin) = (name ≡ codes "drop") × (IsFlag (codes "stdin") rows stdin
+    × (IsWord (codes "file") rows file × AreAnyWords (codes "ref") rows refs.items))
 Says name rows (Gc file report) = (name ≡ codes "gc") × (IsFlag (codes "report") rows report × IsWord (codes "file") rows file)
 Says name rows (Export form file) = (name ≡ codes "export")
     × (IsForm rows form × (IsWord (codes "file") rows file × (all_of (codes "range") rows ≡ None)))
@@ -262,10 +337,11 @@ Says name rows (Ls recursive file revision) = (name ≡ codes "ls") × (IsFlag (
     × (IsWord (codes "file") rows file × IsWord (codes "rev") rows revision))
 Says name rows (Archive prefix file revision) = (name ≡ codes "archive") × (IsText (codes "prefix") rows prefix
     × (IsWord (codes "file") rows file × IsWord (codes "rev") rows revision))
-Says name rows (Batch check file) = (name ≡ codes "batch") × (IsFlag (codes "check") rows check × IsWord (codes "file") rows file)
+Says name rows (Batch form format nul file) = (name ≡ codes "batch") × (IsBatchForm rows form
+    × (IsOption (codes "format") rows format × (IsFlag (codes "nul") rows nul × IsWord (codes "file") rows file)))
 Says name rows (Refs file) = (name ≡ codes "refs") × IsWord (codes "file") rows file
 Says name rows (Log options file ranges) = (name ≡ codes "log") × (AreLogOptions rows options
-    × (IsWord (codes "file") rows file × AreWords (codes "range") rows ranges.items))
+    × (IsWord (codes "file") rows file × AreAnyWords (codes "range") rows ranges.items))
 Says name rows (RevParse file revisions) = (name ≡ codes "rev-parse")
     × (IsWord (codes "file") rows file × AreWords (codes "rev") rows revisions.items)
 

@@ -1,18 +1,40 @@
 //! The command line of `gx`, read by `clap`.
 
-ghost use Rattle.std.specs.Prelude.{◌≡◌, IfOk, IfSome, Some, codes, map};
+ghost use Rattle.std.specs.Prelude.{◌≡◌, IfOk, Some, codes, map};
 ghost use Rattle.clap.specs.Words.{first_of, found_of, kind_of, rows_of};
 ghost use Rattle.gx_line.specs.CommandLine as say;
 
 mod arguments;
 mod commands;
 mod manual;
+mod values;
 
 use clap::error::ErrorKind;
 use clap::{ArgMatches, Error};
 use commands::command_line;
 use std::alloc::{AllocError, Global};
 use thiserror::Error as Fault;
+use values::{
+    any_words_of, batch_form_of, form_of, format_of, is_set, number_of, option_of, text_of,
+    unknown, word_of, words_of,
+};
+
+/// What `log` prints of each commit.
+#[derive(Clone, Copy, Debug, PartialEq, Eq)]
+pub enum LogFormat {
+    /// Its name.
+    Names,
+    /// Its name and its subject.
+    Oneline,
+    /// Its whole text.
+    Raw,
+    /// Its subject.
+    Subject,
+    /// Its name and its author.
+    Author,
+    /// Its name and the author's and the committer's time.
+    Dates,
+}
 
 /// The options of `log`.
 #[derive(Clone, Copy, Debug, PartialEq, Eq)]
@@ -23,6 +45,23 @@ pub struct LogOptions {
     pub max_count: Option<u64>,
     /// The names of a commit's parents stand behind its own.
     pub parents: bool,
+    /// Each ref is one more word.
+    pub all: bool,
+    /// Further words stand on standard input, one a line.
+    pub stdin: bool,
+    /// What is printed of each commit. Behind another format than names stand no parents.
+    pub format: LogFormat,
+}
+
+/// What a batch is asked for.
+#[derive(Clone, Copy, Debug, PartialEq, Eq)]
+pub enum BatchForm {
+    /// What each revision gives, with its bytes.
+    Bytes,
+    /// No more than its name, kind and size.
+    Check,
+    /// What each line asks for, which is a command.
+    Commands,
 }
 
 /// What an export writes of each commit.
@@ -51,6 +90,11 @@ pub enum Line<'a> {
     },
     /// It is told where the command with this number begins in a stream, counted from 1.
     Where(u64),
+    /// It is told what an import of a stream into an empty store would be refused for. `done` and `force` are as in an import.
+    WhereFault {
+        done: bool,
+        force: bool,
+    },
     /// A new store is made.
     Init {
         file: &'a str,
@@ -64,10 +108,11 @@ pub enum Line<'a> {
         report: bool,
         explain: bool,
     },
-    /// Refs are dropped from a store.
+    /// Refs are dropped from a store. With `stdin` further ones stand on standard input, one a line.
     Drop {
         file: &'a str,
         refs: Vec<&'a str>,
+        stdin: bool,
     },
     /// The objects of a store go that no ref reaches. With `report` it is told how many.
     Gc {
@@ -103,16 +148,19 @@ pub enum Line<'a> {
         file: &'a str,
         revision: &'a str,
     },
-    /// What the revisions on standard input give is shown, or with `check` no more than its name, kind and size.
+    /// The lines of standard input are answered, each of which is a revision or a command. The format is of the line that
+    /// tells of an object. With `nul` each line of the input ends with a NUL.
     Batch {
-        check: bool,
+        form: BatchForm,
+        format: Option<&'a str>,
+        nul: bool,
         file: &'a str,
     },
     /// The refs are listed.
     Refs {
         file: &'a str,
     },
-    /// The commits of range words are listed.
+    /// The commits of range words are listed, of which there may be none.
     Log {
         options: LogOptions,
         file: &'a str,
@@ -177,11 +225,25 @@ fn line_of<'a>(
         "adapt" => Ok(Line::Adapt {
             drop_signatures: is_set(matches, "drop-signatures"),
         }),
-        "where" => match number_of(matches, "number") {
-            Some(command) => Ok(Line::Where(command)),
-            None => Err(unknown(alloc)),
-        },
+        "where" => where_line(alloc, matches),
         _ => file_line(alloc, name, matches, word_of(alloc, matches, "file")?),
+    }
+}
+
+/// The line of `where`. clap makes sure that there is a number or `--fault`.
+#[tactic(auto, unfolding(crate::specs::CommandLine::Says))]
+fn where_line<'a>(alloc: Global, matches: &ArgMatches<'a>) -> Result<Line<'a>, LineFault>
+    ensures { IfOk result (λ line. say.Says (codes "where") (rows_of (found_of matches.now)) line) }
+{
+    if is_set(matches, "fault") {
+        return Ok(Line::WhereFault {
+            done: is_set(matches, "done"),
+            force: is_set(matches, "force"),
+        });
+    }
+    match number_of(matches, "number") {
+        Some(command) => Ok(Line::Where(command)),
+        None => Err(unknown(alloc)),
     }
 }
 
@@ -225,10 +287,15 @@ fn file_line<'a>(
             file,
             revision: word_of(alloc, matches, "rev")?,
         }),
-        "batch" => Ok(Line::Batch {
-            check: is_set(matches, "check"),
-            file,
-        }),
+        "batch" => match batch_form_of(matches) {
+            Some(form) => Ok(Line::Batch {
+                form,
+                format: option_of(matches, "format"),
+                nul: is_set(matches, "nul"),
+                file,
+            }),
+            None => Err(unknown(alloc)),
+        },
         _ => list_line(alloc, name, matches, file),
     }
 }
@@ -276,89 +343,23 @@ fn list_line<'a>(
                 reverse: is_set(matches, "reverse"),
                 max_count: number_of(matches, "max-count"),
                 parents: is_set(matches, "parents"),
+                all: is_set(matches, "all"),
+                stdin: is_set(matches, "stdin"),
+                format: format_of(alloc, matches)?,
             },
             file,
-            ranges: words_of(alloc, matches, "range")?,
+            ranges: any_words_of(alloc, matches, "range")?,
         }),
         "drop" => Ok(Line::Drop {
             file,
-            refs: words_of(alloc, matches, "ref")?,
+            refs: any_words_of(alloc, matches, "ref")?,
+            stdin: is_set(matches, "stdin"),
         }),
         "rev-parse" => Ok(Line::RevParse {
             file,
             revisions: words_of(alloc, matches, "rev")?,
         }),
         _ => Err(unknown(alloc)),
-    }
-}
-
-/// The word of a positional argument, which clap makes sure of.
-fn word_of<'a>(alloc: Global, matches: &ArgMatches<'a>, id: &str) -> Result<&'a str, LineFault>
-    ensures { IfOk result (λ word. first_of id.now (rows_of (found_of matches.now)) ≡ Some word.now) }
-{
-    match matches.get_str(id) {
-        Some(word) => Ok(word),
-        None => Err(unknown(alloc)),
-    }
-}
-
-/// The words of a positional argument that takes several, which clap makes sure of.
-fn words_of<'a>(
-    alloc: Global,
-    matches: &ArgMatches<'a>,
-    id: &str,
-) -> Result<Vec<&'a str>, LineFault>
-    ensures { IfOk result (λ words. say.AreWords id.now (rows_of (found_of matches.now)) words.items) }
-{
-    match matches.get_strs(id) {
-        Some(words) => Ok(Vec::from_slice(alloc, words)?),
-        None => Err(unknown(alloc)),
-    }
-}
-
-/// The form that an export is asked for in. There is none where `--no-done` stands alone, of which clap makes sure.
-fn form_of(matches: &ArgMatches<'_>) -> Option<ExportForm>
-    ensures { IfSome result (λ form. say.IsForm (rows_of (found_of matches.now)) form) }
-{
-    let no_done = is_set(matches, "no-done");
-    if is_set(matches, "changes") {
-        Some(ExportForm::Changes { done: !no_done })
-    } else if no_done {
-        None
-    } else {
-        Some(ExportForm::FullTree)
-    }
-}
-
-/// Whether a flag is given.
-fn is_set(matches: &ArgMatches<'_>, id: &str) -> bool
-    ensures { say.IsFlag id.now (rows_of (found_of matches.now)) result }
-{
-    matches.get_flag(id)
-}
-
-/// The text of an option, which is empty where the option isn't given.
-fn text_of<'a>(matches: &ArgMatches<'a>, id: &str) -> &'a str
-    ensures { say.IsText id.now (rows_of (found_of matches.now)) result }
-{
-    match matches.get_str(id) {
-        Some(text) => text,
-        None => "",
-    }
-}
-
-/// The number of an option, which clap has checked.
-fn number_of(matches: &ArgMatches<'_>, id: &str) -> Option<u64>
-    ensures { say.IsNumber id.now (rows_of (found_of matches.now)) result }
-{
-    matches.get_one(id)
-}
-
-/// Clap took the words for a command that it wasn't told of, which it never does.
-fn unknown(alloc: Global) -> LineFault {
-    LineFault::Status {
-        status: 2,
-        text: String::new(alloc),
     }
 }
 

@@ -3,4 +3,4 @@
 
 mod command_line;
 
-pub use command_line::{ExportForm, Line, LineFault, LogOptions, read_line};
+pub use command_line::{BatchForm, ExportForm, Line, LineFault, LogFormat, LogOptions, read_line};

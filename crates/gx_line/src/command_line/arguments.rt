@@ -57,6 +57,17 @@ pub(super) fn flag<'a>(alloc: Global, id: &'a str, help: &'a str) -> Arg<'a>
         .help(help)
 }
 
+/// A flag that is given by a letter alone.
+pub(super) fn letter<'a>(alloc: Global, id: &'a str, letter: char, help: &'a str) -> Arg<'a>
+    ensures rule { rule_of result ≡ say.letter id.entry.now letter }
+    ensures local { result.global ≡ false }
+{
+    Arg::new(alloc, id)
+        .short(letter)
+        .action(ArgAction::SetTrue)
+        .help(help)
+}
+
 /// An option with a text, which is given by its id. Help shows the text by `shown`.
 pub(super) fn text<'a>(alloc: Global, id: &'a str, shown: &'a str, help: &'a str) -> Arg<'a>
     ensures rule { rule_of result ≡ say.text id.entry.now }

@@ -6,7 +6,7 @@ ghost use Rattle.clap.specs.Words.{App, app_of, new_app, rule_of};
 ghost use Rattle.clap.specs.declared.builder.command.Command.TheViews.{out-Command as fields_of};
 ghost use Rattle.gx_line.specs.CommandLine as say;
 
-use super::arguments::{any_words, flag, number, one_word, revision, text, words};
+use super::arguments::{any_words, flag, letter, number, one_word, revision, text, words};
 use super::manual::{self, Page, commits, objects, stores, streams};
 use clap::{Arg, Command};
 use std::alloc::{AllocError, Global};
@@ -43,9 +43,7 @@ fn with_stream_commands<'a>(
     let try_command = with_argument(with_features(alloc, tried), explain(alloc));
     let gx = with_command(gx, try_command);
     let gx = with_command(gx, adapt_command(alloc));
-    let number = number(alloc, "number", "The number of a command, from 1").required(true);
-    let where_command = with_argument(Ok(command(alloc, "where", streams::WHERE)), number);
-    with_command(gx, where_command)
+    with_command(gx, where_command(alloc))
 }
 
 fn adapt_command<'a>(alloc: Global) -> Result<Command<'a>, AllocError>
@@ -60,6 +58,26 @@ fn adapt_command<'a>(alloc: Global) -> Result<Command<'a>, AllocError>
     with_argument(Ok(command(alloc, "adapt", streams::ADAPT)), drop_signatures)
 }
 
+fn where_command<'a>(alloc: Global) -> Result<Command<'a>, AllocError>
+    ensures { say.Makes result say.where_command }
+{
+    let place = number(alloc, "number", "The number of a command, from 1").required_unless_present(
+        "fault",
+    )?;
+    let fault = flag(
+        alloc,
+        "fault",
+        "Tells what an import into an empty store is refused for",
+    )
+    .conflicts_with("number")?;
+    let done = done(alloc).requires_arg("fault")?;
+    let force = force(alloc).requires_arg("fault")?;
+    let placed = with_argument(Ok(command(alloc, "where", streams::WHERE)), place);
+    let placed = with_argument(placed, fault);
+    let placed = with_argument(placed, done);
+    with_argument(placed, force)
+}
+
 /// What a command that imports can be asked for, as if its stream began with it.
 fn with_features<'a>(
     alloc: Global,
@@ -67,20 +85,32 @@ fn with_features<'a>(
 ) -> Result<Command<'a>, AllocError>
     ensures { (a : App) → say.Makes command.entry a → say.Makes result (say.with_features a) }
 {
-    let done = flag(
+    let with_done = with_argument(command, done(alloc));
+    with_argument(with_done, force(alloc))
+}
+
+fn done<'a>(alloc: Global) -> Arg<'a>
+    ensures rule { rule_of result ≡ say.done }
+    ensures local { result.global ≡ false }
+{
+    flag(
         alloc,
         "done",
         "The stream has to end with the command 'done', as if it began\n\
          with 'feature done'",
-    );
-    let force = flag(
+    )
+}
+
+fn force<'a>(alloc: Global) -> Arg<'a>
+    ensures rule { rule_of result ≡ say.force }
+    ensures local { result.global ≡ false }
+{
+    flag(
         alloc,
         "force",
         "Branches may lose commits, as if the stream began\n\
          with 'feature force'",
-    );
-    let with_done = with_argument(command, done);
-    with_argument(with_done, force)
+    )
 }
 
 /// What a command that imports can be asked to tell.
@@ -127,8 +157,19 @@ fn import_command<'a>(alloc: Global) -> Result<Command<'a>, AllocError>
 fn drop_command<'a>(alloc: Global) -> Result<Command<'a>, AllocError>
     ensures { say.Makes result say.drop_command }
 {
-    let refs = words(alloc, "ref", "REF", "Names of refs, as gx refs prints them");
-    with_argument(file_command(alloc, "drop", stores::DROP), refs)
+    let refs = any_words(
+        alloc,
+        "ref",
+        "REF",
+        "Names of refs, as gx refs prints them",
+    ).required_unless_present("stdin")?;
+    let stdin = flag(
+        alloc,
+        "stdin",
+        "Takes further names from standard input, one a line",
+    );
+    let dropping = with_argument(file_command(alloc, "drop", stores::DROP), refs);
+    with_argument(dropping, stdin)
 }
 
 fn gc_command<'a>(alloc: Global) -> Result<Command<'a>, AllocError>
@@ -181,13 +222,7 @@ fn with_tree_commands<'a>(
     let gx = with_command(gx, show);
     let gx = with_command(gx, ls_command(alloc));
     let gx = with_command(gx, archive_command(alloc));
-    let check = flag(
-        alloc,
-        "check",
-        "Leaves out the bytes of each object and the line feed behind them",
-    );
-    let batch = with_argument(file_command(alloc, "batch", objects::BATCH), check);
-    with_command(gx, batch)
+    with_command(gx, batch_command(alloc))
 }
 
 fn ls_command<'a>(alloc: Global) -> Result<Command<'a>, AllocError>
@@ -219,6 +254,33 @@ fn archive_command<'a>(alloc: Global) -> Result<Command<'a>, AllocError>
     with_argument(archive, prefix)
 }
 
+fn batch_command<'a>(alloc: Global) -> Result<Command<'a>, AllocError>
+    ensures { say.Makes result say.batch_command }
+{
+    let check = flag(
+        alloc,
+        "check",
+        "Leaves out the bytes of each object and the line feed behind them",
+    );
+    let commands = flag(
+        alloc,
+        "command",
+        "Takes each line for a command, as the list below has them",
+    )
+    .conflicts_with("check")?;
+    let format = text(
+        alloc,
+        "format",
+        "FORMAT",
+        "What is told of each object, in place of its name, kind and size",
+    );
+    let nul = letter(alloc, "nul", 'z', "Each line of the input ends with a NUL");
+    let batch = with_argument(file_command(alloc, "batch", objects::BATCH), check);
+    let batch = with_argument(batch, commands);
+    let batch = with_argument(batch, format);
+    with_argument(batch, nul)
+}
+
 /// The commands with a list of words.
 fn with_commit_commands<'a>(
     alloc: Global,
@@ -236,27 +298,56 @@ fn with_commit_commands<'a>(
 fn log_command<'a>(alloc: Global) -> Result<Command<'a>, AllocError>
     ensures { say.Makes result say.log_command }
 {
-    let ranges = words(alloc, "range", "RANGE", "Commits, as gx --help has it");
     let reverse = flag(
         alloc,
         "reverse",
         "Turns the list, so that the oldest commit comes first",
+    );
+    let parents = flag(
+        alloc,
+        "parents",
+        "Prints the names of its parents behind each commit",
+    )
+    .conflicts_with("format")?;
+    let format = text(
+        alloc,
+        "format",
+        "FORMAT",
+        "What is printed of each commit, in place of its name: oneline,\n\
+         raw, subject, author or dates",
+    );
+    let log = with_argument(chosen_command(alloc), reverse);
+    let log = with_argument(log, parents);
+    with_argument(log, format)
+}
+
+/// The arguments of `log` that choose commits.
+fn chosen_command<'a>(alloc: Global) -> Result<Command<'a>, AllocError>
+    ensures { say.Makes result say.chosen_command }
+{
+    let ranges = any_words(
+        alloc,
+        "range",
+        "RANGE",
+        "Commits, as gx --help has it: with none, those of all refs",
+    );
+    let all = flag(alloc, "all", "Lists the commits of all refs, too");
+    let stdin = flag(
+        alloc,
+        "stdin",
+        "Takes further RANGEs from standard input, one a line",
     );
     let max_count = number(
         alloc,
         "max-count",
         "Lists N commits at most, counted before --reverse turns them",
     )
-    .long("max-count");
-    let parents = flag(
-        alloc,
-        "parents",
-        "Prints the names of its parents behind each commit",
-    );
+    .long("max-count")
+    .short('n');
     let log = with_argument(file_command(alloc, "log", commits::LOG), ranges);
-    let log = with_argument(log, reverse);
-    let log = with_argument(log, max_count);
-    with_argument(log, parents)
+    let log = with_argument(log, all);
+    let log = with_argument(log, stdin);
+    with_argument(log, max_count)
 }
 
 /// A command whose first word is the store file.

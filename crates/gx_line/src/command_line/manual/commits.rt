@@ -8,16 +8,25 @@ pub(crate) const LOG: Page = Page {
     description: "\
 Lists the commits of ranges, the newest first: the one that was made last.
 
-A commit is listed where one of the words includes it and none excludes it.",
+A commit is listed where one of the words includes it and none excludes it.
+With --all, or where no word and no --stdin is given, each ref is one more word.
+With --stdin each line of standard input is one more word, behind the others.",
     details: "\
 Output:
   A line for each commit: 40 digits of its name, and with --parents a space and
-  40 digits for each parent, the first parent first.
+  40 digits for each parent, the first parent first. With --format=
+    oneline  its name, a space and the subject
+    raw      a line commit and its name, its header, an empty line and its
+             message, indented by four spaces; an empty line stands between
+    subject  the subject, which is the first paragraph of the message in a line
+    author   its name, a space and the author's name and mail
+    dates    its name, and the seconds of the author's and the committer's time
 
 Refusals:
-  gx: read failed
+  gx: read failed       FILE or standard input can't be read
   gx: store: KIND       as gx --help has it
-  gx: revision N: KIND  the Nth RANGE, as gx --help has it
+  gx: revision N: KIND  the Nth RANGE, as gx --help has it: those of the command
+                        line first, then those of standard input
   gx: write failed
   gx: out of memory",
 };

@@ -26,7 +26,10 @@ pub(crate) const LS: Page = Page {
     about: "Lists the entries of a revision's tree",
     description: "\
 Lists the entries of the tree that a revision gives: the tree itself, that of a
-commit, or that of a tag's commit.",
+commit, or that of a tag's commit.
+
+With --recursive the files are printed as they are found, so that what is
+refused may stand behind a front of the list.",
     details: "\
 Output:
   A line for each entry, in the order of the tree: six digits of mode, a space,
@@ -50,8 +53,10 @@ pub(crate) const ARCHIVE: Page = Page {
 Writes the tree that a revision gives as a tar archive: the tree itself, that of
 a commit, or that of a tag's commit.
 
-It is what git archive --format=tar writes where no attributes are set. None are
-read here: no file is left out, and no word in a file is replaced.",
+It is what git archive --format=tar writes where no attributes are set and
+core.autocrlf isn't. Neither is applied here: no file is left out, no word in a
+file is replaced, and no line ends otherwise. PREFIX is taken as it is given, as
+bytes of UTF-8.",
     details: "\
 Output:
   The archive, as it is made: the name of the commit, where there is one, and
@@ -70,10 +75,10 @@ Refusals:
 
 /// The page of `batch`.
 pub(crate) const BATCH: Page = Page {
-    about: "Shows what each line of standard input gives, which is a revision",
+    about: "Answers each line of standard input: a revision or a command",
     description: "\
 Shows what each line of standard input gives, which is a revision, as
-git cat-file --batch does.
+git cat-file --batch does. With --command each line is a command.
 
 The store is read once. Each answer is sent as soon as it is made. A read or a
 write that fails ends the command.",
@@ -86,7 +91,21 @@ Output, for each line:
   of an abbreviation    the line, a space and ambiguous, where the names of
                         several objects begin so
 
+FORMAT is what stands on the line of an object: text with %(objectname),
+%(objecttype) and %(objectsize), and %% for a percent sign.
+
+Commands, with --command:
+  contents REV          what a batch prints of the line REV
+  info REV              the same with --check
+  flush                 nothing: each answer is sent at once
+  ls REV, ls -r REV, refs, log RANGE..., rev-parse REV..., archive REV
+                        the command, a space, the number of bytes, a line feed,
+                        what gx prints for it, and a line feed; of a word that
+                        gives nothing, what a batch prints of it
+  any other             the line, a space and unknown
+
 Refusals:
+  gx: BadFormat         FORMAT has another word behind a percent sign
   gx: read failed       FILE or standard input can't be read
   gx: store: KIND       as gx --help has it
   gx: write failed

@@ -77,19 +77,21 @@ pub(crate) const DROP: Page = Page {
     description: "\
 Drops refs from a store: all of these, or none.
 
-Each REF is a whole name, as gx refs prints it. The other refs stay, and so do
-all objects. The next store is written to FILE.new, which then takes the place
-of FILE.",
+Each REF is a whole name, as gx refs prints it. With --stdin each line of
+standard input is one more name, behind those of the command line. The other
+refs stay, and so do all objects. The next store is written to FILE.new, which
+then takes the place of FILE.",
     details: "\
 Output:
   None.
 
 Refusals, each of which leaves FILE as it was:
-  gx: read failed
+  gx: read failed       FILE or standard input can't be read
   gx: lock failed       as gx --help has it
   gx: store: KIND       as gx --help has it
   gx: revision N: UnknownRef
-                        the Nth REF is no ref's name, or is given before
+                        the Nth REF is no ref's name, or is given before:
+                        those of the command line first
   gx: write failed
   gx: out of memory",
 };

@@ -74,19 +74,23 @@ Refusals:
 
 /// The page of `where`.
 pub(crate) const WHERE: Page = Page {
-    about: "Tells where the Nth command of a stream begins",
+    about: "Tells where a stream's Nth command begins, or what is refused",
     description: "\
 Tells where the Nth command of the stream on standard input begins, so that
 what an import refused by its number is found.
 
 The commands before it are read as an import reads them. Where N is one more
-than there are commands, it is the end. The stream is held in memory.",
+than there are commands, it is the end. The stream is held in memory.
+
+With --fault the stream is imported into an empty store of which nothing is
+kept, and what it is refused for is told as gx import --explain tells it.",
     details: "\
-Output:
+Output, with N:
   The number of its first line, from 1, the byte at which it begins, from 0,
   and that line, with colons between, as grep -bn prints a line.
 
 Refusals:
+  gx: command N: KIND          with --fault, as gx import --help has it
   gx: where: no such command   N is 0, or there are fewer commands
   gx: where: command M: KIND   the Mth command, before it, is refused
   gx: where: read failed       the stream has 2^63 bytes or more

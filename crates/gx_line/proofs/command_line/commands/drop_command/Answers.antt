@@ -1,9 +1,12 @@
-use Rattle.std.proofs.Common.{codes, subst}
+use Rattle.std.proofs.Common.{ap, codes, subst, ◌∙◌}
 use Rattle.clap.specs.Words.{with_rule}
-use Rattle.gx_line.specs.CommandLine.{Makes, file_command}
+use Rattle.gx_line.specs.CommandLine.{Makes, bound, file_command, refs}
+use Rattle.gx_line.proofs.NeededArguments.{unless_rule}
 use Rattle.gx_line.proofs.command_line.commands.drop_command.Goals as goal
 
 pub returns : goal.returns
 returns c =
     let file = file_command (codes "drop") in
-    subst (λ r. Makes c.with_argument.result (with_rule file r)) c.words-refs.ensures.rule (c.with_argument.ensures file c.file_command.ensures)
+    let needed = unless_rule c.any_words.result c.in_ok-refs.refs _ c.in_ok-refs.ensures ∙ ap bound c.any_words.ensures.rule in
+    let first = subst (λ r. Makes c.with_argument-dropping.result (with_rule file r)) needed (c.with_argument-dropping.ensures file c.file_command.ensures) in
+    subst (λ r. Makes c.with_argument.result (with_rule (with_rule file refs) r)) c.flag-stdin.ensures.rule (c.with_argument.ensures (with_rule file refs) first)

@@ -5,5 +5,5 @@ use Rattle.gx_line.proofs.command_line.commands.with_features.Goals as goal
 
 pub returns : goal.returns
 returns c = λ a h.
-    let first = subst (λ r. Makes c.with_argument-with_done.result (with_rule a r)) c.flag-done.ensures.rule (c.with_argument-with_done.ensures a h) in
-    subst (λ r. Makes c.with_argument.result (with_rule (with_rule a done) r)) c.flag-force.ensures.rule (c.with_argument.ensures (with_rule a done) first)
+    let first = subst (λ r. Makes c.with_argument-with_done.result (with_rule a r)) c.done.ensures.rule (c.with_argument-with_done.ensures a h) in
+    subst (λ r. Makes c.with_argument.result (with_rule (with_rule a done) r)) c.force.ensures.rule (c.with_argument.ensures (with_rule a done) first)

@@ -1,5 +1,5 @@
-use Rattle.std.proofs.Common.{ap, codes, subst, true, ◌∙◌}
-use Rattle.clap.specs.Words.{Rule, new_app, rule_of, with_rule}
+use Rattle.std.proofs.Common.{codes, subst}
+use Rattle.clap.specs.Words.{new_app, with_rule}
 use Rattle.gx_line.specs.CommandLine.{Makes, adapt_command, revision, try_command, under, where_command, with_features}
 use Rattle.gx_line.proofs.command_line.commands.with_stream_commands.Goals as goal
 
@@ -8,13 +8,11 @@ returns c = λ a h.
     let one = under a (new_app (codes "blobs")) in
     let two = under one try_command in
     let three = under two adapt_command in
-    let needed = ap (λ a. rule_of a) c.required-number.ensures ∙ ap (λ (r : Rule). record r { required = true }) c.number.ensures.rule in
     let of_revision = subst (λ r. Makes c.with_argument-tried.result (with_rule (new_app (codes "try")) r)) c.revision.ensures.rule (c.with_argument-tried.ensures (new_app (codes "try")) (c.command-2.ensures.app, c.command-2.ensures.local)) in
     let asked = with_rule (new_app (codes "try")) revision in
     let featured = c.with_features.ensures asked of_revision in
     let tried = subst (λ r. Makes c.with_argument-try_command.result (with_rule (with_features asked) r)) c.explain.ensures.rule (c.with_argument-try_command.ensures (with_features asked) featured) in
-    let placed = subst (λ r. Makes c.with_argument-where_command.result (with_rule (new_app (codes "where")) r)) needed (c.with_argument-where_command.ensures (new_app (codes "where")) (c.command-3.ensures.app, c.command-3.ensures.local)) in
     let first = c.with_command-gx.ensures a (new_app (codes "blobs")) h (c.command.ensures.app, c.command.ensures.local) in
     let second = c.with_command-gx-2.ensures one try_command first tried in
     let third = c.with_command-gx-3.ensures two adapt_command second c.adapt_command.ensures in
-    c.with_command.ensures three where_command third placed
+    c.with_command.ensures three where_command third c.where_command.ensures

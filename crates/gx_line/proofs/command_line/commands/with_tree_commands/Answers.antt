@@ -9,8 +9,7 @@ returns c = λ a h.
     let two = under one ls_command in
     let three = under two archive_command in
     let show = subst (λ r. Makes c.with_argument-show.result (with_rule (file_command (codes "show")) r)) c.revision.ensures.rule (c.with_argument-show.ensures (file_command (codes "show")) c.file_command.ensures) in
-    let batch = subst (λ r. Makes c.with_argument-batch.result (with_rule (file_command (codes "batch")) r)) c.flag-check.ensures.rule (c.with_argument-batch.ensures (file_command (codes "batch")) c.file_command-2.ensures) in
     let first = c.with_command-gx.ensures a show_command h show in
     let second = c.with_command-gx-2.ensures one ls_command first c.ls_command.ensures in
     let third = c.with_command-gx-3.ensures two archive_command second c.archive_command.ensures in
-    c.with_command.ensures three batch_command third batch
+    c.with_command.ensures three batch_command third c.batch_command.ensures

@@ -3,7 +3,7 @@ use Rattle.std.specs.Str.Parse.{ExplainsUnsignedError, HasUnsignedDigitsIfOk, Pa
 use Rattle.clap.specs.Words.{found_of}
 use Rattle.clap.proofs.WalkLemmas.{one_text-rows}
 use Rattle.gx_line.proofs.Weaker.{reads_weaker}
-use Rattle.gx_line.proofs.command_line.number_of.Goals as goal
+use Rattle.gx_line.proofs.command_line.values.number_of.Goals as goal
 
 pub returns : goal.returns
 returns c =

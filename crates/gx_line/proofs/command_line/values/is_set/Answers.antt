@@ -1,7 +1,7 @@
 use Rattle.std.proofs.Common.{◌∙◌}
 use Rattle.clap.specs.Words.{found_of}
 use Rattle.clap.proofs.WalkLemmas.{one_text-rows}
-use Rattle.gx_line.proofs.command_line.is_set.Goals as goal
+use Rattle.gx_line.proofs.command_line.values.is_set.Goals as goal
 
 pub returns : goal.returns
 returns c =

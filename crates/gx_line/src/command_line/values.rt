@@ -1,0 +1,162 @@
+//! What clap found for the arguments of a command.
+
+ghost use Rattle.std.specs.Prelude.{◌≡◌, IfOk, IfSome, Some};
+ghost use Rattle.clap.specs.Words.{first_of, found_of, rows_of};
+ghost use Rattle.gx_line.specs.CommandLine as say;
+
+use super::{BatchForm, ExportForm, LineFault, LogFormat};
+use clap::ArgMatches;
+use std::alloc::Global;
+
+/// What is said of a format that there isn't, in the manner of clap.
+const NO_FORMAT: &str = "\
+error: invalid value for '--format <FORMAT>'
+  [possible values: oneline, raw, subject, author, dates]
+
+For more information, try '--help'.
+";
+
+/// The word of a positional argument, which clap makes sure of.
+pub(super) fn word_of<'a>(
+    alloc: Global,
+    matches: &ArgMatches<'a>,
+    id: &str,
+) -> Result<&'a str, LineFault>
+    ensures { IfOk result (λ word. first_of id.now (rows_of (found_of matches.now)) ≡ Some word.now) }
+{
+    match matches.get_str(id) {
+        Some(word) => Ok(word),
+        None => Err(unknown(alloc)),
+    }
+}
+
+/// The words of a positional argument that takes several, which clap makes sure of.
+pub(super) fn words_of<'a>(
+    alloc: Global,
+    matches: &ArgMatches<'a>,
+    id: &str,
+) -> Result<Vec<&'a str>, LineFault>
+    ensures { IfOk result (λ words. say.AreWords id.now (rows_of (found_of matches.now)) words.items) }
+{
+    match matches.get_strs(id) {
+        Some(words) => Ok(Vec::from_slice(alloc, words)?),
+        None => Err(unknown(alloc)),
+    }
+}
+
+/// The words of a positional argument that may be left out.
+pub(super) fn any_words_of<'a>(
+    alloc: Global,
+    matches: &ArgMatches<'a>,
+    id: &str,
+) -> Result<Vec<&'a str>, LineFault>
+    ensures { IfOk result (λ words. say.AreAnyWords id.now (rows_of (found_of matches.now)) words.items) }
+{
+    match matches.get_strs(id) {
+        Some(words) => Ok(Vec::from_slice(alloc, words)?),
+        None => Ok(Vec::new(alloc)),
+    }
+}
+
+/// The form that an export is asked for in. There is none where `--no-done` stands alone, of which clap makes sure.
+pub(super) fn form_of(matches: &ArgMatches<'_>) -> Option<ExportForm>
+    ensures { IfSome result (λ form. say.IsForm (rows_of (found_of matches.now)) form) }
+{
+    let no_done = is_set(matches, "no-done");
+    if is_set(matches, "changes") {
+        Some(ExportForm::Changes { done: !no_done })
+    } else if no_done {
+        None
+    } else {
+        Some(ExportForm::FullTree)
+    }
+}
+
+/// What a batch is asked for. There is none where `--check` and `--command` stand together, of which clap makes sure.
+pub(super) fn batch_form_of(matches: &ArgMatches<'_>) -> Option<BatchForm>
+    ensures { IfSome result (λ form. say.IsBatchForm (rows_of (found_of matches.now)) form) }
+{
+    let check = is_set(matches, "check");
+    if is_set(matches, "command") {
+        if check {
+            None
+        } else {
+            Some(BatchForm::Commands)
+        }
+    } else if check {
+        Some(BatchForm::Check)
+    } else {
+        Some(BatchForm::Bytes)
+    }
+}
+
+/// The format that a list of commits is asked for in.
+pub(super) fn format_of(alloc: Global, matches: &ArgMatches<'_>) -> Result<LogFormat, LineFault>
+    ensures { IfOk result (λ format. say.IsLogFormat (rows_of (found_of matches.now)) format) }
+{
+    match option_of(matches, "format") {
+        None => Ok(LogFormat::Names),
+        Some(word) => format_named(alloc, word),
+    }
+}
+
+/// The format that a word asks for.
+fn format_named(alloc: Global, word: &str) -> Result<LogFormat, LineFault>
+    ensures { IfOk result (λ format. say.format_word format ≡ Some word.now) }
+{
+    match word {
+        "oneline" => Ok(LogFormat::Oneline),
+        "raw" => Ok(LogFormat::Raw),
+        "subject" => Ok(LogFormat::Subject),
+        "author" => Ok(LogFormat::Author),
+        "dates" => Ok(LogFormat::Dates),
+        _ => Err(no_format(alloc)),
+    }
+}
+
+/// What is answered to a word that asks for none.
+fn no_format(alloc: Global) -> LineFault {
+    match format!(in alloc; "{NO_FORMAT}") {
+        Ok(text) => LineFault::Status { status: 2, text },
+        Err(_) => LineFault::OutOfMemory,
+    }
+}
+
+/// Whether a flag is given.
+pub(super) fn is_set(matches: &ArgMatches<'_>, id: &str) -> bool
+    ensures { say.IsFlag id.now (rows_of (found_of matches.now)) result }
+{
+    matches.get_flag(id)
+}
+
+/// The text of an option, which is empty where the option isn't given.
+pub(super) fn text_of<'a>(matches: &ArgMatches<'a>, id: &str) -> &'a str
+    ensures { say.IsText id.now (rows_of (found_of matches.now)) result }
+{
+    match matches.get_str(id) {
+        Some(text) => text,
+        None => "",
+    }
+}
+
+/// The text of an option, where the option is given.
+pub(super) fn option_of<'a>(matches: &ArgMatches<'a>, id: &str) -> Option<&'a str>
+    ensures { say.IsOption id.now (rows_of (found_of matches.now)) result }
+{
+    matches.get_str(id)
+}
+
+/// The number of an option, which clap has checked.
+pub(super) fn number_of(matches: &ArgMatches<'_>, id: &str) -> Option<u64>
+    ensures { say.IsNumber id.now (rows_of (found_of matches.now)) result }
+{
+    matches.get_one(id)
+}
+
+/// Clap took the words for a command that it wasn't told of, which it never does.
+pub(super) fn unknown(alloc: Global) -> LineFault {
+    LineFault::Status {
+        status: 2,
+        text: String::new(alloc),
+    }
+}

@@ -1,6 +1,6 @@
 #!/usr/bin/env python3
-"""Looks at what `gx import --explain` and `gx try --explain` tell of refused streams, which come through pipes in pieces: `explained.py GX`, with the built
-program. In each stream `@@` stands before the faulty item, so that its line and byte are known. Says `N passed, M failed`, with status 1 where M isn't 0."""
+"""Looks at what `gx import --explain`, `gx try --explain` and `gx where --fault` tell of refused streams, which come through pipes in pieces:
+`explained.py GX`, with the built program. In each stream `@@` stands before the faulty item, so that its line and byte are known. Says `N passed, M failed`, with status 1 where M isn't 0."""
 import os
 import random
 import subprocess
@@ -125,6 +125,7 @@ def try_case(kind, front, text, further):
         ("import", ["import", "--explain", *words, "store"], 100000),
         ("import in small pieces", ["--explain", "import", *words, "store"], 3),
         ("try", ["try", "--explain", *words, "refs/heads/main"], 50),
+        ("where", ["where", "--fault", *words], 20),
     ):
         fresh()
         status, err = run(line, stream, most)
@@ -173,6 +174,10 @@ def try_others():
     fresh(b"no store")
     status, err = run(["import", "--explain", "store"], FRONT, 1000)
     want("a store that isn't read explains nothing", (status, err) == (1, b"gx: store: Truncated\n"), err)
+    status, err = run(["where", "--fault"], FRONT, 1000)
+    want("an accepted stream has no fault", (status, err) == (0, b""), err)
+    status, err = run(["where", "--fault"], b"progress 1\nprogress 2\n", 1000)
+    want("nor has one of progress lines, which are not printed", (status, err) == (0, b""), err)
     status, err = run(["try", "--explain", "nothing"], FRONT, 1000)
     want("a revision explains nothing", (status, err) == (1, b"gx: revision 1: UnknownRef\n"), err)
 

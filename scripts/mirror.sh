@@ -34,7 +34,7 @@ all=$(there)
 refs=$(fitting <<< "$all")
 [ -e "$store" ] || "$gx" init -- "$store"
 mapfile -t gone < <(comm -23 <(here | names) <(wanted | names))
-[ ${#gone[@]} -eq 0 ] || printf '%s\0' "${gone[@]}" | xargs -0 "$gx" drop -- "$store"
+[ ${#gone[@]} -eq 0 ] || printf '%s\n' "${gone[@]}" | "$gx" drop --stdin -- "$store"
 # what the store's refs reach, the store has; git may not have it any more
 known=$(here | cut -d ' ' -f 1 | git -C "$repository" cat-file --batch-check | sed '/ missing$/d; s/ .*//; s/^/^/')
 bring "$known"

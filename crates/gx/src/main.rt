@@ -39,7 +39,7 @@ use std::fs::File;
 use std::hash::RandomState;
 use std::process::ExitCode;
 use std::{env, io};
-use trying::try_stream;
+use trying::{find_stream_fault, try_stream};
 use words::run_arguments;
 
 fn main(rt: HostRuntime) -> ExitCode {
@@ -94,7 +94,11 @@ fn file_of<'a>(line: &Line<'a>) -> Option<&'a str> {
         | Line::Refs { file }
         | Line::Log { file, .. }
         | Line::RevParse { file, .. } => Some(*file),
-        Line::Blobs | Line::Where(_) | Line::Try { .. } | Line::Adapt { .. } => None,
+        Line::Blobs
+        | Line::Where(_)
+        | Line::WhereFault { .. }
+        | Line::Try { .. }
+        | Line::Adapt { .. } => None,
     }
 }
 
@@ -116,7 +120,11 @@ fn run_command(run: &Run<'_>, line: &Line<'_>, state: RandomState) -> Result<(),
             run.explain_if(*explain);
             return import(run, file, features, *report, state);
         }
-        Line::Drop { file, refs: _ } => return drop_refs(run, line, file, state),
+        Line::Drop {
+            file,
+            refs: _,
+            stdin: _,
+        } => return drop_refs(run, line, file, state),
         Line::Gc { file, report } => return collect(run, file, *report, state),
         Line::Blobs | Line::Where(_) => refusal(&stream(run, line, state)),
         Line::Try {
@@ -132,8 +140,16 @@ fn run_command(run: &Run<'_>, line: &Line<'_>, state: RandomState) -> Result<(),
             run.explain_if(*explain);
             try_stream(run, revision, features, state)
         }
+        Line::WhereFault { done, force } => {
+            let features = Features {
+                done: *done,
+                force: *force,
+            };
+            run.explain_if(true);
+            find_stream_fault(run, features, state)
+        }
         Line::Adapt { drop_signatures } => adapt(run, *drop_signatures),
-        Line::Batch { check: _, file } => batch(run, line, file, state),
+        Line::Batch { file, .. } => batch(run, line, file, state),
         Line::Export { form: _, file }
         | Line::ExportRange {
             done: _,
@@ -209,7 +225,7 @@ fn drop_locked(
     end(run, next, &outcome)
 }
 
-/// Serves a command that makes a next text of a store's, and reads and prints nothing.
+/// Serves a command that makes a next text of a store's, and prints nothing.
 fn serve_given(
     run: &Run<'_>,
     line: &Line<'_>,

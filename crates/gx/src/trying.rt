@@ -1,12 +1,13 @@
-//! The command `try`, which imports standard input into an empty store, and shows a revision of it.
+//! The commands that import standard input into an empty store of which nothing is kept.
 
 use crate::explaining::explain;
 use crate::progress::{Beside, ProgressLine};
 use crate::run::Run;
 use crate::traced::Traced;
-use gx_cli::{CliFault, Explanation, Features, try_revision};
+use gx_cli::{CliFault, Explanation, Features, find_fault, try_revision};
 use gx_object::Sha1Namer;
 use gx_text::{FromRead, IntoWrite};
+use std::alloc::Global;
 use std::hash::RandomState;
 
 /// Tries standard input, and shows how far its import is.
@@ -30,8 +31,39 @@ pub(crate) fn try_stream(
         &mut told,
     );
     progress.clear();
+    explained(run, &input, answer, &told)
+}
+
+/// Finds what an import of standard input is refused for, and shows how far it is.
+pub(crate) fn find_stream_fault(
+    run: &Run<'_>,
+    features: Features,
+    state: RandomState,
+) -> Result<(), CliFault> {
+    let progress = ProgressLine::new(run);
+    let mut input = Traced::input(run, &progress);
+    let mut told = Explanation::none();
+    let answer = find_fault(
+        run.rt.alloc(),
+        Sha1Namer,
+        FromRead::new(&mut input),
+        features,
+        state,
+        &mut told,
+    );
+    progress.clear();
+    explained(run, &input, answer, &told)
+}
+
+/// An answer, where the lines that explain a refusal are kept, to be told behind it.
+fn explained(
+    run: &Run<'_>,
+    input: &Traced<'_>,
+    answer: Result<(), CliFault>,
+    told: &Explanation<Global>,
+) -> Result<(), CliFault> {
     if let Err(fault) = answer {
-        run.explain(explain(run, &input, &fault, &told));
+        run.explain(explain(run, input, &fault, told));
     }
     answer
 }

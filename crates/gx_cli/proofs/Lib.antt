@@ -11,11 +11,16 @@ pub mod Pieces
 pub mod StoredAnswers
 pub mod StoredImports
 pub mod WordsRead
+pub mod SplitWords
+pub mod SentReplies
+pub mod CommandAnswers
+pub mod FormattedLines
 pub mod ReadStores
 pub mod ExportedStores
 pub mod RoundTrips
 pub mod ChangesTrips
 pub mod Gathered
+pub mod GatheredLines
 pub mod SentRanges
 pub mod ServedLines
 pub mod DroppedStores
@@ -23,3 +28,8 @@ pub mod CollectedStores
 pub mod ReportedImports
 pub mod FormsAgain
 pub mod ExplainedImports
+pub mod FoundFaults
+pub mod LoggedLines
+pub mod MarkedNames
+pub mod MessageTexts
+pub mod CommitEntries

@@ -1,7 +1,8 @@
 -- The commits that range words list, by their names: what is listed stands in the history, and is held.
 use Rattle.std.proofs.Common.{◌≡◌, ℕ, zero, suc, Bool, true, false, cond, refl, sym, ap, subst, ◌∙◌, List, [], ◌∷◌, ◌++◌, map, take, reverse, Option, None, Some, Result, Ok, Err, inl, inr}
-use Rattle.std.specs.Prelude.{IsTrue}
-use Rattle.std.specs.List.{AllByRecursion, filter, filter_map}
+use Rattle.std.specs.Prelude.{IsTrue, ◌&&◌, ◌||◌, not}
+use Rattle.std.specs.List.{AllByRecursion, filter, filter_map, list_any}
+use Rattle.std.proofs.lemmas.List.Folds.{list_any-append}
 use Rattle.std.proofs.lemmas.List.{map-append, reverse-append, take-map}
 use Rattle.gx_model.specs.declared.objects.Kind.{Kind}
 use Rattle.gx_model.specs.declared.objects.Kind.TheVariants as kind
@@ -10,9 +11,12 @@ use Rattle.gx_model.specs.Faults.{and_then}
 use Rattle.gx_model.specs.Histories.Values.{Commit, Value, blob_value, commit_value, tag_value, tree_value}
 use Rattle.gx_model.specs.Objects.{IsNamer}
 use Rattle.gx_model.specs.Records.{name_of}
-use Rattle.gx_model.specs.Histories.{History, IsIn, Records}
+use Rattle.gx_model.specs.Export.{is_reached}
+use Rattle.gx_model.specs.Histories.{History, IsIn, Records, Target}
+use Rattle.gx_model.specs.Laws.RangeLaws.{is_excluded}
+use Rattle.gx_model.specs.Replay.{peeled_at}
 use Rattle.gx_model.specs.Records.HistoryOf.{commit_of_value, history_of, value_of_name}
-use Rattle.gx_model.specs.Revisions.Ranges.{Word, WordFault, commit_of, listed, listing, words_denoted}
+use Rattle.gx_model.specs.Revisions.Ranges.{Word, WordFault, commit_of, listed, listing, reaches, span, with_ancestors, words_denoted}
 use Rattle.gx_model.specs.Records.RecordFaults.{is_held}
 use Rattle.gx_model.specs.Revisions.{RangeWord}
 use Rattle.gx_model.specs.Records.Sound.{IsSound}
@@ -21,9 +25,10 @@ use Rattle.gx_rev.specs.declared.fault.RevFault.{RevFault}
 use Rattle.gx_rev.specs.declared.fault.RevFault.TheVariants.{OutOfMemory}
 use Rattle.gx_rev.specs.Objects.{IsHeldAs, commit_at}
 use Rattle.gx_rev.specs.RevFaults.{fault_of}
-use Rattle.gx_rev.specs.Walking.{IsWordFault}
+use Rattle.gx_rev.specs.Walking.{IsWordFault, is_included}
 use Rattle.gx_model.proofs.HeldValues.{commit_stands, held_is, kind_held, value_held}
-use Rattle.gx_cli.specs.Stored.{all_words, commits_listed, limited, turned}
+use Rattle.gx_cli.specs.Logs.{arranged, commits_logged, limited, turned, with_refs, words_of_refs}
+use Rattle.gx_cli.specs.Stored.{all_words, commits_listed}
 use Rattle.gx_cli.specs.Words.{RefusesWord, refused_at}
 
 -- ---- what holds of all elements of a list
@@ -107,19 +112,14 @@ module _ (name : Kind → Bytes → Bytes) (namer : IsNamer name) (r : Records) 
       commit_same : (r : Records) (n : Name) (c : Commit) → value_of_name r.records n.bytes ≡ commit_value c → commit_at r n ≡ c
       commit_same r n c v = ap commit_of_value v
 
-  -- the names that are listed are those of held commits
-  pub listed_held : (ws : List RangeWord) (ns : List Name) → listed name (history_of r) ws ≡ Ok (map (λ n. n.bytes) ns)
-      → AllByRecursion (IsHeldAs kind.Commit r) ns × (commits_listed name (history_of r) ws ≡ Ok (map (commit_at r) ns))
-  unfolding listed
-  listed_held ws ns e = by (words_denoted name (history_of r) ws) refl e
-    where
-      by : (d : Result (List Word) WordFault) → words_denoted name (history_of r) ws ≡ d → and_then d (λ xs. Ok (map (λ c. name_of name (commit_value c)) (listing (history_of r) xs))) ≡ Ok (map (λ n. n.bytes) ns)
-          → AllByRecursion (IsHeldAs kind.Commit r) ns × (commits_listed name (history_of r) ws ≡ Ok (map (commit_at r) ns))
-      by (Err f) k l = absurd (cc l)
-      by (Ok xs) k l =
-          let names : map (λ c. name_of name (commit_value c)) (listing (history_of r) xs) ≡ map (λ n. n.bytes) ns = cc l in
-          let told = names_tell ns (listing (history_of r) xs) (listed_stand (history_of r) xs) names in
-          (told.0, ap (λ d. and_then d (λ ys. Ok (listing (history_of r) ys))) k ∙ ap Ok (sym told.1))
+  -- the names that marks list are those of held commits
+  pub logged_held : (refs : Bool) (ws : List RangeWord) (xs : List Word) (ns : List Name) → words_denoted name (history_of r) ws ≡ Ok xs
+      → map (λ n. n.bytes) ns ≡ map (λ c. name_of name (commit_value c)) (listing (history_of r) (with_refs refs (history_of r) xs))
+      → AllByRecursion (IsHeldAs kind.Commit r) ns × (commits_logged name (history_of r) refs ws ≡ Ok (map (commit_at r) ns))
+  logged_held refs ws xs ns k e =
+      let all = with_refs refs (history_of r) xs in
+      let told = names_tell ns (listing (history_of r) all) (listed_stand (history_of r) all) (sym e) in
+      (told.0, ap (λ d. and_then d (λ ys. Ok (listing (history_of r) (with_refs refs (history_of r) ys)))) k ∙ ap Ok (sym told.1))
 
   -- a held commit's own name
   pub commit_called : (n : Bytes) → IsTrue (is_held r.records kind.Commit n) → n ≡ name_of name (commit_value (commit_of_value (value_of_name r.records n)))
@@ -140,3 +140,48 @@ module _ (name : Kind → Bytes → Bytes) (h : History) where
   pub walk_refused : (ws : List RangeWord) (word : ℕ) (kind : RevFault) → IsWordFault word (fault_of kind) (listed name h ws) → RefusesWord (refused_at word kind) (all_words (commits_listed name h ws))
   walk_refused ws word OutOfMemory i = tt
   walk_refused ws word kind i = ap all_words (listed_fails ws (record { word = word; fault = fault_of kind }) i)
+
+  -- what is refused by its names is refused where refs are listed, too
+  logged_fails : (refs : Bool) (ws : List RangeWord) (f : WordFault) → listed name h ws ≡ Err f → commits_logged name h refs ws ≡ Err f
+  unfolding listed
+  logged_fails refs ws f e = by (words_denoted name h ws) refl e
+    where
+      by : (d : Result (List Word) WordFault) → words_denoted name h ws ≡ d → and_then d (λ xs. Ok (map (λ c. name_of name (commit_value c)) (listing h xs))) ≡ Err f → commits_logged name h refs ws ≡ Err f
+      by (Ok xs) k l = absurd (cc l)
+      by (Err g) k l = let same : g ≡ f = cc l in ap (λ d. and_then d (λ ys. Ok (listing h (with_refs refs h ys)))) k ∙ ap Err same
+
+  -- and the word that is refused is refused there
+  pub logged_refused : (refs : Bool) (ws : List RangeWord) (word : ℕ) (kind : RevFault) → IsWordFault word (fault_of kind) (listed name h ws) → RefusesWord (refused_at word kind) (all_words (commits_logged name h refs ws))
+  logged_refused refs ws word OutOfMemory i = tt
+  logged_refused refs ws word kind i = ap all_words (logged_fails refs ws (record { word = word; fault = fault_of kind }) i)
+
+-- ---- the words of all refs, by what they include and exclude
+
+or_false : (b b' : Bool) → (b || (false && b')) ≡ b
+or_false true b' = refl
+or_false false b' = refl
+
+or_nothing : (b : Bool) → (b || false) ≡ b
+or_nothing true = refl
+or_nothing false = refl
+
+refs_included : (c : Commit) (refs : List (Bytes × Target)) → list_any (λ w. (span w).included c) (map (λ ref. with_ancestors (peeled_at ref.1)) refs) ≡ is_reached refs c
+refs_included c [] = refl
+refs_included c (x ∷ refs) = ap (λ b. reaches (peeled_at x.1) c || b) (refs_included c refs)
+
+refs_excluded : (c : Commit) (refs : List (Bytes × Target)) → list_any (λ w. (span w).excluded c) (map (λ ref. with_ancestors (peeled_at ref.1)) refs) ≡ false
+refs_excluded c [] = refl
+refs_excluded c (x ∷ refs) = refs_excluded c refs
+
+-- what words include, and the refs where they are listed, too
+included_with : (h : History) (c : Commit) (refs : Bool) (xs : List Word) → (is_included xs c || (refs && is_reached h.refs c)) ≡ is_included (with_refs refs h xs) c
+included_with h c true xs = sym (list_any-append (λ w. (span w).included c) xs (words_of_refs h) ∙ ap (λ b. is_included xs c || b) (refs_included c h.refs))
+included_with h c false xs = or_false (is_included xs c) (is_reached h.refs c)
+
+excluded_with : (h : History) (c : Commit) (refs : Bool) (xs : List Word) → is_excluded xs c ≡ is_excluded (with_refs refs h xs) c
+excluded_with h c true xs = sym (list_any-append (λ w. (span w).excluded c) xs (words_of_refs h) ∙ ap (λ b. is_excluded xs c || b) (refs_excluded c h.refs) ∙ or_nothing (is_excluded xs c))
+excluded_with h c false xs = refl
+
+-- the commits that are included and not excluded, by their marks
+pub listing_with : (h : History) (refs : Bool) (xs : List Word) → filter (λ c. (is_included xs c || (refs && is_reached h.refs c)) && not (is_excluded xs c)) (reverse (filter_map commit_of h.values)) ≡ listing h (with_refs refs h xs)
+listing_with h refs xs = λ i. filter (λ c. included_with h c refs xs i && not (excluded_with h c refs xs i)) (reverse (filter_map commit_of h.values))

@@ -39,6 +39,10 @@ pub unread_printed : (stored : Stored Records) (given : Records → Printed) (wa
 unread_printed stored given was file.OutOfMemory h = took_nothing was
 unread_printed stored given was why h = (of_store why, ap (λ s. of_stored s given) h, refl, took_nothing was)
 
+-- nothing is printed where memory runs out before
+pub nothing_printed : (given : Printed) (was : Option Taken) → Prints given was was (Err OutOfMemory)
+nothing_printed given was = ([], no_front given, took_nothing was)
+
 -- what is printed of a repository is printed of the store that it was read from
 read_printed : {N : Type 0} (name_of : N → Kind → Bytes → Bytes) (namer : N) (repository : N × Records) (stored : (Kind → Bytes → Bytes) → Stored Records) (given : (Kind → Bytes → Bytes) → Records → Printed) (was now : Option Taken) (answer : Result (Unit {0}) CliFault)
     → repository.0 ≡ namer → stored (name_of namer) ≡ Ok repository.1 → Prints (given (name_of repository.0) repository.1) was now answer → Prints (of_stored (stored (name_of namer)) (given (name_of namer))) was now answer

@@ -1,19 +1,23 @@
 -- What the commands answer that read a source alone, with their faults among those of the commands.
-use Rattle.std.specs.Prelude.{◌≡◌, Bool, true, false, Option, Some, None, Result, Ok, Err, ⊤}
+use Rattle.std.specs.Prelude.{◌≡◌, Bool, true, false, List, map, Option, Some, None, Result, Ok, Err, ⊤}
 use Rattle.std.specs.Option.{option_map}
 use Rattle.std.specs.declared.vec.Vec.{Vec}
 use Rattle.std.specs.Prelude.{ℕ}
 use Rattle.gx_model.specs.Texts.{Bytes}
 use Rattle.gx_model.specs.Texts.Sinks.{Taken}
 use Rattle.gx_text.specs.Devices.{Coming}
-use Rattle.gx_stream.specs.Heard.{items_from}
+use Rattle.gx_stream.specs.Heard.{heard, items_from}
 use Rattle.gx_adapt.specs.Adapting.{AdaptsFrom}
 use Rattle.gx_adapt.specs.declared.fault.AdaptFault.{AdaptFault}
 use Rattle.gx_adapt.specs.declared.report.Report.{Report}
+use Rattle.gx_batch.specs.Lines.{lines_from}
+use Rattle.gx_batch.specs.declared.ending.LineEnding.TheVariants.{Lf}
 use Rattle.gx_batch.specs.declared.fault.BatchFault.{BatchFault}
 use Rattle.gx_batch.specs.declared.fault.BatchFault.TheVariants as batch
+use Rattle.gx_batch.specs.declared.fault.FormatFault.{FormatFault}
+use Rattle.gx_batch.specs.declared.fault.FormatFault.TheVariants as format
 use Rattle.gx_cli.specs.declared.fault.CliFault.{CliFault}
-use Rattle.gx_cli.specs.declared.fault.CliFault.TheVariants.{Adapt, OutOfMemory, ReadFailed, WriteFailed}
+use Rattle.gx_cli.specs.declared.fault.CliFault.TheVariants.{Adapt, BadFormat, OutOfMemory, ReadFailed, WriteFailed}
 
 -- ---- adapt
 
@@ -39,6 +43,11 @@ of_batch batch.WriteFailed = WriteFailed
 abbrev pub batch_answer : Result (Unit {0}) BatchFault → Result (Unit {0}) CliFault
 batch_answer (Ok done) = Ok done
 batch_answer (Err f) = Err (of_batch f)
+
+-- a fault of a format among those of the commands
+abbrev pub of_format : FormatFault → CliFault
+of_format format.OutOfMemory = OutOfMemory
+of_format format.BadFormat = BadFormat
 
 -- ---- all of a source
 
@@ -67,3 +76,17 @@ Gathers coming (Err fault) = IsUngathered coming fault
 abbrev pub GathersInto : Option Coming → Bytes → Result (Unit {0}) CliFault → Type 0
 GathersInto coming text (Ok done) = IsAllOf coming text
 GathersInto coming text (Err fault) = IsUngathered coming fault
+
+-- ---- the lines of a source
+
+-- these lines, behind which a source ends or fails, or why there aren't all of them
+abbrev pub AreLines : {A : Type 0} → List Bytes → Bool → Result (Vec (Vec ℕ A) A) CliFault → Type 0
+AreLines lines fails (Ok read) = (fails ≡ false) × (map (λ line. line.items) read.items ≡ lines)
+AreLines lines fails (Err ReadFailed) = fails ≡ true
+AreLines lines fails (Err OutOfMemory) = ⊤
+AreLines lines fails (Err fault) = ⊥
+
+-- The same of the lines of a source. Where it tells nothing, there are lines that it gave.
+abbrev pub GathersLines : {A : Type 0} → Option Coming → Result (Vec (Vec ℕ A) A) CliFault → Type 0
+GathersLines None result = (lines : List Bytes) × (fails : Bool) × AreLines lines fails result
+GathersLines (Some c) result = AreLines (lines_from Lf (heard c)) (heard c).fails result

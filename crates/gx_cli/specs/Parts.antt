@@ -1,8 +1,8 @@
 -- What each part of a command does. A repository is seen by the names that its namer gives, and a sink by what it took before the
 -- call and after it. What holds where memory runs out or the sink fails, is told by Answers, Sending, Trying and Words.
-use Rattle.std.specs.Prelude.{◌≡◌, ℕ, Bool, List, [], map, Option, Result, Ok, Err, ⊤}
+use Rattle.std.specs.Prelude.{◌≡◌, ℕ, Bool, true, false, not, ◌&&◌, ◌||◌, List, [], ◌∷◌, ◌++◌, map, reverse, Option, None, Some, Result, Ok, Err, ⊤}
 use Rattle.std.specs.Borrow.{Bor}
-use Rattle.std.specs.List.{AllByRecursion, flat_map}
+use Rattle.std.specs.List.{AllByRecursion, filter, filter_map, flat_map}
 use Rattle.std.specs.declared.vec.Vec.{Vec}
 use Rattle.gx_model.specs.declared.objects.Kind.{Kind}
 use Rattle.gx_model.specs.declared.objects.Kind.TheVariants as kinds
@@ -11,11 +11,13 @@ use Rattle.gx_model.specs.declared.store_versions.Version.TheVariants as version
 use Rattle.gx_model.specs.Revisions.Denotation.{denoted}
 use Rattle.gx_model.specs.Faults.{Gives, and_then}
 use Rattle.gx_model.specs.Histories.{Records}
-use Rattle.gx_model.specs.Laws.RepositoryLaws.{with_refs}
+use Rattle.gx_model.specs.Histories.Marks.{marks_of}
+use Rattle.gx_model.specs.Histories.Values.{Commit, commit_value}
+use Rattle.gx_model.specs.Laws.RepositoryLaws.{values_of, with_refs}
 use Rattle.gx_model.specs.Records.HistoryOf.{history_of}
 use Rattle.gx_model.specs.Texts.Paths.{Path}
-use Rattle.gx_model.specs.Revisions.Ranges.{each_word}
-use Rattle.gx_model.specs.Revisions.{Revision, range_of, revision_of}
+use Rattle.gx_model.specs.Revisions.Ranges.{commit_of, each_word}
+use Rattle.gx_model.specs.Revisions.{RangeWord, Revision, range_of, revision_of}
 use Rattle.gx_model.specs.Stores.StoreReading.{store_of}
 use Rattle.gx_model.specs.Stores.StoreText.{store_text}
 use Rattle.gx_model.specs.declared.features.Features.{Features}
@@ -24,14 +26,12 @@ use Rattle.gx_model.specs.Texts.Sinks.{Taken}
 use Rattle.gx_text.specs.Devices.{Coming}
 use Rattle.gx_object.specs.declared.name.Name.{Name}
 use Rattle.gx_archive.specs.Archives.{archive_of}
-use Rattle.gx_batch.specs.Calls.{SendsAnswers}
-use Rattle.gx_batch.specs.Formats.{default_parts}
-use Rattle.gx_batch.specs.declared.ending.LineEnding.TheVariants.{Lf}
-use Rattle.gx_batch.specs.declared.fault.BatchFault.{BatchFault}
+use Rattle.gx_model.specs.Records.{name_of as name_of_value}
 use Rattle.gx_import.specs.declared.fault.ImportFault.{ImportFault}
 use Rattle.gx_import.specs.declared.report.Report.{Report}
 use Rattle.gx_rev.specs.Answers.{IsNamed, shown_by}
 use Rattle.gx_rev.specs.Objects.{IsHeldAs, commit_at, files_at}
+use Rattle.gx_rev.specs.Reached.{is_wanted}
 use Rattle.gx_rev.specs.RevFaults.{fault_of}
 use Rattle.gx_rev.specs.Views.{shown_range}
 use Rattle.gx_rev.specs.declared.fault.RevFault.{RevFault}
@@ -41,15 +41,15 @@ use Rattle.gx_repo.specs.Dropping.{dropped}
 use Rattle.gx_repo.specs.Repositories.{Repository}
 use Rattle.gx_cli.specs.Again.{ImportsAgain, ServesExported}
 use Rattle.gx_cli.specs.Answers.{Prints}
-use Rattle.gx_cli.specs.Gathering.{batch_answer}
 use Rattle.gx_cli.specs.FileLines.{path_line}
 use Rattle.gx_cli.specs.Listings.{shown_text, text_of_word, tree_lines}
 use Rattle.gx_blobs.specs.Naming.{NamesBlobs}
 use Rattle.gx_cli.specs.Forms.{SendsRange}
 use Rattle.gx_cli.specs.Sending.{PrintsText}
+use Rattle.gx_cli.specs.Logs.{LogsFrom, commits_logged, entries_text, entry_of, log_text, next_entry, told}
 use Rattle.gx_cli.specs.Opening.{bytes_of}
-use Rattle.gx_cli.specs.Serving.{AnswersLines, DropsRefs, ExportsRangeStored, ExportsStore, ImportsInto, ImportsIntoStored, IsDropped, PrintsStored, Serves, blobs_answer, printed_by, unknown_at}
-use Rattle.gx_cli.specs.Stored.{all_words, commits_listed, file_line, files_of_word, line_of_ref, list_text, log_line, log_text, names_text, only_word, tar_text, texts_of}
+use Rattle.gx_cli.specs.Serving.{DropsFrom, DropsRefs, ExportsRangeStored, ExportsStore, ImportsInto, ImportsIntoStored, IsDropped, LogsOf, PrintsStored, Serves, blobs_answer, printed_by, unknown_at}
+use Rattle.gx_cli.specs.Stored.{all_words, file_line, files_of_word, line_of_ref, list_text, names_text, only_word, tar_text, texts_of}
 use Rattle.gx_cli.specs.Storing.{Answer, ImportsStored}
 use Rattle.gx_cli.specs.Trying.{ImportsAlone, Shows, Tries}
 use Rattle.gx_cli.specs.Words.{GivesWords}
@@ -77,6 +77,11 @@ ReadsRangesInto words ranges result = GivesWords (λ done. map shown_range range
 abbrev pub AreCommits : Records → List Name → Type 0
 AreCommits repository names = AllByRecursion (IsHeldAs kinds.Commit repository) names
 
+-- where that is asked for, the commits that refs reach are marked besides
+abbrev pub MarksRefs : Records → Bool → List Bool → List Bool → Type 0
+MarksRefs repository refs old new = (test : Commit → Bool)
+    → old ≡ marks_of test (values_of repository) → new ≡ marks_of (λ made. test made || (refs && is_wanted repository made)) (values_of repository)
+
 -- ---- files
 
 -- the line of a ref goes out
@@ -90,10 +95,18 @@ PrintsFile taken path mode called old new result = PrintsText (path_line path mo
 -- ---- refs
 
 -- the refs with these names leave a repository, or this word is refused
-abbrev pub DropsWords : {N : Type 0} → Repository N → Repository N → List (Bor Bytes) → Result (Unit {0}) CliFault → Type 0
-DropsWords old new words (Ok done) = (dropped (texts_of words) old.1.refs ≡ Ok new.1.refs) × (new ≡ (old.0, with_refs old.1 new.1.refs))
-DropsWords old new words (Err OutOfMemory) = ⊤
-DropsWords old new words (Err fault) = (number : ℕ) × (fault ≡ unknown_at number) × (dropped (texts_of words) old.1.refs ≡ Err number)
+abbrev pub DropsAll : {N : Type 0} → Repository N → Repository N → List Bytes → Result (Unit {0}) CliFault → Type 0
+DropsAll old new names (Ok done) = (dropped names old.1.refs ≡ Ok new.1.refs) × (new ≡ (old.0, with_refs old.1 new.1.refs))
+DropsAll old new names (Err OutOfMemory) = ⊤
+DropsAll old new names (Err fault) = (number : ℕ) × (fault ≡ unknown_at number) × (dropped names old.1.refs ≡ Err number)
+
+-- words, and lines behind them
+abbrev pub with_lines : {A : Type 0} → List (Bor Bytes) → List (Vec ℕ A) → List Bytes
+with_lines words lines = texts_of words ++ map (λ line. line.items) lines
+
+-- the same of the names that words and lines give
+abbrev pub DropsNames : {N A : Type 0} → Repository N → Repository N → List (Bor Bytes) → List (Vec ℕ A) → Result (Unit {0}) CliFault → Type 0
+DropsNames old new words lines result = DropsAll old new (with_lines words lines) result
 
 -- ---- what is found in a repository
 
@@ -115,19 +128,41 @@ module _ {N : Type 0} (name_of : N → Kind → Bytes → Bytes) where
   abbrev pub GivesTree : Repository N → Bytes → Result Name RevFault → Type 0
   GivesTree repo word result = Gives fault_of (files_at repo.1) result (files_of_word (name_of repo.0) (history_of repo.1) word)
 
-  -- the refs with these names leave a repository, and the next store text is that of what is left
-  abbrev pub DropsOpened : {A : Type 0} → Repository N → List (Bor Bytes) → Outcome A → Type 0
-  DropsOpened repo words o = IsDropped (name_of repo.0) repo.1 (dropped (texts_of words) repo.1.refs) o
+  -- the refs with the names that words and lines give leave a repository, and the next store text is that of what is left
+  abbrev pub DropsLines : {A : Type 0} → Repository N → List (Bor Bytes) → List (Vec ℕ A) → Outcome A → Type 0
+  DropsLines repo words lines o = IsDropped (name_of repo.0) repo.1 (dropped (with_lines words lines) repo.1.refs) o
 
-  -- the same of the store of these bytes
-  abbrev pub DropsStored : {A : Type 0} → N → StoreBytes A → List (Bor Bytes) → Outcome A → Type 0
-  DropsStored namer store words o = DropsRefs (name_of namer) (store_of (name_of namer) (bytes_of store)) (texts_of words) o
+  -- the same of the words and, where they are asked for, of the lines of a source
+  abbrev pub DropsOpened : {A : Type 0} → Repository N → Bool → List (Bor Bytes) → Option Coming → Outcome A → Type 0
+  DropsOpened repo stdin words coming o = DropsFrom (name_of repo.0) stdin repo.1 (texts_of words) coming o
 
-  -- the names of the commits that range words list, the last made first, or the first word that is refused
-  abbrev pub ListsCommits : {A : Type 0} → Repository N → List (Bor Bytes) → Result (Vec Name A) CliFault → Type 0
-  ListsCommits {A} repo words result =
+  -- and of the store of these bytes
+  abbrev pub DropsStored : {A : Type 0} → N → StoreBytes A → Bool → List (Bor Bytes) → Option Coming → Outcome A → Type 0
+  DropsStored namer store stdin words coming o = DropsRefs (name_of namer) stdin (store_of (name_of namer) (bytes_of store)) (texts_of words) coming o
+
+  -- The names of the commits that range words list, the last made first, or the first word that is refused. Where they are asked
+  -- for, the commits of all refs are listed, too.
+  abbrev pub ListsCommits : {A : Type 0} → Repository N → Bool → List RangeWord → Result (Vec Name A) CliFault → Type 0
+  ListsCommits {A} repo refs words result =
       GivesWords (λ (names : Vec Name A). map (commit_at repo.1) names.items) result
-      (all_words (and_then (each_word range_of (texts_of words)) (commits_listed (name_of repo.0) (history_of repo.1))))
+      (all_words (commits_logged (name_of repo.0) (history_of repo.1) refs words))
+
+  -- The names of the commits that pass the one test and not the other, where these are marked, the last one first. Where that is
+  -- asked for, what refs reach passes, too.
+  abbrev pub ListsMarked : {A : Type 0} → Repository N → Bool → List Bool → List Bool → Vec Name A → Type 0
+  ListsMarked repo refs included excluded names = (wanted unwanted : Commit → Bool)
+      → included ≡ marks_of wanted (values_of repo.1) → excluded ≡ marks_of unwanted (values_of repo.1)
+      → map (λ called. called.bytes) names.items
+      ≡ map (λ made. name_of_value (name_of repo.0) (commit_value made))
+      (filter (λ made. (wanted made || (refs && is_wanted repo.1 made)) && not (unwanted made)) (reverse (filter_map commit_of (values_of repo.1))))
+
+  -- what is told of the commit of this name
+  abbrev pub told_at : Repository N → LogOptions → Name → Bytes
+  told_at repo options commit = told (name_of repo.0) options.format options.parents (commit_at repo.1 commit)
+
+  -- what is printed of it
+  abbrev pub entry_at : Repository N → LogOptions → Name → Bytes
+  entry_at repo options commit = entry_of (name_of repo.0) options (commit_at repo.1 commit)
 
   -- the import of a sound repository's export into this one, where it is empty, makes that repository again
   abbrev pub ImportsToAgain : {A : Type 0} → Features → Repository N → Option Coming → Outcome A → Type 0
@@ -160,6 +195,11 @@ module _ {N W : Type 0} (name_of : N → Kind → Bytes → Bytes) (taken : W �
   abbrev pub AsksStore : {A : Type 0} → N → Question → StoreBytes A → W → W → Outcome A → Type 0
   AsksStore namer asked store old new o = PrintsStored (store_of (name_of namer) (bytes_of store)) (printed_by (name_of namer) asked) (taken old) (taken new) o
 
+  -- the names of what revisions give of the store of these bytes go out, and how the command ends
+  abbrev pub NamesStore : {A : Type 0} → N → List (Bor Bytes) → StoreBytes A → W → W → Outcome A → Type 0
+  NamesStore namer words store old new o =
+      PrintsStored (store_of (name_of namer) (bytes_of store)) (λ r. names_text (name_of namer) (history_of r) (texts_of words)) (taken old) (taken new) o
+
   -- what a command does to the sink over the store of these bytes, and how it ends
   abbrev pub ServesStored : {A : Type 0} → N → Line → StoreBytes A → Option Coming → W → W → Outcome A → Type 0
   ServesStored namer line store coming old new o = Serves (name_of namer) line (bytes_of store) coming (taken old) (taken new) o
@@ -184,15 +224,6 @@ module _ {N W : Type 0} (name_of : N → Kind → Bytes → Bytes) (taken : W �
   -- a stream is imported into an empty store
   abbrev pub ImportsFirst : N → Features → Option Coming → W → W → Result (Repository N) ImportFault → Type 0
   ImportsFirst namer asks coming old new result = ImportsAlone (name_of namer) asks coming (taken old) (taken new) result
-
-  -- the answers to the lines of a source over the store of these bytes go out, and how the command ends
-  abbrev pub AnswersStored : {A : Type 0} → N → Bool → StoreBytes A → Option Coming → W → W → Outcome A → Type 0
-  AnswersStored namer check store coming old new o = AnswersLines (name_of namer) check (bytes_of store) coming (taken old) (taken new) o
-
-  -- the answers to the lines of a source go out, with their fault among those of the commands
-  abbrev pub Batches : Repository N → Bool → Option Coming → W → W → Result (Unit {0}) CliFault → Type 0
-  Batches repo check coming old new result =
-      (answer : Result (Unit {0}) BatchFault) × SendsAnswers name_of taken repo check default_parts Lf coming old new answer × (result ≡ batch_answer answer)
 
   -- a stream is imported into a repository, and the next store text is told, and what was imported
   abbrev pub ImportsTo : {A : Type 0} → Repository N → Features → Option Coming → W → W → Outcome A × Option Report → Type 0
@@ -243,15 +274,38 @@ module _ {N W : Type 0} (name_of : N → Kind → Bytes → Bytes) (taken : W �
   abbrev pub PrintsNames : Repository N → List (Bor Bytes) → W → W → Result (Unit {0}) CliFault → Type 0
   PrintsNames repo words old new result = Prints (names_text (name_of repo.0) (history_of repo.1) (texts_of words)) (taken old) (taken new) result
 
-  -- the lines of the commits that range words list go out, or the first word that is refused is answered
+  -- the commits that range words list go out, or the first word that is refused is answered
   abbrev pub Logs : Repository N → LogOptions → List (Bor Bytes) → W → W → Result (Unit {0}) CliFault → Type 0
   Logs repo options words old new result = Prints (log_text (name_of repo.0) options (history_of repo.1) (texts_of words)) (taken old) (taken new) result
 
-  -- the lines of the commits of these names go out
-  abbrev pub PrintsCommits : Repository N → Bool → List Name → W → W → Result (Unit {0}) CliFault → Type 0
-  PrintsCommits repo parents names old new result =
-      PrintsText (flat_map (log_line (name_of repo.0) parents) (map (commit_at repo.1) names)) (taken old) (taken new) result
+  -- the same of words and of lines behind them
+  abbrev pub LogsWords : {A : Type 0} → Repository N → LogOptions → List (Bor Bytes) → List (Vec ℕ A) → W → W → Result (Unit {0}) CliFault → Type 0
+  LogsWords repo options words lines old new result =
+      Prints (log_text (name_of repo.0) options (history_of repo.1) (texts_of words ++ map (λ line. line.items) lines)) (taken old) (taken new) result
 
-  -- the line of the commit of this name goes out
-  abbrev pub PrintsCommit : Repository N → Bool → Name → W → W → Result (Unit {0}) CliFault → Type 0
-  PrintsCommit repo parents called old new result = PrintsText (log_line (name_of repo.0) parents (commit_at repo.1 called)) (taken old) (taken new) result
+  -- the same, where the lines of a source may be words, too
+  abbrev pub LogsOpened : Repository N → LogOptions → List (Bor Bytes) → Option Coming → W → W → Result (Unit {0}) CliFault → Type 0
+  LogsOpened repo options words coming old new result = LogsFrom (name_of repo.0) options options.stdin repo.1 (texts_of words) coming (taken old) (taken new) result
+
+  -- the same of the store of these bytes, and how the command ends
+  abbrev pub LogsStored : {A : Type 0} → N → LogOptions → List (Bor Bytes) → StoreBytes A → Option Coming → W → W → Outcome A → Type 0
+  LogsStored namer options words store coming old new o =
+      LogsOf (name_of namer) options (store_of (name_of namer) (bytes_of store)) (texts_of words) coming (taken old) (taken new) o
+
+  -- the commits of these names go out
+  abbrev pub PrintsCommits : Repository N → LogOptions → List Name → W → W → Result (Unit {0}) CliFault → Type 0
+  PrintsCommits repo options names old new result =
+      PrintsText (entries_text (name_of repo.0) options (map (commit_at repo.1) names)) (taken old) (taken new) result
+
+  -- the same of those behind the first
+  abbrev pub PrintsOthers : Repository N → LogOptions → List Name → W → W → Result (Unit {0}) CliFault → Type 0
+  PrintsOthers repo options names old new result =
+      PrintsText (flat_map (next_entry (name_of repo.0) options) (map (commit_at repo.1) names)) (taken old) (taken new) result
+
+  -- the commit of this name goes out behind another
+  abbrev pub PrintsNext : Repository N → LogOptions → Name → W → W → Result (Unit {0}) CliFault → Type 0
+  PrintsNext repo options commit old new result = PrintsText (next_entry (name_of repo.0) options (commit_at repo.1 commit)) (taken old) (taken new) result
+
+  -- the commit of this name goes out
+  abbrev pub PrintsCommit : Repository N → LogOptions → Name → W → W → Result (Unit {0}) CliFault → Type 0
+  PrintsCommit repo options commit old new result = PrintsText (entry_at name_of repo options commit) (taken old) (taken new) result

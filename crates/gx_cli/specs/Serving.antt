@@ -1,5 +1,6 @@
 -- How the commands end.
-use Rattle.std.specs.Prelude.{◌≡◌, ◌⊎◌, ℕ, zero, suc, Bool, List, Option, Some, None, Result, Ok, Err}
+use Rattle.std.specs.Prelude.{◌≡◌, ◌⊎◌, ℕ, zero, suc, Bool, true, false, if◌then◌else◌, List, ◌++◌, Option, Some, None, Result, Ok, Err}
+use Rattle.std.specs.Borrow.{Bor}
 use Rattle.std.specs.Option.{option_map}
 use Rattle.std.specs.declared.vec.Vec.{Vec}
 use Rattle.gx_model.specs.declared.objects.Kind.{Kind}
@@ -15,16 +16,19 @@ use Rattle.gx_model.specs.Stores.StoreText.{store_text}
 use Rattle.gx_model.specs.Stores.StoreReading.{Stored, store_of}
 use Rattle.gx_model.specs.Texts.Sinks.{Taken}
 use Rattle.gx_text.specs.Devices.{Coming}
-use Rattle.gx_stream.specs.Heard.{items_from}
+use Rattle.gx_stream.specs.Heard.{heard, items_from}
 use Rattle.gx_import.specs.Exported.{KeepsNoNullGitlink, nothing}
 use Rattle.gx_import.specs.Imports.{Imports}
 use Rattle.gx_import.specs.declared.fault.ImportFault.{ImportFault}
 use Rattle.gx_import.specs.declared.report.Report.{Report}
 use Rattle.gx_adapt.specs.declared.report.Report.{Report as AdaptReport}
 use Rattle.gx_batch.specs.Answers.{batch_answer as answered_by}
+use Rattle.gx_batch.specs.Formats.{default_parts, format_of}
+use Rattle.gx_batch.specs.declared.ending.LineEnding.{LineEnding}
+use Rattle.gx_batch.specs.declared.ending.LineEnding.TheVariants.{Lf, Nul}
+use Rattle.gx_batch.specs.declared.format.Part.{Part}
 use Rattle.gx_batch.specs.Batches.{Answers}
-use Rattle.gx_batch.specs.Formats.{default_parts}
-use Rattle.gx_batch.specs.declared.ending.LineEnding.TheVariants.{Lf}
+use Rattle.gx_batch.specs.Lines.{lines_from}
 use Rattle.gx_batch.specs.declared.fault.BatchFault.{BatchFault}
 use Rattle.gx_repo.specs.Dropping.{dropped}
 use Rattle.gx_rev.specs.declared.fault.RevFault.TheVariants.{UnknownRef}
@@ -32,22 +36,27 @@ use Rattle.gx_export.specs.declared.fault.ExportFault.{ExportFault}
 use Rattle.gx_model.specs.declared.store_faults.FileFault.{FileFault}
 use Rattle.gx_model.specs.declared.store_faults.FileFault.TheVariants as file
 use Rattle.gx_blobs.specs.declared.blob_names.BlobsFault.{BlobsFault}
+use Rattle.gx_line.specs.declared.command_line.BatchForm.{BatchForm}
+use Rattle.gx_line.specs.declared.command_line.BatchForm.TheVariants as form
 use Rattle.gx_line.specs.declared.command_line.ExportForm.{ExportForm}
 use Rattle.gx_line.specs.declared.command_line.Line.{Line}
+use Rattle.gx_line.specs.declared.command_line.LogOptions.{LogOptions}
 use Rattle.gx_line.specs.declared.command_line.Line.TheVariants as line
 use Rattle.gx_cli.specs.declared.fault.CliFault.{CliFault}
 use Rattle.gx_cli.specs.declared.questions.Question.{Question}
 use Rattle.gx_cli.specs.declared.questions.Question.TheVariants as question
-use Rattle.gx_cli.specs.declared.fault.CliFault.TheVariants.{Blobs, Export, Import, OutOfMemory, Revision, Store}
+use Rattle.gx_cli.specs.declared.fault.CliFault.TheVariants.{BadFormat, Blobs, Export, Import, OutOfMemory, ReadFailed, Revision, Store}
 use Rattle.gx_cli.specs.declared.serving.Outcome.{Outcome}
 use Rattle.gx_cli.specs.Answers.{Prints}
 use Rattle.gx_cli.specs.Collecting.{IsCollected}
+use Rattle.gx_cli.specs.Commanding.{command_answer}
 use Rattle.gx_cli.specs.Forms.{ExportsAs, SendsRange}
 use Rattle.gx_cli.specs.Gathering.{AdaptsStream, batch_answer}
+use Rattle.gx_cli.specs.Logs.{LogsFrom, log_text}
 use Rattle.gx_cli.specs.Placing.{PlacesFrom}
 use Rattle.gx_blobs.specs.Printing.{PrintsBlobs}
-use Rattle.gx_cli.specs.Stored.{Printed, list_text, log_text, names_text, of_stored, refs_text, show_text, tar_text, texts_of}
-use Rattle.gx_cli.specs.Trying.{Tries}
+use Rattle.gx_cli.specs.Stored.{Printed, list_text, names_text, of_stored, refs_text, show_text, tar_text, texts_of}
+use Rattle.gx_cli.specs.Trying.{FindsFault, Tries}
 
 -- the features that a line asks for
 abbrev pub features_of : Bool → Bool → Features
@@ -136,6 +145,21 @@ printed_by name question.Refs r = Ok (refs_text r)
 printed_by name (question.Log options words) r = log_text name options (history_of r) (texts_of words.now)
 printed_by name (question.Names words) r = names_text name (history_of r) (texts_of words.now)
 
+-- how lines end, with NUL or with LF
+abbrev pub ending_of : Bool → LineEnding
+ending_of nul = if nul then Nul else Lf
+
+-- the parts of the format that is given, or of the usual one
+abbrev pub format_parts : Option (Bor Bytes) → Option (List Part)
+format_parts None = Some default_parts
+format_parts (Some text) = format_of text.now
+
+-- what is answered to a line, by the form of the batch
+abbrev pub line_answer : (Kind → Bytes → Bytes) → BatchForm → List Part → Records → Bytes → Bytes
+line_answer name form.Bytes parts repository = answered_by name false parts (history_of repository)
+line_answer name form.Check parts repository = answered_by name true parts (history_of repository)
+line_answer name form.Commands parts repository = command_answer name parts repository
+
 -- what is printed of a store, and how the command ends
 abbrev pub PrintsStored : {A : Type 0} → Stored Records → (Records → Printed) → Option Taken → Option Taken → Outcome A → Type 0
 PrintsStored stored given was now o = (answer : Result (Unit {0}) CliFault) × Prints (of_stored stored given) was now answer × IsOutcome answer o
@@ -169,10 +193,23 @@ module _ (name : Kind → Bytes → Bytes) {A : Type 0} where
   IsDropped old (Ok refs) o = (IsSound name (with_refs old refs) × IsWritten name (with_refs old refs) o) ⊎ IsRefused OutOfMemory o
   IsDropped old (Err number) o = IsRefused (unknown_at number) o ⊎ IsRefused OutOfMemory o
 
-  -- the refs with these names leave the store that a text was read as, all of them or none
-  abbrev pub DropsRefs : Stored Records → List Bytes → Outcome A → Type 0
-  DropsRefs (Ok old) words o = IsRefused (Store file.OutOfMemory) o ⊎ IsDropped old (dropped words old.refs) o
-  DropsRefs (Err f) words o = IsNoStore f o
+  -- The refs with these names leave a repository, all of them or none, where this is behind the names: an end, or a failure, and
+  -- then none does.
+  abbrev pub DropsRead : Bool → Records → List Bytes → Outcome A → Type 0
+  DropsRead false old names o = IsDropped old (dropped names old.refs) o
+  DropsRead true old names o = IsRefused ReadFailed o ⊎ IsRefused OutOfMemory o
+
+  -- The same of words and, where they are asked for, of the lines of a source behind them. Where it tells nothing, there are lines
+  -- that it gave.
+  abbrev pub DropsFrom : Bool → Records → List Bytes → Option Coming → Outcome A → Type 0
+  DropsFrom false old words coming o = DropsRead false old words o
+  DropsFrom true old words None o = (lines : List Bytes) × (fails : Bool) × DropsRead fails old (words ++ lines) o
+  DropsFrom true old words (Some c) o = DropsRead (heard c).fails old (words ++ lines_from Lf (heard c)) o
+
+  -- the same of the store that a text was read as
+  abbrev pub DropsRefs : Bool → Stored Records → List Bytes → Option Coming → Outcome A → Type 0
+  DropsRefs stdin (Ok old) words coming o = IsRefused (Store file.OutOfMemory) o ⊎ DropsFrom stdin old words coming o
+  DropsRefs stdin (Err f) words coming o = IsNoStore f o
 
   -- The objects that no ref reaches leave the store that a text was read as, and the next store text is that of what is left.
   abbrev pub CollectsInto : Stored Records → Outcome A → Type 0
@@ -181,15 +218,24 @@ module _ (name : Kind → Bytes → Bytes) {A : Type 0} where
   CollectsInto (Err f) o = IsNoStore f o
 
   -- the answers to the lines of a source, of the store that a text was read as
-  abbrev pub BatchesStored : Bool → Stored Records → Option Coming → Option Taken → Option Taken → Outcome A → Type 0
-  BatchesStored check (Ok repository) coming was now o =
+  abbrev pub BatchesStored : BatchForm → List Part → LineEnding → Stored Records → Option Coming → Option Taken → Option Taken → Outcome A → Type 0
+  BatchesStored form parts ending (Ok repository) coming was now o =
       IsUnopened was now o
-      ⊎ ((answer : Result (Unit {0}) BatchFault) × Answers (answered_by name check default_parts (history_of repository)) Lf coming was now answer × IsOutcome (batch_answer answer) o)
-  BatchesStored check (Err f) coming was now o = IsUnread f was now o
+      ⊎ ((answer : Result (Unit {0}) BatchFault) × Answers (line_answer name form parts repository) ending coming was now answer × IsOutcome (batch_answer answer) o)
+  BatchesStored form parts ending (Err f) coming was now o = IsUnread f was now o
 
-  -- the same of the store of a text, which is read first
-  abbrev pub AnswersLines : Bool → Bytes → Option Coming → Option Taken → Option Taken → Outcome A → Type 0
-  AnswersLines check text coming was now o = BatchesStored check (store_of name text) coming was now o
+  -- the same of the store of a text in a format, which is read before; a text that is no format is refused, and nothing went out
+  abbrev pub AnswersLines : BatchForm → Option (List Part) → LineEnding → Bytes → Option Coming → Option Taken → Option Taken → Outcome A → Type 0
+  AnswersLines form None ending text coming was now o = (IsRefused BadFormat o ⊎ IsRefused OutOfMemory o) × (now ≡ was)
+  AnswersLines form (Some parts) ending text coming was now o =
+      (IsRefused OutOfMemory o × (now ≡ was)) ⊎ BatchesStored form parts ending (store_of name text) coming was now o
+
+  -- What is printed of the commits that range words list, of the store that a text was read as. Where they are asked for, the lines
+  -- of a source are words, too.
+  abbrev pub LogsOf : LogOptions → Stored Records → List Bytes → Option Coming → Option Taken → Option Taken → Outcome A → Type 0
+  LogsOf options (Ok repository) words coming was now o =
+      IsUnopened was now o ⊎ ((answer : Result (Unit {0}) CliFault) × LogsFrom name options options.stdin repository words coming was now answer × IsOutcome answer o)
+  LogsOf options (Err f) words coming was now o = IsUnread f was now o
 
   -- what a command does to the sink, and how it ends
   abbrev pub Serves : Line → Bytes → Option Coming → Option Taken → Option Taken → Outcome A → Type 0
@@ -198,10 +244,11 @@ module _ (name : Kind → Bytes → Bytes) {A : Type 0} where
       (answer : Result (Unit {0}) CliFault) × Tries name (features_of done force) coming word.now was now answer × IsOutcome answer o
   Serves (line.Adapt drops) store coming was now o = (answer : Result AdaptReport CliFault) × AdaptsStream drops coming was now answer × IsOutcome answer o
   Serves (line.Where command) store coming was now o = (answer : Result (Unit {0}) CliFault) × PlacesFrom command coming was now answer × IsOutcome answer o
-  Serves (line.Batch check file) store coming was now o = AnswersLines check store coming was now o
+  Serves (line.WhereFault done force) store coming was now o = (answer : Result (Unit {0}) CliFault) × FindsFault name (features_of done force) coming answer × IsOutcome answer o × (now ≡ was)
+  Serves (line.Batch form format nul file) store coming was now o = AnswersLines form (format_parts format) (ending_of nul) store coming was now o
   Serves (line.Init file) store coming was now o = IsWritten name nothing o × (now ≡ was)
   Serves (line.Import file done force report explain) store coming was now o = (told : Option Report) × ImportsInto (features_of done force) store coming was now (o, told)
-  Serves (line.Drop file words) store coming was now o = DropsRefs (store_of name store) (texts_of words.items) o × (now ≡ was)
+  Serves (line.Drop file words stdin) store coming was now o = DropsRefs stdin (store_of name store) (texts_of words.items) coming o × (now ≡ was)
   Serves (line.Gc file report) store coming was now o = CollectsInto (store_of name store) o × (now ≡ was)
   Serves (line.Export form file) store coming was now o = ExportsStore name form store was now o
   Serves (line.ExportRange done file words) store coming was now o = ExportsRangeStored name done (store_of name store) (texts_of words.items) was now o
@@ -209,5 +256,5 @@ module _ (name : Kind → Bytes → Bytes) {A : Type 0} where
   Serves (line.Ls recursive file word) store coming was now o = PrintsStored (store_of name store) (λ r. list_text name recursive (history_of r) word.now) was now o
   Serves (line.Archive prefix file word) store coming was now o = PrintsStored (store_of name store) (λ r. tar_text name prefix.now (history_of r) word.now) was now o
   Serves (line.Refs file) store coming was now o = PrintsStored (store_of name store) (λ r. Ok (refs_text r)) was now o
-  Serves (line.Log options file words) store coming was now o = PrintsStored (store_of name store) (λ r. log_text name options (history_of r) (texts_of words.items)) was now o
+  Serves (line.Log options file words) store coming was now o = LogsOf options (store_of name store) (texts_of words.items) coming was now o
   Serves (line.RevParse file words) store coming was now o = PrintsStored (store_of name store) (λ r. names_text name (history_of r) (texts_of words.items)) was now o

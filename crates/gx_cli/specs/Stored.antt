@@ -1,6 +1,6 @@
 -- What a command prints of a store, or why it is refused.
--- Source: git-cat-file(1), git-ls-tree(1), git-archive(1), git-show-ref(1), git-rev-list(1) and git-rev-parse(1).
-use Rattle.std.specs.Prelude.{ℕ, Bool, if◌then◌else◌, List, [], ◌∷◌, ◌++◌, map, take, reverse, Option, Some, None, Result, Ok, Err}
+-- Source: git-cat-file(1), git-ls-tree(1), git-archive(1), git-show-ref(1) and git-rev-parse(1).
+use Rattle.std.specs.Prelude.{ℕ, Bool, if◌then◌else◌, List, [], ◌∷◌, ◌++◌, map, Result, Ok, Err}
 use Rattle.std.specs.List.{flat_map}
 use Rattle.std.specs.Borrow.{Bor}
 use Rattle.gx_model.specs.declared.objects.Kind.{Kind}
@@ -10,11 +10,11 @@ use Rattle.gx_model.specs.Texts.{Bytes}
 use Rattle.gx_model.specs.Faults.{Given, and_then}
 use Rattle.gx_model.specs.Texts.Paths.{Path, path_text}
 use Rattle.gx_model.specs.Histories.Files.{FileMap, Leaf}
-use Rattle.gx_model.specs.Histories.Values.{Commit, commit_value, parents_of}
+use Rattle.gx_model.specs.Histories.Values.{Commit}
 use Rattle.gx_model.specs.Objects.{hex}
-use Rattle.gx_model.specs.Records.{content_name, name_of, names_of}
+use Rattle.gx_model.specs.Records.{content_name, name_of}
 use Rattle.gx_model.specs.Histories.{History, Records}
-use Rattle.gx_model.specs.Revisions.{RangeWord, range_of, revision_of}
+use Rattle.gx_model.specs.Revisions.{RangeWord, revision_of}
 use Rattle.gx_model.specs.Revisions.Denotation.{Shown, denoted, files_in, object, submodule, value_denoted}
 use Rattle.gx_model.specs.Revisions.Ranges.{WordFault, each_word, listing, words_denoted}
 use Rattle.gx_model.specs.Stores.StoreText.{stored_ref}
@@ -22,7 +22,6 @@ use Rattle.gx_model.specs.Stores.StoreReading.{Stored}
 use Rattle.gx_object.specs.declared.name.Name.{Name}
 use Rattle.gx_archive.specs.Archives.{archive_of}
 use Rattle.gx_cli.specs.Listings.{entry_line, text_of_word, tree_lines}
-use Rattle.gx_line.specs.declared.command_line.LogOptions.{LogOptions}
 
 -- ---- refusals
 
@@ -63,21 +62,6 @@ line_of_ref name called = stored_ref (name, called.bytes)
 -- each ref's object and name
 abbrev pub refs_text : Records → Bytes
 refs_text repository = flat_map stored_ref repository.refs
-
--- ---- which commits of a list, and in which order
-
--- so many of these at most
-abbrev pub limited : {A : Type 0} → Option ℕ → List A → List A
-limited None xs = xs
-limited (Some n) xs = take n xs
-
--- these, or the last one first
-abbrev pub turned : {A : Type 0} → Bool → List A → List A
-turned backwards xs = if backwards then reverse xs else xs
-
--- the names of a commit's parents, each behind a space
-abbrev pub parent_text : List Bytes → Bytes
-parent_text names = flat_map (λ called. 32 ∷ hex called) names
 
 module _ (name : Kind → Bytes → Bytes) where
   -- ---- one revision
@@ -122,15 +106,3 @@ module _ (name : Kind → Bytes → Bytes) where
   -- the commits that range words list
   abbrev pub commits_listed : History → List RangeWord → Result (List Commit) WordFault
   commits_listed h ws = and_then (words_denoted name h ws) (λ xs. Ok (listing h xs))
-
-  -- a commit's line: its name, and where they are asked for its parents' names, each behind a space
-  abbrev pub log_line : Bool → Commit → Bytes
-  log_line parents made = hex (name_of name (commit_value made)) ++ (if parents then parent_text (names_of name (parents_of made)) else []) ++ 10 ∷ []
-
-  -- the lines of the commits that are listed; the count limits before the reversal
-  abbrev pub log_lines : LogOptions → List Commit → Bytes
-  log_lines options commits = flat_map (log_line options.parents) (turned options.reverse (limited options.max_count commits))
-
-  -- the lines of what range words list: all are read, and then all are evaluated
-  abbrev pub log_text : LogOptions → History → List Bytes → Printed
-  log_text options h words = all_words (and_then (each_word range_of words) (λ ws. and_then (commits_listed h ws) (λ commits. Ok (log_lines options commits))))

@@ -1,6 +1,6 @@
 -- What comes of a stream that is imported into an empty store, and then of a word that is shown as a revision.
 -- Source: git-fast-import(1) and git-cat-file(1).
-use Rattle.std.specs.Prelude.{◌≡◌, ℕ, [], ◌++◌, Option, Some, None, Result, Ok, Err, ⊤}
+use Rattle.std.specs.Prelude.{◌≡◌, ℕ, false, [], ◌++◌, Option, Some, None, Result, Ok, Err, ⊤}
 use Rattle.std.specs.declared.vec.Vec.{Vec}
 use Rattle.gx_model.specs.declared.objects.Kind.{Kind}
 use Rattle.gx_model.specs.declared.objects.Mode.{Mode}
@@ -33,6 +33,10 @@ use Rattle.gx_cli.specs.declared.fault.CliFault.TheVariants as cli
 -- what an empty store stands for
 abbrev pub no_history : History
 no_history = record { values = []; refs = [] }
+
+-- a sink took this text, and hasn't failed
+abbrev pub having_taken : Bytes → Taken
+having_taken text = record { bytes = text; failed = false }
 
 -- Behind some text that went out, the text that is given goes out, or why none is given is answered. Where memory runs out
 -- none of it went out, and where the sink fails a front of it.
@@ -73,6 +77,19 @@ module _ (name : Kind → Bytes → Bytes) where
   Tries asks None word was now answer = (commands : Commands) × AreRead commands × ShowsReplayed asks commands (replayed_on asks name nothing commands) word was now answer
   Tries asks (Some coming) word was now answer =
       ShowsReplayed asks (commands_asked_from asks coming) (imported_asked asks name no_history (heard coming).bytes (heard coming).fails) word was now answer
+
+  -- What commands are refused for, where a sink takes their progress text: for nothing, where their replay is accepted.
+  abbrev pub Finds : Features → Commands → Outcome → Result (Unit {0}) CliFault → Type 0
+  Finds asks commands outcome (Ok _) = (h : History) × (text : Bytes) × Replayed outcome h text
+  Finds asks commands outcome (Err (Import fault)) = (text : Bytes) × Refuses asks commands outcome (Some (having_taken [])) (Some (having_taken text)) fault
+  Finds asks commands outcome (Err OutOfMemory) = ⊤
+  Finds asks commands outcome (Err fault) = ⊥
+
+  -- The same of the commands of a source. Where it tells nothing, there are commands that a reader gives.
+  abbrev pub FindsFault : Features → Option Coming → Result (Unit {0}) CliFault → Type 0
+  FindsFault asks None answer = (commands : Commands) × AreRead commands × Finds asks commands (replayed_on asks name nothing commands) answer
+  FindsFault asks (Some coming) answer =
+      Finds asks (commands_asked_from asks coming) (imported_asked asks name no_history (heard coming).bytes (heard coming).fails) answer
 
   -- an import into an empty store is accepted as the replay is, with its history and its progress text, or refused
   abbrev pub StandsAlone : {N : Type 0} → Features → Commands → Outcome → Option Taken → Option Taken → Result (N × Records) ImportFault → Type 0

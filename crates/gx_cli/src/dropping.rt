@@ -1,48 +1,74 @@
 //! Refs that leave a store. Source: git-update-ref(1), "delete".
 
-ghost use Rattle.std.specs.Prelude.{◌≡◌, [], OnOk};
-ghost use Rattle.gx_repo.specs.Dropping.{lent_names};
-ghost use Rattle.gx_cli.specs.Parts.{DropsOpened, DropsStored, DropsWords};
-ghost use Rattle.gx_cli.specs.Stored.{texts_of};
+ghost use Rattle.gx_cli.specs.Parts.{DropsLines, DropsNames, DropsOpened, DropsStored};
 
 use crate::CliFault;
 use crate::importing::with_text;
+use crate::lines::{add_lines, lines_from};
 use crate::opening::{StoreBytes, open};
 use crate::serving::{Outcome, refused};
+use crate::words::texts_of;
 use gx_object::Namer;
 use gx_repo::{DropFault, Repo};
 use gx_rev::RevFault;
-use std::alloc::{AllocError, Allocator};
+use gx_text::Source;
+use std::alloc::Allocator;
 use std::hash::RandomState;
 
-/// Drops the refs with these names from the store of a text, and makes the text of what that leaves. Objects stay.
+/// Drops the refs with these names from the store of a text, and makes the text of what that leaves. With `stdin` the lines of the
+/// source are names, too, behind those that are given. Objects stay.
 ///
-/// `Revision`: the first word that is no ref's name, or that is given before, by its number from 1; then there is no text.
-/// Cost: that of reading the store's text, of `Repo::drop_refs`, and of the next text.
-pub(crate) fn drop_stored<N: Namer + Drop, A: Allocator + Copy>(
+/// `Revision`: the first name that is no ref's, or that is given before, by its number from 1; then there is no text.
+/// `ReadFailed`: the source failed, and there is no text either.
+/// Cost: that of reading the store's text and the source, of `Repo::drop_refs`, and of the next text.
+pub(crate) fn drop_stored<N: Namer + Drop, R: Source + Drop, A: Allocator + Copy>(
     alloc: A,
     namer: N,
     store: StoreBytes<'_, A>,
     words: &[&str],
+    stdin: bool,
+    source: R,
     state: RandomState,
 ) -> Outcome<A>
-    ensures { DropsStored N.name_of namer store.entry words.now result }
+    ensures { DropsStored N.name_of namer store.entry stdin words.now (R.coming source) result }
 {
     match open(alloc, namer, store, state) {
-        Ok(mut repo) => drop_opened(alloc, &mut repo, words),
+        Ok(mut repo) => drop_opened(alloc, &mut repo, words, stdin, source),
         Err(fault) => refused(CliFault::Store(fault)),
     }
 }
 
-/// Drops refs from a repository, and makes the text of what that leaves.
-fn drop_opened<N: Namer, A: Allocator + Copy>(
+/// Does the same with a repository.
+fn drop_opened<N: Namer, R: Source + Drop, A: Allocator + Copy>(
     alloc: A,
     repo: &mut Repo<N, A>,
     words: &[&str],
+    stdin: bool,
+    source: R,
 ) -> Outcome<A>
-    ensures { DropsOpened N.name_of repo.old words.now result }
+    ensures { DropsOpened N.name_of repo.old stdin words.now (R.coming source) result }
 {
-    match drop_words(alloc, repo, words) {
+    if stdin {
+        let lines = match lines_from(alloc, source) {
+            Ok(lines) => lines,
+            Err(fault) => return refused(fault),
+        };
+        drop_lines(alloc, repo, words, lines.as_slice())
+    } else {
+        drop_lines(alloc, repo, words, &[])
+    }
+}
+
+/// Drops the refs whose names are these words and these lines, and makes the text of what that leaves.
+fn drop_lines<'a, N: Namer, A: Allocator + Copy>(
+    alloc: A,
+    repo: &mut Repo<N, A>,
+    words: &[&'a str],
+    lines: &'a [Vec<u8, A>],
+) -> Outcome<A>
+    ensures { DropsLines N.name_of repo.old words.now lines.now result }
+{
+    match drop_names(alloc, repo, words, lines) {
         Ok(()) => {
             repo.sound();
             with_text(alloc, repo, 0, None)
@@ -51,16 +77,17 @@ fn drop_opened<N: Namer, A: Allocator + Copy>(
     }
 }
 
-/// Drops the refs whose names are these words.
-fn drop_words<N: Namer, A: Allocator + Copy>(
+/// Drops the refs whose names are these words and these lines.
+fn drop_names<'a, N: Namer, A: Allocator + Copy>(
     alloc: A,
     repo: &mut Repo<N, A>,
-    words: &[&str],
+    words: &[&'a str],
+    lines: &'a [Vec<u8, A>],
 ) -> Result<(), CliFault>
-    ensures { DropsWords repo.old repo.new words.now result }
+    ensures { DropsNames repo.old repo.new words.now lines.now result }
 {
-    let mut names = Vec::new(alloc);
-    put_names(words, &mut names)?;
+    let mut names = texts_of(alloc, words)?;
+    add_lines(&mut names, lines)?;
     match repo.drop_refs(names.as_slice()) {
         Ok(()) => Ok(()),
         Err(DropFault::OutOfMemory) => Err(CliFault::OutOfMemory),
@@ -69,18 +96,4 @@ fn drop_words<N: Namer, A: Allocator + Copy>(
             kind: RevFault::UnknownRef,
         }),
     }
-}
-
-/// Puts the bytes of words into a list.
-fn put_names<'a, A: Allocator + Copy>(
-    words: &[&'a str],
-    names: &mut Vec<&'a [u8], A>,
-) -> Result<(), AllocError>
-    requires empty { names.old.items ≡ [] }
-    ensures { OnOk result (lent_names names.new.items ≡ texts_of words.now) }
-{
-    for word in words {
-        names.push(word.as_bytes())?;
-    }
-    Ok(())
 }

@@ -1,15 +1,17 @@
 //! The export of what range words give. Source: git-fast-export(1), and gitrevisions(7), "Specifying Ranges".
 
-ghost use Rattle.gx_cli.specs.Parts.{SendsRangeOf, SendsWords};
+ghost use Rattle.std.specs.Prelude.{◌≡◌, []};
+ghost use Rattle.gx_cli.specs.Parts.{ReadsRangesInto, SendsRangeOf, SendsWords};
 
 use crate::CliFault;
 use crate::log::read_into;
 use crate::opening::{StoreBytes, open};
 use crate::serving::{Outcome, outcome_of, refused};
-use crate::words::refused as refused_word;
+use crate::words::{refused as refused_word, texts_of};
 use gx_export::{RangeFault, export_range};
 use gx_object::Namer;
 use gx_repo::Repo;
+use gx_rev::Range;
 use gx_text::Sink;
 use std::alloc::Allocator;
 use std::hash::RandomState;
@@ -48,10 +50,23 @@ fn export_words<N: Namer, W: Sink, A: Allocator + Copy>(
     ensures { SendsWords N.name_of W.taken repo.now done words.now sink.old sink.new result }
 {
     let mut ranges = Vec::new(alloc);
-    read_into(alloc, words, &mut ranges)?;
+    read_words(alloc, words, &mut ranges)?;
     match export_range(alloc, repo, ranges.as_slice(), sink, done) {
         Ok(()) => Ok(()),
         Err(RangeFault::Walk(fault)) => Err(refused_word(fault.word as u64, fault.kind)),
         Err(RangeFault::Export(fault)) => Err(CliFault::Export(fault)),
     }
+}
+
+/// Puts range words into a list, or tells the first that is none.
+fn read_words<A: Allocator + Copy>(
+    alloc: A,
+    words: &[&str],
+    ranges: &mut Vec<Range<A>, A>,
+) -> Result<(), CliFault>
+    requires empty { ranges.old.items ≡ [] }
+    ensures { ReadsRangesInto words.now ranges.new.items result }
+{
+    let texts = texts_of(alloc, words)?;
+    read_into(alloc, &texts, ranges)
 }

@@ -2,14 +2,14 @@
 
 ghost use Rattle.std.specs.Prelude.{◌≡◌};
 ghost use Rattle.gx_cli.specs.Archiving.{of_archive};
-ghost use Rattle.gx_cli.specs.Gathering.{of_batch};
+ghost use Rattle.gx_cli.specs.Gathering.{of_batch, of_format};
 ghost use Rattle.gx_cli.specs.declared.fault.CliFault.TheVariants.{OutOfMemory};
 
 use crate::BlobsFault;
 use crate::words::refused;
 use gx_adapt::AdaptFault;
 use gx_archive::ArchiveFault;
-use gx_batch::BatchFault;
+use gx_batch::{BatchFault, FormatFault};
 use gx_export::ExportFault;
 use gx_file::FileFault;
 use gx_import::ImportFault;
@@ -40,6 +40,9 @@ pub enum CliFault {
     /// Why it isn't told where a command begins.
     #[error("gx: where: {0}")]
     Where(WhereFault),
+    /// The format of a batch isn't one.
+    #[error("gx: BadFormat")]
+    BadFormat,
     /// There is a store where a new one is to be made. The program answers it, which looks at files.
     #[error("gx: store exists")]
     StoreExists,
@@ -83,6 +86,17 @@ impl From<BatchFault> for CliFault {
             BatchFault::OutOfMemory => CliFault::OutOfMemory,
             BatchFault::ReadFailed => CliFault::ReadFailed,
             BatchFault::WriteFailed => CliFault::WriteFailed,
+        }
+    }
+}
+
+impl From<FormatFault> for CliFault {
+    ghost from_gives = { λ from fault. fault ≡ of_format from };
+
+    fn from(fault: FormatFault) -> CliFault {
+        match fault {
+            FormatFault::OutOfMemory => CliFault::OutOfMemory,
+            FormatFault::BadFormat => CliFault::BadFormat,
         }
     }
 }

@@ -3,16 +3,40 @@
 ghost use Rattle.std.specs.Prelude.{◌≡◌, [], Ok, OnOk};
 ghost use Rattle.std.specs.List.{flat_map};
 ghost use Rattle.gx_cli.specs.Answers.{Prints, shown_line};
-ghost use Rattle.gx_cli.specs.Parts.{AreAllNamed, EvaluatesInto, PrintsNames, ReadsInto};
+ghost use Rattle.gx_cli.specs.Parts.{AreAllNamed, EvaluatesInto, NamesStore, PrintsNames, ReadsInto};
 
 use crate::CliFault;
+use crate::opening::StoreBytes;
+use crate::questions::{Question, print_stored};
 use crate::sending::put_text;
-use crate::words::refused;
+use crate::serving::{Outcome, refused};
+use crate::words::{refused as refused_word, texts_of};
 use gx_object::Namer;
 use gx_repo::Repo;
 use gx_rev::{Revision, Shown};
 use gx_text::Sink;
 use std::alloc::Allocator;
+use std::hash::RandomState;
+
+/// Reads a store's text, and prints the names of what revisions give. The command ends with it.
+pub(crate) fn names_stored<N: Namer + Drop, W: Sink, A: Allocator + Copy>(
+    alloc: A,
+    namer: N,
+    revisions: &[&str],
+    store: StoreBytes<'_, A>,
+    sink: &mut W,
+    state: RandomState,
+) -> Outcome<A>
+    ensures { NamesStore N.name_of W.taken namer revisions.now store.entry sink.old sink.new result }
+{
+    match texts_of(alloc, revisions) {
+        Ok(words) => {
+            let question = Question::Names(words.as_slice());
+            print_stored(alloc, namer, question, store, sink, state)
+        }
+        Err(_) => refused(CliFault::OutOfMemory),
+    }
+}
 
 /// Prints the name of what each word gives as a revision; a submodule's digits. All words are read, then all are evaluated,
 /// and only then is anything printed.
@@ -22,7 +46,7 @@ use std::alloc::Allocator;
 pub(crate) fn print_names<N: Namer, A: Allocator + Copy, W: Sink>(
     alloc: A,
     repo: &Repo<N, A>,
-    words: &[&str],
+    words: &[&[u8]],
     sink: &mut W,
 ) -> Result<(), CliFault>
     ensures { PrintsNames N.name_of W.taken repo.now words.now sink.old sink.new result }
@@ -37,16 +61,16 @@ pub(crate) fn print_names<N: Namer, A: Allocator + Copy, W: Sink>(
 /// Puts each word as a revision into a list, or tells the first that is none.
 fn read_into<A: Allocator + Copy>(
     alloc: A,
-    words: &[&str],
+    words: &[&[u8]],
     revisions: &mut Vec<Revision<A>, A>,
 ) -> Result<(), CliFault>
     requires empty { revisions.old.items ≡ [] }
     ensures { ReadsInto words.now revisions.new.items result }
 {
     for (place, word) in words.iter().enumerate() {
-        match Revision::read(alloc, word.as_bytes()) {
+        match Revision::read(alloc, word) {
             Ok(revision) => revisions.push(revision)?,
-            Err(kind) => return Err(refused(place as u64 + 1, kind)),
+            Err(kind) => return Err(refused_word(place as u64 + 1, kind)),
         }
     }
     Ok(())
@@ -65,7 +89,7 @@ fn eval_into<N: Namer, A: Allocator + Copy>(
     for (place, revision) in revisions.iter().enumerate() {
         match revision.eval(repo) {
             Ok(object) => shown.push(object)?,
-            Err(kind) => return Err(refused(place as u64 + 1, kind)),
+            Err(kind) => return Err(refused_word(place as u64 + 1, kind)),
         }
     }
     Ok(())

@@ -21,17 +21,17 @@ use std::hash::RandomState;
 #[derive(Clone, Copy)]
 pub(crate) enum Question<'a> {
     /// What a revision gives.
-    Show(&'a str),
+    Show(&'a [u8]),
     /// The entries of a revision's tree, or all of its files.
-    List(bool, &'a str),
+    List(bool, &'a [u8]),
     /// The archive of a revision's tree, with this prefix.
-    Archive(&'a str, &'a str),
+    Archive(&'a [u8], &'a [u8]),
     /// The refs.
     Refs,
     /// The commits of range words.
-    Log(LogOptions, &'a [&'a str]),
+    Log(LogOptions, &'a [&'a [u8]]),
     /// The names of what revisions give.
-    Names(&'a [&'a str]),
+    Names(&'a [&'a [u8]]),
 }
 
 /// Reads a store's text, and prints the answer to a question. The command ends with it.
@@ -52,7 +52,7 @@ pub(crate) fn print_stored<N: Namer + Drop, W: Sink, A: Allocator + Copy>(
 }
 
 /// Prints the answer to a question that is asked of a repository.
-fn print_answer<N: Namer, W: Sink, A: Allocator + Copy>(
+pub(crate) fn print_answer<N: Namer, W: Sink, A: Allocator + Copy>(
     alloc: A,
     repo: &Repo<N, A>,
     question: Question<'_>,
@@ -61,12 +61,10 @@ fn print_answer<N: Namer, W: Sink, A: Allocator + Copy>(
     ensures { PrintsOf N.name_of W.taken question.entry repo.now sink.old sink.new result }
 {
     match question {
-        Question::Show(revision) => show(alloc, repo, revision.as_bytes(), sink),
-        Question::List(recursive, revision) => {
-            list(alloc, repo, recursive, revision.as_bytes(), sink)
-        }
+        Question::Show(revision) => show(alloc, repo, revision, sink),
+        Question::List(recursive, revision) => list(alloc, repo, recursive, revision, sink),
         Question::Archive(prefix, revision) => {
-            print_archive(alloc, repo, prefix.as_bytes(), revision.as_bytes(), sink)
+            print_archive(alloc, repo, prefix, revision, sink)
         }
         Question::Refs => print_refs(repo, sink),
         Question::Log(options, ranges) => log(alloc, repo, options, ranges, sink),

@@ -12,10 +12,12 @@ use crate::dropping::drop_stored;
 use crate::exporting::export_stored;
 use crate::exporting_range::export_range_stored;
 use crate::importing::{import_stored, init};
+use crate::log::log_stored;
+use crate::names::names_stored;
 use crate::opening::StoreBytes;
 use crate::placing::print_place;
 use crate::questions::{Question, print_stored};
-use crate::{CliFault, Line, blobs, try_revision};
+use crate::{CliFault, Line, blobs, find_fault, try_revision};
 use gx_import::Explanation;
 use gx_model::Features;
 use gx_object::Namer;
@@ -34,10 +36,11 @@ pub struct Outcome<A: Allocator> {
 /// Runs a command. What it prints goes to the sink.
 ///
 /// `blobs` reads the source as [`blobs`] does, `adapt` as [`adapt_stream`] does, and `try` as [`try_revision`] does: the source
-/// is read before the revision. `where` reads it whole, and tells where a command begins. These, and `init`, have no use for the
-/// store's bytes. The other commands read the store's text first, then all words, and then evaluate each in its order; `import`
-/// and `batch` read their source then. Only `init`, `import`, `drop` and `gc` answer a next store text: where they are accepted,
-/// and `import` also where it is refused after a checkpoint. What `import` and `gc` report is told by
+/// is read before the revision. `where` reads it whole, and tells where a command begins, or what [`find_fault`] finds. These, and
+/// `init`, have no use for the store's bytes. The other commands read the store's text first, then all words, and then evaluate
+/// each in its order; but `batch` reads its format before. `import` and `batch` read their source then, and so do `drop` and
+/// `log` before the words, where its lines are words. Only `init`, `import`, `drop` and `gc` answer a next store text: where they
+/// are accepted, and `import` also where it is refused after a checkpoint. What `import` and `gc` report is told by
 /// [`import_store_reporting`](crate::import_store_reporting) and [`collect_store`](crate::collect_store).
 ///
 /// Importing what was exported, in any form, makes the repository again, as far as its refs reach: the same refs and object names.
@@ -112,6 +115,12 @@ fn serve_bytes<N: Namer + Drop, R: Source + Drop, W: Sink, A: Allocator + Copy>(
             outcome_of(adapt_stream(alloc, source, sink, *drop_signatures))
         }
         Line::Where(command) => outcome_of(print_place(alloc, *command, source, sink)),
+        Line::WhereFault { done, force } => {
+            let features = features_of(*done, *force);
+            let mut told = Explanation::none();
+            let told = &mut told;
+            outcome_of(find_fault(alloc, namer, source, features, state, told))
+        }
         Line::Init { file: _ } => init(alloc, namer, state),
         Line::Import {
             file: _,
@@ -124,26 +133,36 @@ fn serve_bytes<N: Namer + Drop, R: Source + Drop, W: Sink, A: Allocator + Copy>(
             let (outcome, _) = import_stored(alloc, namer, store, source, sink, features, state);
             outcome
         }
-        Line::Batch { check, file: _ } => {
-            batch_stored(alloc, namer, *check, store, source, sink, state)
-        }
+        Line::Batch {
+            form,
+            format,
+            nul,
+            file: _,
+        } => batch_stored(
+            alloc, namer, *form, *format, *nul, store, source, sink, state,
+        ),
         Line::Export { form, file: _ } => { export_stored(alloc, namer, *form, store, sink, state) }
         Line::ExportRange {
             done,
             file: _,
             ranges,
         } => export_range_stored(alloc, namer, *done, ranges.as_slice(), store, sink, state),
-        Line::Drop { file: _, refs } => drop_stored(alloc, namer, store, refs.as_slice(), state),
+        Line::Drop {
+            file: _,
+            refs,
+            stdin,
+        } => drop_stored(alloc, namer, store, refs.as_slice(), *stdin, source, state),
         Line::Gc { file: _, report: _ } => collect_stored(alloc, namer, store, state),
         Line::Show { file: _, revision } => {
-            print_stored(alloc, namer, Question::Show(revision), store, sink, state)
+            let question = Question::Show(revision.as_bytes());
+            print_stored(alloc, namer, question, store, sink, state)
         }
         Line::Ls {
             recursive,
             file: _,
             revision,
         } => {
-            let question = Question::List(*recursive, revision);
+            let question = Question::List(*recursive, revision.as_bytes());
             print_stored(alloc, namer, question, store, sink, state)
         }
         Line::Archive {
@@ -151,7 +170,7 @@ fn serve_bytes<N: Namer + Drop, R: Source + Drop, W: Sink, A: Allocator + Copy>(
             file: _,
             revision,
         } => {
-            let question = Question::Archive(prefix, revision);
+            let question = Question::Archive(prefix.as_bytes(), revision.as_bytes());
             print_stored(alloc, namer, question, store, sink, state)
         }
         Line::Refs { file: _ } => print_stored(alloc, namer, Question::Refs, store, sink, state),
@@ -159,13 +178,18 @@ fn serve_bytes<N: Namer + Drop, R: Source + Drop, W: Sink, A: Allocator + Copy>(
             options,
             file: _,
             ranges,
-        } => {
-            let question = Question::Log(*options, ranges.as_slice());
-            print_stored(alloc, namer, question, store, sink, state)
-        }
+        } => log_stored(
+            alloc,
+            namer,
+            *options,
+            ranges.as_slice(),
+            store,
+            source,
+            sink,
+            state,
+        ),
         Line::RevParse { file: _, revisions } => {
-            let question = Question::Names(revisions.as_slice());
-            print_stored(alloc, namer, question, store, sink, state)
+            names_stored(alloc, namer, revisions.as_slice(), store, sink, state)
         }
     }
 }

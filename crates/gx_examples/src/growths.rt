@@ -81,6 +81,7 @@ fn is_memory(line: &Line<'_>, fault: CliFault) -> bool {
             }
             | Line::Adapt { drop_signatures: _ }
             | Line::Where(_)
+            | Line::WhereFault { done: _, force: _ }
     );
     match fault {
         CliFault::OutOfMemory => !is_export && !is_refs,
@@ -107,7 +108,7 @@ fn is_left(line: &Line<'_>, printed: &[u8], whole: &[u8]) -> bool {
         }
         | Line::Adapt { drop_signatures: _ } => whole.starts_with(printed),
         Line::Export { form: _, file: _ } => whole.starts_with(printed),
-        Line::Batch { check: _, file: _ } => whole.starts_with(printed),
+        Line::Batch { .. } => whole.starts_with(printed),
         _ => printed.is_empty(),
     }
 }

@@ -27,11 +27,14 @@ $ export store %% export of two branches % 21 % two branches
 $ export store %% export of modes % 21 % modes
 $ export --changes store %% changes of two branches % 21 % two branches
 $ drop store refs/heads/main %%% 9 % root
+$ drop --stdin store %
+refs/heads/main%% 9 % root
 $ gc store %%% 8 % root
 $ adapt % rough % mended % 2
 $ where 2 % mended %
 5:22:commit refs/heads/m
 % 3
+$ where --fault % version %% 4
 $ batch store %
 main:test.txt%
 83baae61804e65cc73a7201a7252750c76066a30 blob 10

@@ -15,12 +15,17 @@ $ adapt % Adapt { drop_signatures: false }
 $ adapt|--drop-signatures % Adapt { drop_signatures: true }
 $ where|7 % Where(7)
 $ where|18446744073709551615 % Where(18446744073709551615)
+$ where|--fault % WhereFault { done: false, force: false }
+$ where|--done|--fault % WhereFault { done: true, force: false }
+$ where|--fault|--force|--done % WhereFault { done: true, force: true }
 $ init|f % Init { file: \"f\" }
 $ import|f % Import { file: \"f\", done: false, force: false, report: false, explain: false }
 $ import|--force|f|--done % Import { file: \"f\", done: true, force: true, report: false, explain: false }
 $ import|f|--report % Import { file: \"f\", done: false, force: false, report: true, explain: false }
 $ import|f|--explain % Import { file: \"f\", done: false, force: false, report: false, explain: true }
-$ drop|f|refs/heads/a|b % Drop { file: \"f\", refs: [\"refs/heads/a\", \"b\"] }
+$ drop|f|refs/heads/a|b % Drop { file: \"f\", refs: [\"refs/heads/a\", \"b\"], stdin: false }
+$ drop|f|--stdin % Drop { file: \"f\", refs: [], stdin: true }
+$ drop|--stdin|f|a % Drop { file: \"f\", refs: [\"a\"], stdin: true }
 $ gc|f % Gc { file: \"f\", report: false }
 $ gc|--report|f % Gc { file: \"f\", report: true }
 $ export|f % Export { form: FullTree, file: \"f\" }
@@ -37,25 +42,44 @@ $ ls|f|x|--recursive % Ls { recursive: true, file: \"f\", revision: \"x\" }
 $ archive|f|x % Archive { prefix: \"\", file: \"f\", revision: \"x\" }
 $ archive|--prefix=p/|f|x % Archive { prefix: \"p/\", file: \"f\", revision: \"x\" }
 $ archive|f|x|--prefix|p % Archive { prefix: \"p\", file: \"f\", revision: \"x\" }
-$ batch|f % Batch { check: false, file: \"f\" }
-$ batch|--check|f % Batch { check: true, file: \"f\" }
+$ batch|f % Batch { form: Bytes, format: None, nul: false, file: \"f\" }
+$ batch|--check|f % Batch { form: Check, format: None, nul: false, file: \"f\" }
+$ batch|f|--command|-z % Batch { form: Commands, format: None, nul: true, file: \"f\" }
+$ batch|--check|--format=a b|f % Batch { form: Check, format: Some(\"a b\"), nul: false, file: \"f\" }
+$ batch|-z|--format||f % Batch { form: Bytes, format: Some(\"\"), nul: true, file: \"f\" }
 $ refs|f % Refs { file: \"f\" }
 ";
 
 /// The same of `log`.
 const LOGS: &str = "
-$ log|f|main % Log { options: LogOptions { reverse: false, max_count: None, parents: false }, file: \"f\", ranges: [\"main\"] }
-$ log|f|^main % Log { options: LogOptions { reverse: false, max_count: None, parents: false }, file: \"f\", ranges: [\"^main\"] }
-$ log|f|b|a..b|r^! % Log { options: LogOptions { reverse: false, max_count: None, parents: false }, file: \"f\", ranges: [\"b\", \"a..b\", \"r^!\"] }
-$ log|f|--|-x|--|^main % Log { options: LogOptions { reverse: false, max_count: None, parents: false }, file: \"f\", ranges: [\"-x\", \"--\", \"^main\"] }
-$ log|--reverse|f|a % Log { options: LogOptions { reverse: true, max_count: None, parents: false }, file: \"f\", ranges: [\"a\"] }
-$ log|f|a|--parents|b % Log { options: LogOptions { reverse: false, max_count: None, parents: true }, file: \"f\", ranges: [\"a\", \"b\"] }
-$ log|--reverse|--max-count|3|--parents|f|a % Log { options: LogOptions { reverse: true, max_count: Some(3), parents: true }, file: \"f\", ranges: [\"a\"] }
-$ log|--max-count=3|f|a|--parents|--reverse % Log { options: LogOptions { reverse: true, max_count: Some(3), parents: true }, file: \"f\", ranges: [\"a\"] }
-$ log|--max-count|0|f|a % Log { options: LogOptions { reverse: false, max_count: Some(0), parents: false }, file: \"f\", ranges: [\"a\"] }
-$ log|--max-count|007|f|a % Log { options: LogOptions { reverse: false, max_count: Some(7), parents: false }, file: \"f\", ranges: [\"a\"] }
-$ log|--max-count|+4|f|a % Log { options: LogOptions { reverse: false, max_count: Some(4), parents: false }, file: \"f\", ranges: [\"a\"] }
-$ log|--max-count|18446744073709551615|f|a % Log { options: LogOptions { reverse: false, max_count: Some(18446744073709551615), parents: false }, file: \"f\", ranges: [\"a\"] }
+$ log|f|main % Log { options: LogOptions { reverse: false, max_count: None, parents: false, all: false, stdin: false, format: Names }, file: \"f\", ranges: [\"main\"] }
+$ log|f|^main % Log { options: LogOptions { reverse: false, max_count: None, parents: false, all: false, stdin: false, format: Names }, file: \"f\", ranges: [\"^main\"] }
+$ log|f|b|a..b|r^! % Log { options: LogOptions { reverse: false, max_count: None, parents: false, all: false, stdin: false, format: Names }, file: \"f\", ranges: [\"b\", \"a..b\", \"r^!\"] }
+$ log|f|--|-x|--|^main % Log { options: LogOptions { reverse: false, max_count: None, parents: false, all: false, stdin: false, format: Names }, file: \"f\", ranges: [\"-x\", \"--\", \"^main\"] }
+$ log|--reverse|f|a % Log { options: LogOptions { reverse: true, max_count: None, parents: false, all: false, stdin: false, format: Names }, file: \"f\", ranges: [\"a\"] }
+$ log|f|a|--parents|b % Log { options: LogOptions { reverse: false, max_count: None, parents: true, all: false, stdin: false, format: Names }, file: \"f\", ranges: [\"a\", \"b\"] }
+$ log|--reverse|--max-count|3|--parents|f|a % Log { options: LogOptions { reverse: true, max_count: Some(3), parents: true, all: false, stdin: false, format: Names }, file: \"f\", ranges: [\"a\"] }
+$ log|--max-count=3|f|a|--parents|--reverse % Log { options: LogOptions { reverse: true, max_count: Some(3), parents: true, all: false, stdin: false, format: Names }, file: \"f\", ranges: [\"a\"] }
+$ log|--max-count|0|f|a % Log { options: LogOptions { reverse: false, max_count: Some(0), parents: false, all: false, stdin: false, format: Names }, file: \"f\", ranges: [\"a\"] }
+$ log|--max-count|007|f|a % Log { options: LogOptions { reverse: false, max_count: Some(7), parents: false, all: false, stdin: false, format: Names }, file: \"f\", ranges: [\"a\"] }
+$ log|--max-count|+4|f|a % Log { options: LogOptions { reverse: false, max_count: Some(4), parents: false, all: false, stdin: false, format: Names }, file: \"f\", ranges: [\"a\"] }
+$ log|--max-count|18446744073709551615|f|a % Log { options: LogOptions { reverse: false, max_count: Some(18446744073709551615), parents: false, all: false, stdin: false, format: Names }, file: \"f\", ranges: [\"a\"] }
+";
+
+/// The same with its choices of words and of a format.
+const CHOICES: &str = "
+$ log|f % Log { options: LogOptions { reverse: false, max_count: None, parents: false, all: false, stdin: false, format: Names }, file: \"f\", ranges: [] }
+$ log|--all|f % Log { options: LogOptions { reverse: false, max_count: None, parents: false, all: true, stdin: false, format: Names }, file: \"f\", ranges: [] }
+$ log|f|a|--all % Log { options: LogOptions { reverse: false, max_count: None, parents: false, all: true, stdin: false, format: Names }, file: \"f\", ranges: [\"a\"] }
+$ log|--stdin|f % Log { options: LogOptions { reverse: false, max_count: None, parents: false, all: false, stdin: true, format: Names }, file: \"f\", ranges: [] }
+$ log|--stdin|f|^a % Log { options: LogOptions { reverse: false, max_count: None, parents: false, all: false, stdin: true, format: Names }, file: \"f\", ranges: [\"^a\"] }
+$ log|-n|3|f % Log { options: LogOptions { reverse: false, max_count: Some(3), parents: false, all: false, stdin: false, format: Names }, file: \"f\", ranges: [] }
+$ log|-n3|f % Log { options: LogOptions { reverse: false, max_count: Some(3), parents: false, all: false, stdin: false, format: Names }, file: \"f\", ranges: [] }
+$ log|--format=oneline|f % Log { options: LogOptions { reverse: false, max_count: None, parents: false, all: false, stdin: false, format: Oneline }, file: \"f\", ranges: [] }
+$ log|--format|raw|f % Log { options: LogOptions { reverse: false, max_count: None, parents: false, all: false, stdin: false, format: Raw }, file: \"f\", ranges: [] }
+$ log|f|--format=subject % Log { options: LogOptions { reverse: false, max_count: None, parents: false, all: false, stdin: false, format: Subject }, file: \"f\", ranges: [] }
+$ log|--format=author|f % Log { options: LogOptions { reverse: false, max_count: None, parents: false, all: false, stdin: false, format: Author }, file: \"f\", ranges: [] }
+$ log|--format=dates|--reverse|f % Log { options: LogOptions { reverse: true, max_count: None, parents: false, all: false, stdin: false, format: Dates }, file: \"f\", ranges: [] }
 ";
 
 /// The same of `rev-parse`, whose revisions stay in their order.
@@ -79,6 +103,11 @@ $ where % refused
 $ where|x % refused
 $ where|18446744073709551616 % refused
 $ where|1|f % refused
+$ where|1|--fault % refused
+$ where|--fault|--fault % refused
+$ where|--done % refused
+$ where|1|--force % refused
+$ where|1|--done % refused
 $ init % refused
 $ import % refused
 $ import|--report|--report|f % refused
@@ -102,10 +131,21 @@ $ archive|f % refused
 $ archive|--prefix|f|a % refused
 $ archive|--prefix=a|--prefix=b|f|a % refused
 $ batch % refused
+$ batch|--check|--command|f % refused
+$ batch|-z|-z|f % refused
+$ batch|--nul|f % refused
+$ batch|--format|f % refused
 $ batch|f|main % refused
 $ refs % refused
-$ log|f % refused
+$ log % refused
 $ log|f|-x % refused
+$ log|--format=names|f % refused
+$ log|--format=Raw|f % refused
+$ log|--format=|f % refused
+$ log|--format=raw|--format=raw|f % refused
+$ log|--format=raw|--parents|f % refused
+$ log|-n|f % refused
+$ log|-n|1|--max-count|1|f % refused
 $ log|--max-count|f|a % refused
 $ log|--max-count|-1|f|a % refused
 $ log|--max-count=-1|f|a % refused
@@ -136,11 +176,11 @@ Usage: gx try [OPTIONS] <REV>
 $ adapt|--help % help %
 Usage: gx adapt [OPTIONS]
 $ where|--help % help %
-Usage: gx where <N>
+Usage: gx where [OPTIONS] [N]
 $ init|--help % help %
 Usage: gx init <FILE>
 $ drop|--help % help %
-Usage: gx drop <FILE> <REF>...
+Usage: gx drop [OPTIONS] <FILE> [REF]...
 $ gc|--help % help %
 Usage: gx gc [OPTIONS] <FILE>
 $ export|--help % help %
@@ -162,11 +202,11 @@ Usage: gx batch [OPTIONS] <FILE>
 $ refs|--help % help %
 Usage: gx refs <FILE>
 $ log|--help % help %
-Usage: gx log [OPTIONS] <FILE> <RANGE>...
+Usage: gx log [OPTIONS] <FILE> [RANGE]...
 $ log|--help % help %
-      --max-count <N>
+  -n, --max-count <N>
 $ log|-h % help %
-      --max-count <N>  Lists N commits%
+  -n, --max-count <N>  Lists N commits%
 $ rev-parse|--help % help %
 Usage: gx rev-parse <FILE> <REV>...
 $ rev-parse|--help % help %
@@ -200,7 +240,7 @@ fn is_end(status: u8, text: &str, wanted: &str) -> bool {
 
 #[test]
 fn words_give_their_line_or_end_with_their_status(rt: HostRuntime) {
-    for rows in [LINES, LOGS, REVISIONS, REFUSED, HELP] {
+    for rows in [LINES, LOGS, CHOICES, REVISIONS, REFUSED, HELP] {
         for row in rows.split('$').skip(1) {
             assert!(rt; is_right(rt.alloc(), row), "{row}");
         }

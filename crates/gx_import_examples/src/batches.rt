@@ -1,7 +1,9 @@
 //! Answers where memory fails, and answers of large objects.
 
 use crate::given::opened;
-use gx_batch::{BatchFault, Format, FormatFault, LineEnding, Revisions, answer_lines, batch, read_lines};
+use gx_batch::{
+    BatchFault, Format, FormatFault, LineEnding, Revisions, answer_lines, batch, read_lines,
+};
 use gx_devices::Refusing;
 use gx_object::Sha1Namer;
 use gx_repo::Repo;
@@ -144,7 +146,15 @@ fn objects_are_told_in_formats(rt: HostRuntime) -> Result<(), Fail> {
     };
     let parts = b"%(objectsize)|%%%(objecttype) %(objectname)%x%".as_slice();
     let told = b"3|%blob 45b983be36b73c0788dc9cbcb76cbb80fc7bb057%x%\nnope missing\n".as_slice();
-    assert!(rt; is_formatted(rt.alloc(), &repo, (parts, LineEnding::Lf), b"main:a\r\nnope", told));
+    assert!(rt;
+        is_formatted(
+            rt.alloc(),
+            &repo,
+            (parts, LineEnding::Lf),
+            b"main:a\r\nnope",
+            told
+        )
+    );
     let kind = b"%(objecttype)".as_slice();
     let lines = b"main:a\0main:a\r\0main\0\0main:a\n".as_slice();
     let kinds = b"blob\nmain:a\r missing\ncommit\n missing\nmain:a\n missing\n".as_slice();
@@ -155,7 +165,13 @@ fn objects_are_told_in_formats(rt: HostRuntime) -> Result<(), Fail> {
 
 #[test]
 fn unknown_names_are_no_format(rt: HostRuntime) -> Result<(), Fail> {
-    for text in ["%(rest)", "a%(", "%(objectname", "%()", "%(objectsize:disk)"] {
+    for text in [
+        "%(rest)",
+        "a%(",
+        "%(objectname",
+        "%()",
+        "%(objectsize:disk)",
+    ] {
         let refused = Format::read(rt.alloc(), text.as_bytes()).err();
         assert!(rt; refused == Some(FormatFault::BadFormat), "{text}");
     }

@@ -42,8 +42,7 @@ const OBJECT: &[u8] =
     b"commit refs/heads/a\ncommitter A <a@x> 1 +0000\ndata 0\nM 100644 E93f5633c0be6fb3012fdb2b8315937292aa7005 f\n";
 
 /// A tag is of a blob.
-const TAG: &[u8] =
-    b"blob\nmark :3\ndata 0\ntag v1\nfrom :3\ntagger A <a@x> 1 +0000\ndata 0\n";
+const TAG: &[u8] = b"blob\nmark :3\ndata 0\ntag v1\nfrom :3\ntagger A <a@x> 1 +0000\ndata 0\n";
 
 /// A branch is published, and then moved to a commit without parents.
 const MOVED: &[u8] =

@@ -197,7 +197,8 @@ fn file_of<'a>(line: &Line<'a>) -> Option<&'a str> {
             explain: _,
         }
         | Line::Adapt { drop_signatures: _ }
-        | Line::Where(_) => None,
+        | Line::Where(_)
+        | Line::WhereFault { done: _, force: _ } => None,
         Line::Init { file }
         | Line::Import {
             file,
@@ -206,7 +207,11 @@ fn file_of<'a>(line: &Line<'a>) -> Option<&'a str> {
             report: _,
             explain: _,
         }
-        | Line::Drop { file, refs: _ }
+        | Line::Drop {
+            file,
+            refs: _,
+            stdin: _,
+        }
         | Line::Gc { file, report: _ }
         | Line::Export { form: _, file }
         | Line::ExportRange {
@@ -215,7 +220,12 @@ fn file_of<'a>(line: &Line<'a>) -> Option<&'a str> {
             ranges: _,
         }
         | Line::Refs { file }
-        | Line::Batch { check: _, file }
+        | Line::Batch {
+            form: _,
+            format: _,
+            nul: _,
+            file,
+        }
         | Line::Show { file, revision: _ }
         | Line::Ls {
             recursive: _,

@@ -63,7 +63,11 @@ fn makes_text(line: &Line<'_>) -> bool {
                 report: _,
                 explain: _
             }
-            | Line::Drop { file: _, refs: _ }
+            | Line::Drop {
+                file: _,
+                refs: _,
+                stdin: _
+            }
             | Line::Gc { file: _, report: _ }
     )
 }

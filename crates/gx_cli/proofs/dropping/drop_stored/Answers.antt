@@ -9,5 +9,5 @@ use Rattle.gx_cli.proofs.dropping.drop_stored.Goals as goal
 pub returns-in-Ok : goal.returns-in-Ok
 returns-in-Ok g c =
     of_read c.args.namer c.in-Ok.repo (store_of (g.N.Namer.name_of c.args.namer) (bytes_of c.args.store))
-    (λ namer stored. DropsRefs (g.N.Namer.name_of namer) stored (texts_of c.args.words.now) c.drop_opened.result)
+    (λ namer stored. DropsRefs (g.N.Namer.name_of namer) c.args.stdin stored (texts_of c.args.words.now) (g.R.Source.coming c.args.source) c.drop_opened.result)
     c.in-Ok.ensures.namer c.in-Ok.ensures.store (inr c.drop_opened.ensures)

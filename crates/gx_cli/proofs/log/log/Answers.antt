@@ -1,48 +1,76 @@
-use Rattle.std.proofs.Common.{ap, map, subst, sym, ◌∙◌, Ok, Err}
-use Rattle.std.specs.List.{AllByRecursion, flat_map}
+use Rattle.std.proofs.Common.{List, ap, map, subst, sym, ◌∙◌, Ok, Err}
+use Rattle.std.specs.List.{AllByRecursion}
 use Rattle.std.proofs.lemmas.Result.{err_from_is_err_and}
 use Rattle.gx_model.specs.declared.objects.Kind.TheVariants as kinds
 use Rattle.gx_model.specs.Faults.{and_then}
+use Rattle.gx_model.specs.Histories.Values.{Commit}
+use Rattle.gx_model.specs.Texts.{Bytes}
 use Rattle.gx_model.specs.Records.HistoryOf.{history_of}
 use Rattle.gx_model.specs.Revisions.Ranges.{each_word}
 use Rattle.gx_model.specs.Revisions.{range_of}
 use Rattle.gx_rev.specs.Objects.{IsHeldAs, commit_at}
+use Rattle.gx_rev.specs.Views.{shown_range}
 use Rattle.gx_cli.specs.Answers.{Prints}
+use Rattle.gx_cli.specs.Logs.{arranged, commits_logged, entries_text, lists_refs, log_text}
 use Rattle.gx_cli.specs.Sending.{PrintsText}
-use Rattle.gx_cli.specs.Stored.{all_words, commits_listed, log_line, log_lines, log_text, texts_of}
+use Rattle.gx_cli.specs.Stored.{all_words, texts_of}
+use Rattle.gx_cli.specs.Words.{RefusesWord}
 use Rattle.gx_cli.proofs.ListedCommits.{all_arranged, map_arranged}
-use Rattle.gx_cli.proofs.RefusedWords.{in_two, refusal_printed}
+use Rattle.gx_cli.proofs.RefusedWords.{first_refused, in_two, later_refused, refusal_printed, then_words}
 use Rattle.gx_cli.proofs.SentLines.{given_text}
 use Rattle.gx_cli.proofs.log.log.Goals as goal
 
-pub returns-in_err-names : goal.returns-in_err-names
-returns-in_err-names g c =
+pub returns-in_err-read_into : goal.returns-in_err-read_into
+returns-in_err-read_into g c =
     let p = err_from_is_err_and c.from_residual.result c.from_residual.ensures.1 in
     let name = g.N.Namer.name_of c.args.repo.now.0 in
-    let r = c.args.repo.now.1 in
+    let o = c.args.options in
+    let words = texts_of c.args.words.now in
     let was = g.W.Sink.taken c.args.sink.now in
-    let read = each_word range_of (texts_of c.args.words.now) in
-    let listed = commits_listed name (history_of r) in
-    let lines = log_lines name c.args.options in
-    rw (p.1, p.2) (subst (λ given. Prints given was was (Err c.in_err-names.field-0.0)) (sym (in_two read listed lines)) (refusal_printed (all_words (and_then read listed)) lines was c.in_err-names.field-0.0 c.in_err-names.ensures.commits))
+    let read = each_word range_of words in
+    let listed = commits_logged name (history_of c.args.repo.now.1) (lists_refs o words) in
+    let text : List Commit → Bytes = λ commits. entries_text name o (arranged o commits) in
+    let fault = c.in_err-read_into.field-0.0 in
+    rw (p.1, p.2) (subst (λ given. Prints given was was (Err fault)) (sym (in_two read listed text)) (refusal_printed (all_words (and_then read listed)) text was fault (first_refused read listed fault c.in_err-read_into.ensures)))
+
+pub returns-in_err-names : goal.returns-in_err-names
+returns-in_err-names g c =
+    let p = err_from_is_err_and c.from_residual-in_err-names.result c.from_residual-in_err-names.ensures.1 in
+    let name = g.N.Namer.name_of c.args.repo.now.0 in
+    let h = history_of c.args.repo.now.1 in
+    let o = c.args.options in
+    let words = texts_of c.args.words.now in
+    let was = g.W.Sink.taken c.args.sink.now in
+    let read = each_word range_of words in
+    let listed = commits_logged name h (lists_refs o words) in
+    let text : List Commit → Bytes = λ commits. entries_text name o (arranged o commits) in
+    let fault = c.in_err-names.field-0.0 in
+    let ranges = map shown_range c.read_into.new.ranges.items in
+    let all = subst (λ rs. RefusesWord fault (all_words (commits_logged name h c.lists_refs.result (map shown_range rs)))) c.as_slice.ensures.value c.in_err-names.ensures.commits in
+    let refused = subst (λ refs. RefusesWord fault (all_words (commits_logged name h refs ranges))) c.lists_refs.ensures all in
+    rw (p.1, p.2) (subst (λ given. Prints given was was (Err fault)) (sym (in_two read listed text)) (refusal_printed (all_words (and_then read listed)) text was fault (later_refused read ranges listed fault c.in_ok-read_into.ensures refused)))
 
 pub print_commits-requires : goal.print_commits-requires
 print_commits-requires g c =
     let r = c.args.repo.now.1 in
     let o = c.args.options in
-    subst (AllByRecursion (IsHeldAs kinds.Commit r)) (sym (c.as_slice.ensures.value ∙ c.arrange.ensures)) (all_arranged (IsHeldAs kinds.Commit r) o.reverse o.max_count c.in_ok-names.names.items c.in_ok-names.ensures.held)
+    subst (AllByRecursion (IsHeldAs kinds.Commit r)) (sym (c.as_slice-2.ensures.value ∙ c.arrange.ensures)) (all_arranged (IsHeldAs kinds.Commit r) o.reverse o.max_count c.in_ok-names.names.items c.in_ok-names.ensures.held)
 
 pub returns : goal.returns
 returns g c =
     let name = g.N.Namer.name_of c.args.repo.now.0 in
     let r = c.args.repo.now.1 in
+    let h = history_of r in
     let o = c.args.options in
+    let words = texts_of c.args.words.now in
     let was = g.W.Sink.taken c.args.sink.now in
     let now = g.W.Sink.taken c.print_commits.new.sink in
-    let read = each_word range_of (texts_of c.args.words.now) in
-    let listed = commits_listed name (history_of r) in
+    let read = each_word range_of words in
+    let listed = commits_logged name h (lists_refs o words) in
+    let text : List Commit → Bytes = λ commits. entries_text name o (arranged o commits) in
     let names = c.in_ok-names.names.items in
-    let text = log_lines name o (map (commit_at r) names) in
-    let given = in_two read listed (log_lines name o) ∙ ap (λ x. and_then x (λ commits. Ok (log_lines name o commits))) c.in_ok-names.ensures.commits in
-    let lines = ap (λ ns. flat_map (log_line name o.parents) (map (commit_at r) ns)) (c.as_slice.ensures.value ∙ c.arrange.ensures) ∙ ap (flat_map (log_line name o.parents)) (map_arranged (commit_at r) o.reverse o.max_count names) in
-    given_text (log_text name o (history_of r) (texts_of c.args.words.now)) text was now c.print_commits.result given (subst (λ t. PrintsText t was now c.print_commits.result) lines c.print_commits.ensures)
+    let ranges = map shown_range c.read_into.new.ranges.items in
+    let told = (λ i. all_words (commits_logged name h (sym c.lists_refs.ensures i) (map shown_range (sym c.as_slice.ensures.value i)))) ∙ c.in_ok-names.ensures.commits in
+    let given = in_two read listed text ∙ ap (λ x. and_then x (λ commits. Ok (text commits))) (then_words read ranges listed c.in_ok-read_into.ensures ∙ told) in
+    let lines = ap (λ ns. entries_text name o (map (commit_at r) ns)) (c.as_slice-2.ensures.value ∙ c.arrange.ensures) ∙ ap (entries_text name o) (map_arranged (commit_at r) o.reverse o.max_count names) in
+    given_text (log_text name o h words) (text (map (commit_at r) names)) was now c.print_commits.result given (subst (λ t. PrintsText t was now c.print_commits.result) lines c.print_commits.ensures)

@@ -1,4 +1,4 @@
-use Rattle.std.proofs.Common.{◌≡◌, ◌++◌, [], ◌∷◌, ◌+◌, ap, drop, map, refl, subst, sym, ◌∙◌}
+use Rattle.std.proofs.Common.{◌≡◌, ◌++◌, [], ◌∷◌, ◌+◌, ap, drop, get_or, map, refl, subst, sym, ◌∙◌}
 use Rattle.std.proofs.lemmas.List.{drop_all, drop_more, map-append}
 use Rattle.gx_model.specs.Revisions.{range_of}
 use Rattle.gx_rev.specs.Views.{shown_range}
@@ -12,9 +12,9 @@ returns-in-Err g c =
     let i = c.loop-place.place in
     let done = map shown_range c.loop-place.ranges.items in
     let left = texts_of (drop (i + 1) words) in
-    let next = ap texts_of (drop_more words i (record { ref_ptr = (0, 0); now = [] }) c.loop-place-test.true) ∙ ap (λ x. x ∷ left) (sym c.as_bytes.ensures.value) in
+    let next = ap texts_of (drop_more words i (record { ref_ptr = (0, 0); now = [] }) c.loop-place-test.true) in
     let read = subst (λ ts. AreRead range_of (texts_of words) ts i done) next c.loop-place.invariant in
-    rw c.refused.ensures (word_refused range_of (texts_of words) left c.as_bytes.result.now i done c.in-Err.kind c.in-Err.ensures read (i + 1) refl)
+    rw c.refused.ensures (word_refused range_of (texts_of words) left (get_or words i (record { ref_ptr = (0, 0); now = [] })).now i done c.in-Err.kind c.in-Err.ensures read (i + 1) refl)
 
 pub loop-place-preserved : goal.loop-place-preserved
 loop-place-preserved g c =
@@ -22,11 +22,11 @@ loop-place-preserved g c =
     let i = c.loop-place.place in
     let done = map shown_range c.loop-place.ranges.items in
     let left = texts_of (drop (i + 1) words) in
-    let next = ap texts_of (drop_more words i (record { ref_ptr = (0, 0); now = [] }) c.loop-place-test.true) ∙ ap (λ x. x ∷ left) (sym c.as_bytes.ensures.value) in
+    let next = ap texts_of (drop_more words i (record { ref_ptr = (0, 0); now = [] }) c.loop-place-test.true) in
     let read = subst (λ ts. AreRead range_of (texts_of words) ts i done) next c.loop-place.invariant in
     let pushed : c.push.new.self.items ≡ c.loop-place.ranges.items ++ c.in-Ok.range ∷ [] = c.in_ok-push-in-Ok.ensures.items in
     subst (AreRead range_of (texts_of words) left (i + 1)) (sym (ap (map shown_range) pushed ∙ map-append shown_range c.loop-place.ranges.items (c.in-Ok.range ∷ [])))
-    (next_read range_of (texts_of words) left c.as_bytes.result.now i done (shown_range c.in-Ok.range) c.in-Ok.ensures read)
+    (next_read range_of (texts_of words) left (get_or words i (record { ref_ptr = (0, 0); now = [] })).now i done (shown_range c.in-Ok.range) c.in-Ok.ensures read)
 
 pub returns : goal.returns
 returns g c =

@@ -1,8 +1,7 @@
-use Rattle.std.proofs.Common.{◌≡◌, ◌+◌, ◌∷◌, drop, refl, sym, ap, subst, ◌∙◌}
-use Rattle.std.proofs.lemmas.List.{drop_all}
+use Rattle.std.proofs.Common.{◌≡◌, [], ◌+◌, ◌∷◌, drop, get_or, refl, ap, subst}
+use Rattle.std.proofs.lemmas.List.{drop_all, drop_more}
 use Rattle.gx_model.specs.Revisions.{revision_of}
 use Rattle.gx_cli.specs.Stored.{all_words, texts_of}
-use Rattle.gx_cli.proofs.Pieces.{rest_from}
 use Rattle.gx_cli.proofs.ReadWords.{AreRead, all_read, next_read, word_refused}
 use Rattle.gx_cli.proofs.names.read_into.Goals as goal
 
@@ -11,9 +10,9 @@ loop-place-preserved g c =
     let words = c.args.words.now in
     let place = c.loop-place.place in
     let done = c.loop-place.revisions.items in
-    let text = c.as_bytes.result.now in
+    let text = (get_or words place (record { ref_ptr = (0, 0); now = [] })).now in
     let left = texts_of (drop (place + 1) words) in
-    let from : texts_of (drop place words) ≡ text ∷ left = ap texts_of (rest_from words place _ _ c.loop-place-test.true refl) ∙ ap (λ x. x ∷ left) (sym c.as_bytes.ensures.value) in
+    let from : texts_of (drop place words) ≡ text ∷ left = ap texts_of (drop_more words place (record { ref_ptr = (0, 0); now = [] }) c.loop-place-test.true) in
     let so_far = subst (λ ws. AreRead revision_of (texts_of words) ws place done) from c.loop-place.invariant in
     rw c.in_ok-push-in-Ok.ensures.items (next_read revision_of (texts_of words) left text place done c.in-Ok.revision c.in-Ok.ensures.revision so_far)
 
@@ -22,9 +21,9 @@ returns-in-Err g c =
     let words = c.args.words.now in
     let place = c.loop-place.place in
     let done = c.loop-place.revisions.items in
-    let text = c.as_bytes.result.now in
+    let text = (get_or words place (record { ref_ptr = (0, 0); now = [] })).now in
     let left = texts_of (drop (place + 1) words) in
-    let from : texts_of (drop place words) ≡ text ∷ left = ap texts_of (rest_from words place _ _ c.loop-place-test.true refl) ∙ ap (λ x. x ∷ left) (sym c.as_bytes.ensures.value) in
+    let from : texts_of (drop place words) ≡ text ∷ left = ap texts_of (drop_more words place (record { ref_ptr = (0, 0); now = [] }) c.loop-place-test.true) in
     let so_far = subst (λ ws. AreRead revision_of (texts_of words) ws place done) from c.loop-place.invariant in
     rw c.refused.ensures (word_refused revision_of (texts_of words) left text place done c.in-Err.kind c.in-Err.ensures.revision so_far (place + 1) refl)
 

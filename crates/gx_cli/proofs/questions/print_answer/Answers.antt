@@ -1,8 +1,5 @@
-use Rattle.std.proofs.Common.{subst}
 use Rattle.gx_model.specs.Records.HistoryOf.{history_of}
-use Rattle.gx_cli.specs.Answers.{Prints}
 use Rattle.gx_cli.specs.Listings.{text_of_word}
-use Rattle.gx_cli.specs.Stored.{list_text, show_text, tar_text}
 use Rattle.gx_cli.proofs.StoredAnswers.{asked_printed, shows_printed}
 use Rattle.gx_cli.proofs.questions.print_answer.Goals as goal
 
@@ -12,28 +9,15 @@ returns-in-Show g c =
     let now = g.W.Sink.taken c.show.new.sink in
     let r = c.args.repo.now in
     let name = g.N.Namer.name_of r.0 in
-    let shown = shows_printed (text_of_word name (history_of r.1) c.as_bytes.result.now) was now c.show.result c.show.ensures in
-    let printed = subst (λ word. Prints (show_text name (history_of r.1) word) was now c.show.result) c.as_bytes.ensures.value shown in
-    asked_printed name r.1 c.args.question _ was now c.show.result c.in-Show.is printed
+    asked_printed name r.1 c.args.question _ was now c.show.result c.in-Show.is (shows_printed (text_of_word name (history_of r.1) c.in-Show.revision.now) was now c.show.result c.show.ensures)
 
 pub returns-in-List : goal.returns-in-List
 returns-in-List g c =
-    let was = g.W.Sink.taken c.args.sink.now in
-    let now = g.W.Sink.taken c.list.new.sink in
-    let r = c.args.repo.now in
-    let name = g.N.Namer.name_of r.0 in
-    let printed = subst (λ word. Prints (list_text name c.in-List.recursive (history_of r.1) word) was now c.list.result) c.as_bytes-in-List.ensures.value c.list.ensures in
-    asked_printed name r.1 c.args.question _ was now c.list.result c.in-List.is printed
+    asked_printed (g.N.Namer.name_of c.args.repo.now.0) c.args.repo.now.1 c.args.question _ (g.W.Sink.taken c.args.sink.now) (g.W.Sink.taken c.list.new.sink) c.list.result c.in-List.is c.list.ensures
 
 pub returns-in-Archive : goal.returns-in-Archive
 returns-in-Archive g c =
-    let was = g.W.Sink.taken c.args.sink.now in
-    let now = g.W.Sink.taken c.print_archive.new.sink in
-    let r = c.args.repo.now in
-    let name = g.N.Namer.name_of r.0 in
-    let printed = subst (λ prefix. Prints (tar_text name prefix (history_of r.1) c.as_bytes-in-Archive-2.result.now) was now c.print_archive.result) c.as_bytes-in-Archive.ensures.value c.print_archive.ensures in
-    let asked = subst (λ word. Prints (tar_text name c.in-Archive.prefix.now (history_of r.1) word) was now c.print_archive.result) c.as_bytes-in-Archive-2.ensures.value printed in
-    asked_printed name r.1 c.args.question _ was now c.print_archive.result c.in-Archive.is asked
+    asked_printed (g.N.Namer.name_of c.args.repo.now.0) c.args.repo.now.1 c.args.question _ (g.W.Sink.taken c.args.sink.now) (g.W.Sink.taken c.print_archive.new.sink) c.print_archive.result c.in-Archive.is c.print_archive.ensures
 
 pub returns-in-Refs : goal.returns-in-Refs
 returns-in-Refs g c =

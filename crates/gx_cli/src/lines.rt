@@ -1,0 +1,38 @@
+//! The lines of a source, which are words behind those of a command line.
+
+ghost use Rattle.std.specs.Prelude.{◌≡◌, ◌++◌, map, OnOk};
+ghost use Rattle.gx_cli.specs.Gathering.{GathersLines};
+ghost use Rattle.gx_cli.specs.Stored.{texts_of};
+
+use crate::CliFault;
+use gx_batch::{LineEnding, read_lines};
+use gx_text::Source;
+use std::alloc::{AllocFailed, Allocator};
+
+/// The lines of a source, each without its LF or CR LF. What stands behind the last is a line, too, unless it is empty.
+///
+/// `ReadFailed`: the source failed. `OutOfMemory`: a growth was refused. Cost and memory: the lines.
+pub(crate) fn lines_from<R: Source + Drop, A: Allocator + Copy>(
+    alloc: A,
+    source: R,
+) -> Result<Vec<Vec<u8, A>, A>, CliFault>
+    ensures { GathersLines (R.coming source) result }
+{
+    match read_lines(alloc, LineEnding::Lf, source) {
+        Ok(lines) => Ok(lines),
+        Err(fault) => Err(CliFault::from(fault)),
+    }
+}
+
+/// Puts lines behind words.
+pub(crate) fn add_lines<'a, A: Allocator + Copy>(
+    words: &mut Vec<&'a [u8], A>,
+    lines: &'a [Vec<u8, A>],
+) -> Result<(), AllocFailed<&'a [u8]>>
+    ensures { OnOk result (texts_of words.new.items ≡ texts_of words.old.items ++ map (λ line. line.items) lines.now) }
+{
+    for line in lines {
+        words.push(line.as_slice())?;
+    }
+    Ok(())
+}

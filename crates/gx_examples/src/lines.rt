@@ -15,6 +15,7 @@ $ adapt % Adapt { drop_signatures: false }
 $ adapt|--drop-signatures % Adapt { drop_signatures: true }
 $ where|7 % Where(7)
 $ where|18446744073709551615 % Where(18446744073709551615)
+$ where|1|--force|--done % Where(1)
 $ where|--fault % WhereFault { done: false, force: false }
 $ where|--done|--fault % WhereFault { done: true, force: false }
 $ where|--fault|--force|--done % WhereFault { done: true, force: true }
@@ -106,8 +107,6 @@ $ where|1|f % refused
 $ where|1|--fault % refused
 $ where|--fault|--fault % refused
 $ where|--done % refused
-$ where|1|--force % refused
-$ where|1|--done % refused
 $ init % refused
 $ import % refused
 $ import|--report|--report|f % refused
@@ -206,7 +205,7 @@ Usage: gx log [OPTIONS] <FILE> [RANGE]...
 $ log|--help % help %
   -n, --max-count <N>
 $ log|-h % help %
-  -n, --max-count <N>  Lists N commits%
+  -n, --max-count <N>    Lists N commits%
 $ rev-parse|--help % help %
 Usage: gx rev-parse <FILE> <REV>...
 $ rev-parse|--help % help %

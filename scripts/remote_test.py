@@ -85,6 +85,10 @@ def pushes(world):
     world.see("push", "--porcelain", "origin", "main:refs/notes/commits", "main:refs/other/place", "side:refs/tags/place")
     world.see("push", "--porcelain", world.url, "main~1:refs/heads/by-url")
     world.see("push", "--porcelain", "origin", "nothing")
+    world.git("tag", "-m", "Own", "own", "main")
+    names = ["check", "export", "push/0", "push/1"]  # what git-remote-gx has refs of its own for, in a stream
+    world.see("push", "--porcelain", "origin", *(f"HEAD:refs/gx/{name}" for name in names), "own")
+    world.see("push", "--porcelain", "origin", *(f"HEAD~1:refs/gx/{name}/below" for name in names))
     world.commit({"file": "7\n"})
     world.see("push", "--porcelain", "--dry-run", "origin", "main")
     world.see("push", "--porcelain", "origin", "main")
@@ -110,7 +114,15 @@ def forced(world):
     world.see("push", "--porcelain", "origin", "main", where="clone")
     world.see("push", "--porcelain", "--force", "origin", "main", where="clone")
     world.git("commit", "-q", "--amend", "-m", "Again")
-    world.see("push", "--porcelain", "--force-with-lease", "origin", "main")
+    world.see("push", "--porcelain", lease, "origin", "main")
+    world.see("fetch")
+    for refs in (["main"], ["main", ":light"], ["main", "main:new"]):
+        world.git("commit", "-q", "--amend", "-m", f"Alone {len(refs)}")
+        world.see("push", "--porcelain", lease, "origin", *refs)
+    world.git("commit", "-q", "--amend", "-m", "By digits")
+    held = world.git("rev-parse", "origin/main")
+    world.see("push", "--porcelain", f"{lease}=main:{held}", f"{lease}=fresh:", "origin", "main", "main:fresh")
+    world.see("push", "--porcelain", f"{lease}=fresh:", "origin", "main:fresh")
 
 
 def deletions(world):
@@ -355,7 +367,24 @@ def at_once(world):
     same(world.refs().count(b"refs/heads/topic"), 4, "branches that came in")
 
 
-STORES = [unheld, missing, named, partial, broken, spelled, at_once]
+def between(world):
+    """A push waits until another has done with all of its commands of gx."""
+    started(world)
+    world.commit({"theirs": "1\n"}, where="clone")
+    world.git("commit", "-q", "--amend", "-m", "Amended")
+    begun = world.folder / "begun"
+    slow = wrapped(world, f'if [ "$2" = import ]; then touch {begun}; sleep 3; fi')
+    words = ["git", "-C", world.folder / "work", "push", "-q", "origin", ":side", "+main"]
+    first = subprocess.Popen(words, env={**world.environment, **slow}, stderr=subprocess.DEVNULL)
+    while not begun.exists() and first.poll() is None:
+        time.sleep(0.05)
+    second = world.run("push", "origin", "main", where="clone")
+    same((first.wait(), second.returncode), (0, 1), "a push, and one that began between its commands")
+    same(f"{world.git('rev-parse', 'main')} refs/heads/main".encode() in world.refs(), True, "main as the first push has it")
+    same(list(world.folder.glob("store.gx?*")), [], "what stands beside the store")
+
+
+STORES = [unheld, missing, named, partial, broken, spelled, at_once, between]
 
 
 # ---- all of them

@@ -23,7 +23,7 @@ input=/dev/null
 missed=0
 
 declare -A sizes=(
-  [line]=100000000 [progress]=10000000 [marks]=1000000 [changes]=1000000 [directory]=100000 [deep]=1000 [swap]=10000
+  [line]=100000000 [progress]=10000000 [marks]=1000000 [changes]=1000000 [directory]=25000 [deep]=1000 [swap]=10000
   [resets]=100000 [parents]=10000 [tags]=100000 [rename]=500 [copies]=10 [reload]=10 [walk]=10000 [claimed]=1000000
   [nothing]=10000 [renames]=5000 [folders]=5000 [between]=5000 [copied]=5000 [random]=25000 [emptied]=10000 [changed]=2000 [shared]=2000
   [old]=1000 [tagged]=1000 [standing]=1000 [new]=1000 [moved]=500 [back]=500 [merges]=500 [zeros]=2500000 [delimiter]=5000000

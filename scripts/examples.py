@@ -49,7 +49,7 @@ PAGES = [
 ]
 END = "\036"
 # a line of standard error that tells what was done
-REPORT = re.compile(r"gx: (adapt: the stream ended with|[a-zA-Z0-9, ]+: \d+$)")
+REPORT = re.compile(r"gx: (adapt: the stream ended with|[a-zA-Z0-9,: ]+: \d+$)")
 MAIN = """commit refs/heads/main
 committer A <a@x> 1 +0000
 data 2

@@ -6,9 +6,9 @@
 Each of N histories (--random, 1) is asked --count (400) lines. `contents` and `info` are compared
 with what `git cat-file --batch-command` answers over the same objects, and `ls`, `refs`, `log`,
 `rev-parse` and `archive` with what that command of gx prints alone, or with the word that it
-refuses. So it is with lines that end with LF and with NUL (-z), and in two formats. Then some
-lines are asked one after the other, each once the answer before has come. A failure tells its
-seed, which the first line tells too; the histories count on from it.
+refuses. So it is with lines that end with LF and with NUL (-z), in the usual format and in two
+others. Then some lines are asked one after the other, each once the answer before has come. A
+failure tells its seed, which the first line tells too; the histories count on from it.
 
 GX: the program, crates/gx/out/gx if it isn't set. It needs git. The status is 1 where something differs.
 """

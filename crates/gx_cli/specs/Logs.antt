@@ -1,5 +1,5 @@
 -- What `log` prints of a store, or why it is refused. Source: git-log(1), "PRETTY FORMATS", and git-rev-list(1), `--all` and `--stdin`.
-use Rattle.std.specs.Prelude.{◌≡◌, ℕ, Bool, true, false, not, ◌&&◌, ◌||◌, ◌==◌, if◌then◌else◌, List, [], ◌∷◌, ◌++◌, map, take, reverse, length, codes, Option, Some, None, Result, Ok, Err}
+use Rattle.std.specs.Prelude.{◌≡◌, ℕ, Bool, true, false, if◌then◌else◌, List, [], ◌∷◌, ◌++◌, map, take, reverse, codes, Option, Some, None, Result, Ok, Err}
 use Rattle.std.specs.List.{flat_map, join_by}
 use Rattle.gx_model.specs.declared.objects.Kind.{Kind}
 use Rattle.gx_model.specs.Texts.{Bytes}
@@ -41,10 +41,6 @@ turned backwards xs = if backwards then reverse xs else xs
 -- so many at most, counted before they are turned
 abbrev pub arranged : {A : Type 0} → LogOptions → List A → List A
 arranged options xs = turned options.reverse (limited options.max_count xs)
-
--- the commits of all refs are listed, too: where that is asked for, and where no word is given or asked for
-abbrev pub lists_refs : LogOptions → List Bytes → Bool
-lists_refs options words = options.all || (length words == 0 && not options.stdin)
 
 -- the commits of all refs, as words
 abbrev pub words_of_refs : History → List Word
@@ -111,7 +107,7 @@ module _ (name : Kind → Bytes → Bytes) where
   -- what is printed of what range words list: all are read, and then all are evaluated
   abbrev pub log_text : LogOptions → History → List Bytes → Printed
   log_text options h words =
-      all_words (and_then (each_word range_of words) (λ ws. and_then (commits_logged h (lists_refs options words) ws) (λ commits. Ok (entries_text options (arranged options commits)))))
+      all_words (and_then (each_word range_of words) (λ ws. and_then (commits_logged h options.all ws) (λ commits. Ok (entries_text options (arranged options commits)))))
 
   -- ---- words of standard input
 

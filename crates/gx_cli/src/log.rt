@@ -1,9 +1,7 @@
 //! The commits that range words list, each in its format. Source: git-log(1) and git-rev-list(1).
 
 ghost use Rattle.std.specs.Prelude.{◌≡◌, []};
-ghost use Rattle.gx_cli.specs.Logs.{lists_refs};
 ghost use Rattle.gx_cli.specs.Parts.{Logs, LogsOpened, LogsStored, LogsWords, ReadsRangesInto};
-ghost use Rattle.gx_cli.specs.Stored.{texts_of};
 
 mod commits;
 mod formats;
@@ -82,8 +80,8 @@ fn log_words<'a, N: Namer, A: Allocator + Copy, W: Sink>(
     log(alloc, repo, options, asked.as_slice(), sink)
 }
 
-/// Prints the commits that range words list, the last made first. Where there is no word, unless `stdin` is asked for, and
-/// with `all`, the commits of all refs are listed, too. The commits go out one after the other.
+/// Prints the commits that range words list, the last made first, and with `all` those of all refs, too. The commits go out one
+/// after the other.
 ///
 /// `Revision`: the first word that isn't a range word, or else the first that gives nothing, by its number from 1.
 /// Cost: that of `walk`, and for each commit a look-up and its text. Memory: the ranges, the names, and the longest text of a
@@ -99,16 +97,9 @@ pub(crate) fn log<N: Namer, A: Allocator + Copy, W: Sink>(
 {
     let mut ranges = Vec::new(alloc);
     read_into(alloc, words, &mut ranges)?;
-    let mut names = names_listed(alloc, repo, ranges.as_slice(), lists_refs(options, words))?;
+    let mut names = names_listed(alloc, repo, ranges.as_slice(), options.all)?;
     arrange(&mut names, options);
     print_commits(alloc, repo, options, names.as_slice(), sink)
-}
-
-/// Whether the commits of all refs are listed.
-fn lists_refs(options: LogOptions, words: &[&[u8]]) -> bool
-    ensures { result ≡ lists_refs options (texts_of words.now) }
-{
-    options.all || words.is_empty() && !options.stdin
 }
 
 /// Puts the range words of texts into a list, or tells the first that is none.

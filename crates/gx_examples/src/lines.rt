@@ -15,7 +15,6 @@ $ adapt % Adapt { drop_signatures: false }
 $ adapt|--drop-signatures % Adapt { drop_signatures: true }
 $ where|7 % Where(7)
 $ where|18446744073709551615 % Where(18446744073709551615)
-$ where|1|--force|--done % Where(1)
 $ where|--fault % WhereFault { done: false, force: false }
 $ where|--done|--fault % WhereFault { done: true, force: false }
 $ where|--fault|--force|--done % WhereFault { done: true, force: true }
@@ -69,18 +68,17 @@ $ log|--max-count|18446744073709551615|f|a % Log { options: LogOptions { reverse
 
 /// The same with its choices of words and of a format.
 const CHOICES: &str = "
-$ log|f % Log { options: LogOptions { reverse: false, max_count: None, parents: false, all: false, stdin: false, format: Names }, file: \"f\", ranges: [] }
 $ log|--all|f % Log { options: LogOptions { reverse: false, max_count: None, parents: false, all: true, stdin: false, format: Names }, file: \"f\", ranges: [] }
 $ log|f|a|--all % Log { options: LogOptions { reverse: false, max_count: None, parents: false, all: true, stdin: false, format: Names }, file: \"f\", ranges: [\"a\"] }
 $ log|--stdin|f % Log { options: LogOptions { reverse: false, max_count: None, parents: false, all: false, stdin: true, format: Names }, file: \"f\", ranges: [] }
 $ log|--stdin|f|^a % Log { options: LogOptions { reverse: false, max_count: None, parents: false, all: false, stdin: true, format: Names }, file: \"f\", ranges: [\"^a\"] }
-$ log|-n|3|f % Log { options: LogOptions { reverse: false, max_count: Some(3), parents: false, all: false, stdin: false, format: Names }, file: \"f\", ranges: [] }
-$ log|-n3|f % Log { options: LogOptions { reverse: false, max_count: Some(3), parents: false, all: false, stdin: false, format: Names }, file: \"f\", ranges: [] }
-$ log|--format=oneline|f % Log { options: LogOptions { reverse: false, max_count: None, parents: false, all: false, stdin: false, format: Oneline }, file: \"f\", ranges: [] }
-$ log|--format|raw|f % Log { options: LogOptions { reverse: false, max_count: None, parents: false, all: false, stdin: false, format: Raw }, file: \"f\", ranges: [] }
-$ log|f|--format=subject % Log { options: LogOptions { reverse: false, max_count: None, parents: false, all: false, stdin: false, format: Subject }, file: \"f\", ranges: [] }
-$ log|--format=author|f % Log { options: LogOptions { reverse: false, max_count: None, parents: false, all: false, stdin: false, format: Author }, file: \"f\", ranges: [] }
-$ log|--format=dates|--reverse|f % Log { options: LogOptions { reverse: true, max_count: None, parents: false, all: false, stdin: false, format: Dates }, file: \"f\", ranges: [] }
+$ log|-n|3|f|a % Log { options: LogOptions { reverse: false, max_count: Some(3), parents: false, all: false, stdin: false, format: Names }, file: \"f\", ranges: [\"a\"] }
+$ log|-n3|f|a % Log { options: LogOptions { reverse: false, max_count: Some(3), parents: false, all: false, stdin: false, format: Names }, file: \"f\", ranges: [\"a\"] }
+$ log|--format=oneline|f|a % Log { options: LogOptions { reverse: false, max_count: None, parents: false, all: false, stdin: false, format: Oneline }, file: \"f\", ranges: [\"a\"] }
+$ log|--format|raw|f|a % Log { options: LogOptions { reverse: false, max_count: None, parents: false, all: false, stdin: false, format: Raw }, file: \"f\", ranges: [\"a\"] }
+$ log|f|a|--format=subject % Log { options: LogOptions { reverse: false, max_count: None, parents: false, all: false, stdin: false, format: Subject }, file: \"f\", ranges: [\"a\"] }
+$ log|--format=author|f|a % Log { options: LogOptions { reverse: false, max_count: None, parents: false, all: false, stdin: false, format: Author }, file: \"f\", ranges: [\"a\"] }
+$ log|--format=dates|--reverse|f|a % Log { options: LogOptions { reverse: true, max_count: None, parents: false, all: false, stdin: false, format: Dates }, file: \"f\", ranges: [\"a\"] }
 ";
 
 /// The same of `rev-parse`, whose revisions stay in their order.
@@ -107,6 +105,10 @@ $ where|1|f % refused
 $ where|1|--fault % refused
 $ where|--fault|--fault % refused
 $ where|--done % refused
+$ where|--force % refused
+$ where|1|--done % refused
+$ where|--force|1 % refused
+$ where|1|--fault|--done % refused
 $ init % refused
 $ import % refused
 $ import|--report|--report|f % refused
@@ -137,6 +139,9 @@ $ batch|--format|f % refused
 $ batch|f|main % refused
 $ refs % refused
 $ log % refused
+$ log|f % refused
+$ log|--reverse|--parents|-n|1|f % refused
+$ log|--format=raw|f % refused
 $ log|f|-x % refused
 $ log|--format=names|f % refused
 $ log|--format=Raw|f % refused

@@ -125,8 +125,9 @@ refs = bound (any_words (codes "ref"))
 abbrev pub stdin : Rule
 stdin = flag (codes "stdin")
 
+-- range words, one of which is needed where neither --all nor --stdin is given
 abbrev pub ranges : Rule
-ranges = any_words (codes "range")
+ranges = bound (any_words (codes "range"))
 
 abbrev pub reverse : Rule
 reverse = flag (codes "reverse")

@@ -71,7 +71,9 @@ fn where_command<'a>(alloc: Global) -> Result<Command<'a>, AllocError>
     )
     .conflicts_with("number")?;
     let done = done(alloc).requires_arg("fault")?;
+    let done = done.conflicts_with("number")?;
     let force = force(alloc).requires_arg("fault")?;
+    let force = force.conflicts_with("number")?;
     let placed = with_argument(Ok(command(alloc, "where", streams::WHERE)), place);
     let placed = with_argument(placed, fault);
     let placed = with_argument(placed, done);
@@ -325,12 +327,10 @@ fn log_command<'a>(alloc: Global) -> Result<Command<'a>, AllocError>
 fn chosen_command<'a>(alloc: Global) -> Result<Command<'a>, AllocError>
     ensures { say.Makes result say.chosen_command }
 {
-    let ranges = any_words(
-        alloc,
-        "range",
-        "RANGE",
-        "Commits, as gx --help has it: with none, those of all refs",
-    );
+    let ranges = any_words(alloc, "range", "RANGE", "Commits, as gx --help has it");
+    // one of the two is enough
+    let ranges = ranges.required_unless_present("all")?;
+    let ranges = ranges.required_unless_present("stdin")?;
     let all = flag(alloc, "all", "Lists the commits of all refs, too");
     let stdin = flag(
         alloc,

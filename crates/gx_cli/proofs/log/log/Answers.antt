@@ -11,7 +11,7 @@ use Rattle.gx_model.specs.Revisions.{range_of}
 use Rattle.gx_rev.specs.Objects.{IsHeldAs, commit_at}
 use Rattle.gx_rev.specs.Views.{shown_range}
 use Rattle.gx_cli.specs.Answers.{Prints}
-use Rattle.gx_cli.specs.Logs.{arranged, commits_logged, entries_text, lists_refs, log_text}
+use Rattle.gx_cli.specs.Logs.{arranged, commits_logged, entries_text, log_text}
 use Rattle.gx_cli.specs.Sending.{PrintsText}
 use Rattle.gx_cli.specs.Stored.{all_words, texts_of}
 use Rattle.gx_cli.specs.Words.{RefusesWord}
@@ -28,7 +28,7 @@ returns-in_err-read_into g c =
     let words = texts_of c.args.words.now in
     let was = g.W.Sink.taken c.args.sink.now in
     let read = each_word range_of words in
-    let listed = commits_logged name (history_of c.args.repo.now.1) (lists_refs o words) in
+    let listed = commits_logged name (history_of c.args.repo.now.1) o.all in
     let text : List Commit → Bytes = λ commits. entries_text name o (arranged o commits) in
     let fault = c.in_err-read_into.field-0.0 in
     rw (p.1, p.2) (subst (λ given. Prints given was was (Err fault)) (sym (in_two read listed text)) (refusal_printed (all_words (and_then read listed)) text was fault (first_refused read listed fault c.in_err-read_into.ensures)))
@@ -42,12 +42,11 @@ returns-in_err-names g c =
     let words = texts_of c.args.words.now in
     let was = g.W.Sink.taken c.args.sink.now in
     let read = each_word range_of words in
-    let listed = commits_logged name h (lists_refs o words) in
+    let listed = commits_logged name h o.all in
     let text : List Commit → Bytes = λ commits. entries_text name o (arranged o commits) in
     let fault = c.in_err-names.field-0.0 in
     let ranges = map shown_range c.read_into.new.ranges.items in
-    let all = subst (λ rs. RefusesWord fault (all_words (commits_logged name h c.lists_refs.result (map shown_range rs)))) c.as_slice.ensures.value c.in_err-names.ensures.commits in
-    let refused = subst (λ refs. RefusesWord fault (all_words (commits_logged name h refs ranges))) c.lists_refs.ensures all in
+    let refused = subst (λ rs. RefusesWord fault (all_words (commits_logged name h o.all (map shown_range rs)))) c.as_slice.ensures.value c.in_err-names.ensures.commits in
     rw (p.1, p.2) (subst (λ given. Prints given was was (Err fault)) (sym (in_two read listed text)) (refusal_printed (all_words (and_then read listed)) text was fault (later_refused read ranges listed fault c.in_ok-read_into.ensures refused)))
 
 pub print_commits-requires : goal.print_commits-requires
@@ -66,11 +65,11 @@ returns g c =
     let was = g.W.Sink.taken c.args.sink.now in
     let now = g.W.Sink.taken c.print_commits.new.sink in
     let read = each_word range_of words in
-    let listed = commits_logged name h (lists_refs o words) in
+    let listed = commits_logged name h o.all in
     let text : List Commit → Bytes = λ commits. entries_text name o (arranged o commits) in
     let names = c.in_ok-names.names.items in
     let ranges = map shown_range c.read_into.new.ranges.items in
-    let told = (λ i. all_words (commits_logged name h (sym c.lists_refs.ensures i) (map shown_range (sym c.as_slice.ensures.value i)))) ∙ c.in_ok-names.ensures.commits in
+    let told = (λ i. all_words (commits_logged name h o.all (map shown_range (sym c.as_slice.ensures.value i)))) ∙ c.in_ok-names.ensures.commits in
     let given = in_two read listed text ∙ ap (λ x. and_then x (λ commits. Ok (text commits))) (then_words read ranges listed c.in_ok-read_into.ensures ∙ told) in
     let lines = ap (λ ns. entries_text name o (map (commit_at r) ns)) (c.as_slice-2.ensures.value ∙ c.arrange.ensures) ∙ ap (entries_text name o) (map_arranged (commit_at r) o.reverse o.max_count names) in
     given_text (log_text name o h words) (text (map (commit_at r) names)) was now c.print_commits.result given (subst (λ t. PrintsText t was now c.print_commits.result) lines c.print_commits.ensures)

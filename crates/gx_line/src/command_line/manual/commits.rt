@@ -9,8 +9,8 @@ pub(crate) const LOG: Page = Page {
 Lists the commits of ranges, the newest first: the one that was made last.
 
 A commit is listed where one of the words includes it and none excludes it.
-With --all, or where no word and no --stdin is given, each ref is one more word.
-With --stdin each line of standard input is one more word, behind the others.",
+With --all each ref is one more word. With --stdin each line of standard input
+is one more word, behind the others. Without both, a RANGE has to be given.",
     details: "\
 Output:
   A line for each commit: 40 digits of its name, and with --parents a space and

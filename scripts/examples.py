@@ -98,7 +98,7 @@ def blocks_of_markdown(text):
 
 def blocks_of_manual(text):
     """The blocks between .nf and .fi, as they are shown."""
-    for found in re.finditer(r'(?:^\.\\" (.*)\n)?^\.nf\n(.*?)^\.fi$', text, re.M | re.S):
+    for found in re.finditer(r'(?:^\.\\" ([^\n]*)\n)?^\.nf\n(.*?)^\.fi$', text, re.M | re.S):
         shown = re.sub(r"\\f[BIR]|\\&", "", found.group(2)).replace("\\-", "-")
         for mark, sign in (("\\(ha", "^"), ("\\(ti", "~"), ("\\(aq", "'"), ("\\e", "\\")):
             shown = shown.replace(mark, sign)

@@ -105,7 +105,7 @@ Commands, with --command:
   any other             the line, a space and unknown
 
 Refusals:
-  gx: BadFormat         FORMAT has another word behind a percent sign
+  gx: BadFormat         FORMAT has another name than these in %( and )
   gx: read failed       FILE or standard input can't be read
   gx: store: KIND       as gx --help has it
   gx: write failed

@@ -54,7 +54,7 @@ pub(crate) fn refusal(outcome: &Outcome<Global>) -> Result<(), CliFault> {
 }
 
 /// Answers what comes on standard input, of a store or of none. What it prints goes out as it comes.
-pub(crate) fn answer(
+pub(crate) fn answer_input(
     run: &Run<'_>,
     line: &Line<'_>,
     file: Option<&str>,

@@ -17,11 +17,11 @@ const LOOKS: u32 = 10;
 
 /// The places of a next text and of its store file, as a user names that, and the mode with which the text is made.
 #[derive(Clone, Copy)]
-pub(crate) struct Claim<'a> {
-    pub(crate) run: &'a Run<'a>,
-    pub(crate) path: &'a str,
-    pub(crate) store: &'a str,
-    pub(crate) file: &'a str,
+pub(crate) struct Claim<'r, 'p> {
+    pub(crate) run: &'r Run<'r>,
+    pub(crate) path: &'p str,
+    pub(crate) store: &'p str,
+    pub(crate) file: &'p str,
     pub(crate) mode: u32,
 }
 
@@ -37,7 +37,7 @@ enum Turn {
     Unlocked(io::Error),
 }
 
-impl Claim<'_> {
+impl Claim<'_, '_> {
     /// Makes and locks the file, in as many turns as that takes. What bars the way for a second is refused.
     pub(crate) fn make_held(&self) -> Result<File, RunFault> {
         let mut barred = 0;
@@ -124,8 +124,9 @@ impl Claim<'_> {
         match fs::metadata(self.run.rt, self.store) {
             Ok(store) => {
                 let maker = found.uid();
-                let is_own = Some(maker) == own_user(self.run);
-                let is_trusted = maker == 0 || is_own || maker == store.uid();
+                let is_trusted = maker == 0
+                    || Some(maker) == own_user(self.run)
+                    || maker == store.uid();
                 let is_in_group = store.mode() & 0o040 != 0 && found.gid() == store.gid();
                 is_trusted || is_in_group || store.mode() & 0o004 != 0
             }

@@ -52,17 +52,12 @@ pub(crate) fn want_store(run: &Run<'_>, file: &str) -> Result<(), CliFault> {
 /// The bytes of a store file.
 pub(crate) fn read_store(run: &Run<'_>, file: &str) -> Result<Vec<u8>, CliFault> {
     let path = follow_links(run, file)?;
-    let (bytes, _stamp) = read_stamped(run, path.as_str())?;
+    let (bytes, _stamp) = run.want_read(read_stamped(run, path.as_str()))?;
     Ok(bytes)
 }
 
-/// The bytes of a store file that is no link, and which file it was.
-pub(crate) fn read_stamped(run: &Run<'_>, path: &str) -> Result<(Vec<u8>, Stamp), CliFault> {
-    run.want_read(read_whole(run, path))
-}
-
-/// The room for all bytes is taken at once, so that it needn't grow.
-fn read_whole(run: &Run<'_>, path: &str) -> io::Result<(Vec<u8>, Stamp)> {
+/// The bytes of a store file that is no link, and which file it was. The room for them is taken at once, so that it needn't grow.
+pub(crate) fn read_stamped(run: &Run<'_>, path: &str) -> io::Result<(Vec<u8>, Stamp)> {
     let mut opened = open_store(run, path)?;
     let found = opened.metadata()?;
     let room = found.size().saturating_add(1) as usize;

@@ -105,7 +105,8 @@ impl<'a> NextText<'a> {
 
     /// The bytes of the store file, which has to be the same one still when the next text takes its place.
     pub(crate) fn read_store(&mut self) -> Result<Vec<u8>, CliFault> {
-        let (bytes, stamp) = read_stamped(self.run, self.store.as_str())?;
+        let read = read_stamped(self.run, self.store.as_str());
+        let (bytes, stamp) = self.run.want_read(read)?;
         if let Some(replaced) = &mut self.replaced {
             replaced.read = Some(stamp);
         }

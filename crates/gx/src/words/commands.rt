@@ -3,7 +3,7 @@
 use crate::fault::RunFault;
 use crate::run::Run;
 use crate::stores::{collect, drop_refs, import, init};
-use crate::streams::{adapt, answer, export, print, try_stream};
+use crate::streams::{adapt, answer_input, export, print, try_stream};
 use gx_cli::{Features, Line};
 use std::hash::RandomState;
 use std::process::ExitCode;
@@ -81,8 +81,8 @@ fn run_command(run: &Run<'_>, line: &Line<'_>, state: RandomState) -> Result<(),
             try_stream(run, None, features(done, force), state)
         }
         Line::Adapt { drop_signatures } => adapt(run, *drop_signatures),
-        Line::Blobs | Line::Where(_) => answer(run, line, None, state),
-        Line::Batch { file, .. } => answer(run, line, Some(*file), state),
+        Line::Blobs | Line::Where(_) => answer_input(run, line, None, state),
+        Line::Batch { file, .. } => answer_input(run, line, Some(*file), state),
         Line::Export { file, .. } | Line::ExportRange { file, .. } => {
             export(run, line, file, state)
         }

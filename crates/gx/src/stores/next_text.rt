@@ -54,7 +54,8 @@ struct Replaced {
 }
 
 impl<'a> NextText<'a> {
-    /// Makes and locks the file for a store file that is made, with the permissions that the umask leaves.
+    /// Makes and locks the file for a store file that is made, with the permissions that the umask leaves. A place where there is
+    /// something is refused.
     pub(crate) fn claim_new(run: &'a Run<'a>, file: &str) -> Result<NextText<'a>, RunFault> {
         want_no_store(run, file)?;
         let next = NextText::claim(run, file, COMMON)?;
@@ -63,8 +64,8 @@ impl<'a> NextText<'a> {
         Ok(next)
     }
 
-    /// Makes and locks the file for a store file that is replaced, and gives it that one's owner, group and permissions. What was
-    /// read of the store file before isn't to be relied on.
+    /// Makes and locks the file for a store file that is replaced, and gives it that one's owner, group and permissions. One that
+    /// can't be read is refused before anything is made.
     pub(crate) fn claim_next(run: &'a Run<'a>, file: &str) -> Result<NextText<'a>, RunFault> {
         want_store(run, file)?;
         let mut next = NextText::claim(run, file, PRIVATE)?;

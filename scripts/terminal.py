@@ -14,17 +14,17 @@ import time
 GX = os.path.abspath(sys.argv[1])
 EMPTY = b"gxstore 2\nobjects 0\nrefs 0\nend\n"
 CLEAR = b"\r\x1b[K"
-LINE = re.compile(rb"\rgx: (\d+)\.(\d) MB, (\d+) commands\x1b\[K")
+LINE = re.compile(rb"\rgx: (\d+)\.(\d) MB\x1b\[K")
 
-# A stream in pieces. Of a short one, which is read at once, it is told what its line shows: the tenths of megabytes and the commands up to its end.
+# A stream in pieces. Of a short one, which is read at once, it is told what its line shows: the tenths of megabytes up to its end.
 PIECES = [
-    (b"feature done\nprogress a\nblob\nmark :1\ndata 500000\n", (0, 3)),
+    (b"feature done\nprogress a\nblob\nmark :1\ndata 500000\n", 0),
     (b"blob\n" * 60000, None),
     (b"blob\n" * 39000, None),
-    (b"blob\n" * 800, (4, 3)),
-    (b"blob\n" * 200 + b"\nblob\ndata <<END\ncheckpoint\nENDING\n\nreset refs/x\nEND\n# tag t\n", (5, 4)),
-    (b"commit refs/heads/main\nmark :2\ncommitter A <a@x> 1 +0000\ndata 4\ntag M 100644 :1 checkpoint\n\nche", (5, 5)),
-    (b"ckpoint\n\nreset refs/heads/b\nfrom :2\n\ntag t\nfrom :2\ntagger A <a@x> 2 +0000\ndata 2\nt\n\nprogress b\ndone\n", (5, 10)),
+    (b"blob\n" * 800, 4),
+    (b"blob\n" * 200 + b"\nblob\ndata <<END\ncheckpoint\nENDING\n\nreset refs/x\nEND\n# tag t\n", 5),
+    (b"commit refs/heads/main\nmark :2\ncommitter A <a@x> 1 +0000\ndata 4\ntag M 100644 :1 checkpoint\n\nche", None),
+    (b"ckpoint\n\nreset refs/heads/b\nfrom :2\n\ntag t\nfrom :2\ntagger A <a@x> 2 +0000\ndata 2\nt\n\nprogress b\ndone\n", None),
 ]
 STREAM = b"".join(piece for piece, _ in PIECES)
 SOUGHT = b"gx: commands: 10, objects: 5, refs: 3\r\n"
@@ -46,7 +46,7 @@ def feed(pipe, pieces, seen):
         pipe.write(piece)
         pipe.flush()
         wait = time.monotonic() + 5
-        while shown and shown not in counts(seen[before:]) and time.monotonic() < wait:
+        while shown is not None and shown not in tenths(seen[before:]) and time.monotonic() < wait:
             time.sleep(0.01)
     pipe.close()
 
@@ -96,15 +96,15 @@ def stored():
         return file.read()
 
 
-def counts(seen):
-    """The megabytes in tenths and the commands of each line that was shown."""
-    return [(int(whole) * 10 + int(tenth), int(commands)) for whole, tenth, commands in LINE.findall(seen)]
+def tenths(seen):
+    """The tenths of megabytes of each line that was shown."""
+    return [int(whole) * 10 + int(tenth) for whole, tenth in LINE.findall(seen)]
 
 
 def are_of_pieces(shown):
     """Whether the lines of all short pieces come in their order, and those between count up."""
     rest = iter(shown)
-    return shown == sorted(shown) and all(wanted in rest for _, wanted in PIECES if wanted)
+    return shown == sorted(shown) and all(wanted in rest for _, wanted in PIECES if wanted is not None)
 
 
 def try_import():
@@ -116,13 +116,13 @@ def try_import():
     status, seen, printed = run(["import", "store"], PIECES)
     want("an import at a terminal makes the same store", status == 0 and stored() == text, seen)
     want("an import at a terminal prints the same", printed == plain[2], printed)
-    want("the line counts bytes, and commands outside of blocks", are_of_pieces(counts(seen)), seen)
+    want("the line counts bytes", are_of_pieces(tenths(seen)), seen)
     want("the line goes, and the report stays", LINE.sub(b"", seen) == CLEAR + SOUGHT, seen)
 
 
 def try_refused_import():
     fresh()
-    pieces = PIECES[:5] + [(b"foo\n", (5, 4))]
+    pieces = PIECES[:5] + [(b"foo\n", None)]
     status, seen, printed = run(["import", "store"], pieces)
     before = b"".join(piece for piece, _ in PIECES[:5])
     place = b"gx: line %d, byte %d: foo\r\n" % (1 + before.count(b"\n"), len(before))
@@ -160,10 +160,12 @@ def try_typed_import():
     ours, theirs = pty.openpty()
     child = subprocess.Popen([GX, "import", "store"], stdin=theirs, stdout=subprocess.DEVNULL, stderr=theirs)
     os.close(theirs)
+    seen = bytearray()
+    while b"\n" not in seen:
+        seen += os.read(ours, 65536)
     for line in (b"blob\n", b"data <<END\n", b"x\n", b"END\n", b"\x04"):
         time.sleep(0.15)
         os.write(ours, line)
-    seen = bytearray()
     read_all(ours, seen)
     want("an import says that a stream is to be typed", seen.startswith(b"gx: reading a stream from standard input\r\n"), seen)
     want("no line stands where a stream is typed", child.wait() == 0 and b"MB" not in seen and seen.endswith(b"gx: commands: 1, objects: 1, refs: 0\r\n"), seen)
@@ -174,7 +176,7 @@ def try_try():
     status, seen, printed = run(["try", "main:"], PIECES)
     want("a try tells nothing in a file", plain[:2] == (0, b""), plain)
     want("a try prints the same", status == 0 and printed == plain[2], printed)
-    want("a try shows the line, which goes", are_of_pieces(counts(seen)) and LINE.sub(b"", seen) == CLEAR, seen)
+    want("a try shows the line, which goes", are_of_pieces(tenths(seen)) and LINE.sub(b"", seen) == CLEAR, seen)
 
 
 def try_gc():
@@ -250,7 +252,7 @@ def try_export():
     read_all(ours, seen)
     seen = bytes(seen)
     want("an export at a terminal prints the same", status == 0 and printed == plain[2], printed[:80])
-    want("an export shows the line, which goes", counts(seen) and LINE.sub(b"", seen) == CLEAR, seen)
+    want("an export shows the line, which goes", tenths(seen) and LINE.sub(b"", seen) == CLEAR, seen)
     status, seen, _ = run(["export", "store"], [], out_too=True)
     want("an export to the terminal shows no line", status == 0 and seen == plain[2].replace(b"\n", b"\r\n"), seen[-80:])
 

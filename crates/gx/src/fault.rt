@@ -21,6 +21,11 @@ pub(crate) enum RunFault {
 }
 
 impl RunFault {
+    /// Whether the stream that is imported is at fault.
+    pub(crate) fn is_of_stream(&self) -> bool {
+        matches!(self, RunFault::Command(CliFault::Import(_)))
+    }
+
     /// Whether standard output didn't take what a command is there to print.
     pub(crate) fn is_failed_output(&self) -> bool {
         match self {

@@ -1,6 +1,7 @@
 //! One run of the program: the system that it runs on, and why it couldn't do what it was asked.
 
 use crate::fault::RunFault;
+use gx_cli::CliFault;
 use std::cell::Cell;
 use std::io::{self, ErrorKind, IsTerminal, Write};
 
@@ -61,7 +62,7 @@ impl<'a> Run<'a> {
         }
     }
 
-    /// Keeps the lines that explain the refusal that is to be told.
+    /// Keeps the lines that explain why a stream is refused, should that be told.
     pub(crate) fn explain(&self, lines: Vec<u8>) {
         self.explanation.set(Some(lines));
     }
@@ -69,6 +70,33 @@ impl<'a> Run<'a> {
     /// Keeps why a call failed, in place of what was kept before.
     pub(crate) fn note(&self, subject: Subject, error: io::Error) {
         self.cause.set(Some(Cause { subject, error }));
+    }
+
+    /// What a call of the system answers that writes, or is there to write. Why it failed is kept.
+    pub(crate) fn want_written<T>(
+        &self,
+        subject: Subject,
+        answer: io::Result<T>,
+    ) -> Result<T, CliFault> {
+        match answer {
+            Ok(value) => Ok(value),
+            Err(error) => {
+                self.note(subject, error);
+                Err(CliFault::WriteFailed)
+            }
+        }
+    }
+
+    /// The same of one that reads a store file.
+    pub(crate) fn want_read<T>(&self, answer: io::Result<T>) -> Result<T, CliFault> {
+        match answer {
+            Ok(value) => Ok(value),
+            Err(error) if error.kind() == ErrorKind::OutOfMemory => Err(CliFault::OutOfMemory),
+            Err(error) => {
+                self.note(Subject::Store, error);
+                Err(CliFault::ReadFailed)
+            }
+        }
     }
 
     /// Tells, once, that another run is waited for, where somebody reads it.
@@ -93,13 +121,19 @@ impl<'a> Run<'a> {
             return;
         }
         let _ = eprintln!(self.rt; "{fault}");
-        if let Some(lines) = self.explanation.replace(None) {
-            let _ = self.rt.stderr().write_all(&lines);
+        if fault.is_of_stream() {
+            self.tell_explanation();
         }
         if let Some(cause) = &cause {
             if self.explains.get() && !is_cut_off {
                 self.tell_cause(cause, file.unwrap_or("-"));
             }
+        }
+    }
+
+    fn tell_explanation(&self) {
+        if let Some(lines) = self.explanation.replace(None) {
+            let _ = self.rt.stderr().write_all(&lines);
         }
     }
 

@@ -1,26 +1,26 @@
 //! What is told of a refused import behind its fault, where that is asked for: where the faulty item stands, and what it is about.
 //! Source: git-fast-import(1), "Commands".
 
+use super::traced::Traced;
+use super::trail::{Spot, Trail};
 use crate::run::Run;
-use crate::traced::Traced;
-use crate::trail::{Spot, Trail};
 use gx_cli::{CliFault, Explanation, ImportFault, ImportKind, explanation_lines, item_line};
 use std::alloc::{AllocError, Global};
 
-/// The lines that explain why a stream is refused. There are none where they aren't asked for, or there is no memory for them.
-pub(crate) fn explain(
+/// An answer. Where it refuses the stream, the lines that explain this are kept, to be told behind it, if they are asked for
+/// and there is memory for them.
+pub(crate) fn explained<T>(
     run: &Run<'_>,
     input: &Traced<'_>,
-    fault: &CliFault,
+    answer: Result<T, CliFault>,
     told: &Explanation<Global>,
-) -> Vec<u8> {
-    let alloc = run.rt.alloc();
-    match (fault, input.trail()) {
-        (CliFault::Import(fault), Some(trail)) => {
-            lines_of(alloc, trail, fault, told).unwrap_or(Vec::new(alloc))
+) -> Result<T, CliFault> {
+    if let (Err(CliFault::Import(fault)), Some(trail)) = (&answer, input.trail()) {
+        if let Ok(lines) = lines_of(run.rt.alloc(), trail, fault, told) {
+            run.explain(lines);
         }
-        _ => Vec::new(alloc),
     }
+    answer
 }
 
 fn lines_of(

@@ -1,10 +1,23 @@
 //! Where the items of a stream's last command stand, told by its lines as they go by. Source: git-fast-import(1), "Commands".
 
-use crate::command_count::CommandCount;
+use gx_text::{cut, decimal};
 use std::alloc::{AllocError, Global};
 
 /// So many bytes of a line are kept.
 const KEPT: usize = 200;
+
+/// The lines that are a command, or begin one, as a whole.
+const WHOLE: &[&str] = &["blob", "checkpoint", "done"];
+
+/// What a line begins with that begins a command.
+const FRONTS: &[&str] = &[
+    "commit ",
+    "tag ",
+    "reset ",
+    "progress ",
+    "feature ",
+    "option ",
+];
 
 /// An item: the number of its line, from 1, the byte at which it begins, from 0, and where the front of the line is kept.
 #[derive(Clone, Copy)]
@@ -15,16 +28,38 @@ pub(crate) struct Spot {
     end: usize,
 }
 
+/// Where the next byte of a stream stands.
+#[derive(Clone, Copy)]
+enum Place {
+    /// In a line outside of blocks.
+    Line,
+    /// In a block, with so many bytes left, one at least.
+    Counted(u64),
+    /// In a block that ends behind the line that the last item announced.
+    Delimited(Compared),
+    /// Right behind a block, to which a line feed belongs.
+    Behind,
+}
+
+/// A line of a block beside the one that ends it: where it begins, how long that one is with its line feed, and whether they are
+/// the same so far. Of a long one the front and the length are compared.
+#[derive(Clone, Copy)]
+struct Compared {
+    byte: u64,
+    length: u64,
+    is_same: bool,
+}
+
 /// The items that went by since the last command began, and those of the one before it while that may still be refused. A block
 /// is an item with the line that announces it.
 #[derive(Drop)]
 pub(crate) struct Trail {
-    count: CommandCount,
+    place: Place,
+    commands: u64,
     lines: u64,
     bytes: u64,
     /// The line that didn't end yet, if one began.
     open: Option<Spot>,
-    is_behind_block: bool,
     has_ended: bool,
     items: Vec<Spot>,
     texts: Vec<u8>,
@@ -36,11 +71,11 @@ impl Trail {
     /// The trail of a stream of which nothing has come.
     pub(crate) fn new(alloc: Global) -> Trail {
         Trail {
-            count: CommandCount::new(),
+            place: Place::Line,
+            commands: 0,
             lines: 0,
             bytes: 0,
             open: None,
-            is_behind_block: false,
             has_ended: false,
             items: Vec::new(alloc),
             texts: Vec::new(alloc),
@@ -52,34 +87,56 @@ impl Trail {
     /// block it is one, so that who reads the block doesn't read the next item with it. By now the command before the last one is done.
     pub(crate) fn pass(&mut self, bytes: &[u8]) -> Result<usize, AllocError> {
         self.forget();
-        if !self.count.is_in_block() {
-            return self.pass_line(bytes);
-        }
-        let passed = without(bytes, self.count.step(bytes));
-        self.is_behind_block = !self.count.is_in_block();
-        if passed.is_empty() {
-            return self.pass_line(bytes);
-        }
-        self.move_past(passed);
-        Ok(passed.len())
-    }
-
-    /// Goes on to the end of a line, as far as it came.
-    fn pass_line(&mut self, bytes: &[u8]) -> Result<usize, AllocError> {
-        let is_behind_block = self.is_behind_block;
-        self.is_behind_block = false;
-        let bytes = if is_behind_block { first(bytes) } else { bytes };
-        let commands = self.count.commands();
-        let passed = without(bytes, self.count.step(bytes));
-        // a line feed behind a block belongs to it
-        if !(is_behind_block && passed == b"\n".as_slice()) {
-            self.keep(passed)?;
+        let passed = self.next_part(bytes);
+        match self.place {
+            Place::Counted(left) => self.place = block(left.saturating_sub(passed.len() as u64)),
+            Place::Delimited(line) => self.place = self.compared(line, passed),
+            Place::Behind if passed == b"\n".as_slice() => self.place = Place::Line,
+            Place::Behind | Place::Line => {
+                self.place = Place::Line;
+                self.keep(passed)?;
+            }
         }
         self.move_past(passed);
         if passed.ends_with(b"\n") {
-            self.end_line(commands)?;
+            self.end_line()?;
         }
         Ok(passed.len())
+    }
+
+    fn next_part<'a>(&self, bytes: &'a [u8]) -> &'a [u8] {
+        match self.place {
+            Place::Line | Place::Delimited(_) => first_line(bytes),
+            Place::Counted(left) => bytes.get(..left as usize).unwrap_or(bytes),
+            Place::Behind => bytes.get(..1).unwrap_or(bytes),
+        }
+    }
+
+    /// Where the byte behind this part of a block's line stands.
+    fn compared(&self, line: Compared, passed: &[u8]) -> Place {
+        let seen = self.bytes.saturating_sub(line.byte) as usize;
+        let mut there = self.delimiter().iter().skip(seen).zip(passed);
+        let is_same = line.is_same && there.all(|(wanted, byte)| *wanted == *byte);
+        let end = self.bytes.saturating_add(passed.len() as u64);
+        if !passed.ends_with(b"\n") {
+            Place::Delimited(Compared { is_same, ..line })
+        } else if is_same && end.saturating_sub(line.byte) == line.length {
+            Place::Behind
+        } else {
+            Place::Delimited(Compared {
+                byte: end,
+                length: line.length,
+                is_same: true,
+            })
+        }
+    }
+
+    /// The front of the delimiter that the last item announced.
+    fn delimiter(&self) -> &[u8] {
+        match self.items.last() {
+            Some(item) => self.text(item).get(7..).unwrap_or(b""),
+            None => b"",
+        }
     }
 
     fn move_past(&mut self, bytes: &[u8]) {
@@ -105,8 +162,8 @@ impl Trail {
         Ok(())
     }
 
-    /// Counts a line that ended as an item, unless it is a comment. A command may begin with it, where there were so many before.
-    fn end_line(&mut self, commands: u64) -> Result<(), AllocError> {
+    /// Counts a line that ended as an item, unless it is a comment. A command or a block may begin with it.
+    fn end_line(&mut self) -> Result<(), AllocError> {
         let Some(item) = self.open else {
             return Ok(());
         };
@@ -115,11 +172,31 @@ impl Trail {
             self.texts.truncate(item.start);
             return Ok(());
         }
-        if self.count.commands() > commands {
+        if begins_command(self.text(&item)) {
+            self.commands = self.commands.saturating_add(1);
             self.before = self.items.len();
         }
+        self.place = self.place_behind(&item);
         self.items.push(item)?;
         Ok(())
+    }
+
+    /// Where the byte behind an item's line stands: in the block that the line announces, if it does.
+    fn place_behind(&self, item: &Spot) -> Place {
+        let Some(size) = self.text(item).strip_prefix(b"data ") else {
+            return Place::Line;
+        };
+        if size.starts_with(b"<<") {
+            return Place::Delimited(Compared {
+                byte: self.bytes,
+                length: self.bytes.saturating_sub(item.byte).saturating_sub(7),
+                is_same: true,
+            });
+        }
+        match decimal(size) {
+            Some(left) => block(left),
+            None => Place::Line,
+        }
     }
 
     /// Forgets the command before the last one.
@@ -145,14 +222,8 @@ impl Trail {
 
     /// The stream ended. Its last line may have no line feed.
     pub(crate) fn end(&mut self) -> Result<(), AllocError> {
-        self.has_ended = self.open.is_none() && !self.count.is_in_block() && !self.is_behind_block;
-        let commands = self.count.commands();
-        if self.open.is_some() {
-            // the line counts as ended, also for the count of commands
-            let _ = self.count.step(b"\n");
-            self.end_line(commands)?;
-        }
-        Ok(())
+        self.has_ended = self.open.is_none() && matches!(self.place, Place::Line);
+        self.end_line()
     }
 
     /// Whether the stream's end came, and nothing was left then.
@@ -177,11 +248,10 @@ impl Trail {
 
     /// The items of the command with this number, from 1; none where they aren't kept.
     pub(crate) fn items_of(&self, command: u64) -> &[Spot] {
-        let last = self.count.commands();
         let before = self.before.min(self.items.len());
-        if command == last {
+        if command == self.commands {
             &self.items[before..]
-        } else if command.saturating_add(1) == last {
+        } else if command.saturating_add(1) == self.commands {
             &self.items[..before]
         } else {
             &[]
@@ -194,14 +264,26 @@ impl Trail {
     }
 }
 
-/// The first of these bytes alone.
-fn first(bytes: &[u8]) -> &[u8] {
-    bytes.get(..1).unwrap_or(bytes)
+/// Where the next byte stands in a block with so many bytes left.
+fn block(left: u64) -> Place {
+    if left == 0 {
+        Place::Behind
+    } else {
+        Place::Counted(left)
+    }
 }
 
-/// The bytes in front of these last ones.
-fn without<'a>(bytes: &'a [u8], last: &[u8]) -> &'a [u8] {
-    bytes
-        .get(..bytes.len().saturating_sub(last.len()))
-        .unwrap_or(bytes)
+/// The first line with its line feed, as far as it is there.
+fn first_line(bytes: &[u8]) -> &[u8] {
+    match cut(bytes, b'\n') {
+        Some((line, _)) => bytes.get(..line.len().saturating_add(1)).unwrap_or(bytes),
+        None => bytes,
+    }
+}
+
+fn begins_command(line: &[u8]) -> bool {
+    WHOLE.iter().any(|word| word.as_bytes() == line)
+        || FRONTS
+            .iter()
+            .any(|front| line.starts_with(front.as_bytes()))
 }

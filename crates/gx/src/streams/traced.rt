@@ -1,10 +1,10 @@
 //! Standard input of an import, given out line by line where a refusal is to be explained: what came last then is what the reader
 //! of the stream is at.
 
-use crate::devices::Noted;
-use crate::progress::{Metered, ProgressLine};
+use super::devices::Noted;
+use super::progress::ProgressLine;
+use super::trail::Trail;
 use crate::run::Run;
-use crate::trail::Trail;
 use std::io::{self, Read, Stdin};
 
 /// So many bytes are read at once.
@@ -22,19 +22,19 @@ struct Lines {
 /// Standard input, with the trail of its items where a refusal is to be explained and there is memory for it.
 #[derive(Drop)]
 pub(crate) struct Traced<'a> {
-    input: Metered<'a, Noted<'a, Stdin>>,
+    input: Noted<'a, Stdin>,
     lines: Option<Lines>,
 }
 
 impl<'a> Traced<'a> {
-    pub(crate) fn input(run: &Run<'_>, progress: &'a ProgressLine<'a>) -> Traced<'a> {
+    pub(crate) fn input(run: &'a Run<'a>, progress: &'a ProgressLine<'a>) -> Traced<'a> {
         let lines = if run.explains() {
             Lines::new(run)
         } else {
             None
         };
         Traced {
-            input: Metered::input(progress),
+            input: Noted::input(run).shown_by(progress),
             lines,
         }
     }

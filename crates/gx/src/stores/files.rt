@@ -1,8 +1,7 @@
 //! Store files: found through symbolic links, and read as a whole.
 
-use crate::fault::RunFault;
-use crate::run::{Run, Subject};
-use crate::system;
+use super::system;
+use crate::run::Run;
 use gx_cli::CliFault;
 use std::fs::{self, File, Metadata};
 use std::io::{self, ErrorKind, Read};
@@ -37,49 +36,34 @@ impl Stamp {
 
 /// Refuses a place where there is something.
 pub(crate) fn want_no_store(run: &Run<'_>, file: &str) -> Result<(), CliFault> {
-    match Path::new(file).try_exists(run.rt) {
-        Ok(false) => Ok(()),
-        Ok(true) => Err(CliFault::StoreExists),
-        Err(error) => Err(read_fault(run, error)),
+    if run.want_read(Path::new(file).try_exists(run.rt))? {
+        Err(CliFault::StoreExists)
+    } else {
+        Ok(())
     }
 }
 
 /// Refuses what is no file that can be read. Nothing is read yet.
 pub(crate) fn want_store(run: &Run<'_>, file: &str) -> Result<(), CliFault> {
-    match open_store(run, file) {
-        Ok(_opened) => Ok(()),
-        Err(error) => Err(read_fault(run, error)),
-    }
+    let _opened = run.want_read(open_store(run, file))?;
+    Ok(())
 }
 
 /// The bytes of a store file.
 pub(crate) fn read_store(run: &Run<'_>, file: &str) -> Result<Vec<u8>, CliFault> {
     let path = follow_links(run, file)?;
-    let (bytes, _stamp) = read_stamped(run, path.as_str())?;
+    let (bytes, _stamp) = run.want_read(read_stamped(run, path.as_str()))?;
     Ok(bytes)
 }
 
-/// The bytes of a store file that is no link, and which file it was.
-pub(crate) fn read_stamped(run: &Run<'_>, path: &str) -> Result<(Vec<u8>, Stamp), CliFault> {
-    match read_whole(run, path) {
-        Ok(read) => Ok(read),
-        Err(error) => Err(read_fault(run, error)),
-    }
-}
-
-/// The room for all bytes is taken at once, so that it needn't grow.
-fn read_whole(run: &Run<'_>, path: &str) -> io::Result<(Vec<u8>, Stamp)> {
+/// The bytes of a store file that is no link, and which file it was. The room for them is taken at once, so that it needn't grow.
+pub(crate) fn read_stamped(run: &Run<'_>, path: &str) -> io::Result<(Vec<u8>, Stamp)> {
     let mut opened = open_store(run, path)?;
     let found = opened.metadata()?;
-    let bytes = read_to_end(run, &mut opened, found.size())?;
-    Ok((bytes, Stamp::new(&found)))
-}
-
-/// The bytes of an open file of this size.
-fn read_to_end(run: &Run<'_>, opened: &mut File, size: u64) -> io::Result<Vec<u8>> {
-    let mut bytes = Vec::with_capacity(run.rt.alloc(), size.saturating_add(1) as usize)?;
+    let room = found.size().saturating_add(1) as usize;
+    let mut bytes = Vec::with_capacity(run.rt.alloc(), room)?;
     opened.read_to_end(&mut bytes)?;
-    Ok(bytes)
+    Ok((bytes, Stamp::new(&found)))
 }
 
 /// Opens what is a file. A look comes first, since to open a pipe would wait.
@@ -101,21 +85,9 @@ pub(crate) fn want_file(found: &Metadata) -> io::Result<()> {
     Err(io::Error::other("not a regular file"))
 }
 
-/// The fault of a store that isn't read, whose cause is kept.
-pub(crate) fn read_fault(run: &Run<'_>, error: io::Error) -> CliFault {
-    if error.kind() == ErrorKind::OutOfMemory {
-        return CliFault::OutOfMemory;
-    }
-    run.note(Subject::Store, error);
-    CliFault::ReadFailed
-}
-
 /// The path behind the symbolic links at the end of a path. Nothing needs to be there.
 pub(crate) fn follow_links(run: &Run<'_>, file: &str) -> Result<String, CliFault> {
-    match links_end(run, file) {
-        Ok(path) => Ok(path.into_string()),
-        Err(error) => Err(read_fault(run, error)),
-    }
+    Ok(run.want_read(links_end(run, file))?.into_string())
 }
 
 /// Follows the symbolic links at the end of a path, of which there may be so many.

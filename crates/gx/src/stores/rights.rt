@@ -3,8 +3,8 @@
 //! An access control list can't be seen here, and where a file has one, the group bits of its mode are the list's mask. So bits that
 //! the group has and others have not are handed on only where the group is known to be meant.
 
+use super::system::leaves_group_bits;
 use crate::run::Run;
-use crate::system::leaves_group_bits;
 use std::fs::{File, Metadata, Permissions};
 use std::io;
 use std::os::unix::fs::{MetadataExt, PermissionsExt, fchown};

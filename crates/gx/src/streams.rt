@@ -1,0 +1,156 @@
+//! Standard input and output: the commands that change no file.
+
+pub(crate) mod devices;
+pub(crate) mod explanation;
+pub(crate) mod progress;
+pub(crate) mod reports;
+pub(crate) mod traced;
+mod trail;
+
+use crate::run::Run;
+use crate::stores::files::read_store;
+use devices::{Noted, flushed};
+use explanation::explained;
+use gx_cli::{
+    CliFault, Explanation, Features, Line, Outcome, adapt_stream, find_fault, serve_owned,
+    try_revision,
+};
+use gx_object::Sha1Namer;
+use gx_text::{FromRead, IntoWrite};
+use progress::{Beside, ProgressLine};
+use reports::tell_adaption;
+use std::alloc::Global;
+use std::hash::RandomState;
+use std::io::{BufWriter, Write};
+use traced::Traced;
+
+/// Serves a command over a store's text, which is empty where it has no use for one, with this output.
+pub(crate) fn serve_line<W: Write + Drop>(
+    run: &Run<'_>,
+    line: &Line<'_>,
+    store: Vec<u8>,
+    output: W,
+    state: RandomState,
+) -> Outcome<Global> {
+    let source = FromRead::new(Noted::input(run));
+    let mut sink = IntoWrite::new(output);
+    serve_owned(
+        run.rt.alloc(),
+        Sha1Namer,
+        line,
+        store,
+        source,
+        &mut sink,
+        state,
+    )
+}
+
+/// Why a command was refused, if it was.
+pub(crate) fn refusal(outcome: &Outcome<Global>) -> Result<(), CliFault> {
+    match outcome.fault {
+        Some(fault) => Err(fault),
+        None => Ok(()),
+    }
+}
+
+/// Answers what comes on standard input, of a store or of none. What it prints goes out as it comes.
+pub(crate) fn answer_input(
+    run: &Run<'_>,
+    line: &Line<'_>,
+    file: Option<&str>,
+    state: RandomState,
+) -> Result<(), CliFault> {
+    let store = match file {
+        Some(file) => read_store(run, file)?,
+        None => Vec::new(run.rt.alloc()),
+    };
+    refusal(&serve_line(run, line, store, Noted::output(run), state))
+}
+
+/// Prints what a command tells of a store.
+pub(crate) fn print(
+    run: &Run<'_>,
+    line: &Line<'_>,
+    file: &str,
+    state: RandomState,
+) -> Result<(), CliFault> {
+    let store = read_store(run, file)?;
+    print_to(run, line, store, Noted::output(run), state)
+}
+
+/// Exports a store, and shows how much went out.
+pub(crate) fn export(
+    run: &Run<'_>,
+    line: &Line<'_>,
+    file: &str,
+    state: RandomState,
+) -> Result<(), CliFault> {
+    let store = read_store(run, file)?;
+    let progress = ProgressLine::new(run);
+    let output = Noted::output(run).shown_by(&progress);
+    let answer = print_to(run, line, store, output, state);
+    progress.clear();
+    answer
+}
+
+/// What is printed goes out through a buffer.
+fn print_to<W: Write + Drop>(
+    run: &Run<'_>,
+    line: &Line<'_>,
+    store: Vec<u8>,
+    output: W,
+    state: RandomState,
+) -> Result<(), CliFault> {
+    match BufWriter::new(run.rt.alloc(), output) {
+        Ok(mut out) => {
+            let outcome = serve_line(run, line, store, &mut out, state);
+            flushed(&mut out, refusal(&outcome))
+        }
+        Err(_) => Err(CliFault::OutOfMemory),
+    }
+}
+
+/// Adapts standard input, through a buffer, and tells what was changed.
+pub(crate) fn adapt(run: &Run<'_>, drop_signatures: bool) -> Result<(), CliFault> {
+    match BufWriter::new(run.rt.alloc(), Noted::output(run)) {
+        Ok(mut out) => {
+            let source = FromRead::new(Noted::input(run));
+            let mut sink = IntoWrite::new(&mut out);
+            let adapted = adapt_stream(run.rt.alloc(), source, &mut sink, drop_signatures);
+            let report = flushed(&mut out, adapted)?;
+            tell_adaption(run, &report, drop_signatures);
+            Ok(())
+        }
+        Err(_) => Err(CliFault::OutOfMemory),
+    }
+}
+
+/// Imports standard input into an empty store of which nothing is kept, and shows how far that is. What a revision names there is
+/// printed; with none, all that is asked is why the import is refused.
+pub(crate) fn try_stream(
+    run: &Run<'_>,
+    revision: Option<&str>,
+    features: Features,
+    state: RandomState,
+) -> Result<(), CliFault> {
+    let alloc = run.rt.alloc();
+    let progress = ProgressLine::new(run);
+    let mut input = Traced::input(run, &progress);
+    let mut told = Explanation::none();
+    let source = FromRead::new(&mut input);
+    let answer = match revision {
+        Some(revision) => try_revision(
+            alloc,
+            Sha1Namer,
+            revision.as_bytes(),
+            source,
+            &mut IntoWrite::new(Beside::new(&progress)),
+            features,
+            state,
+            &mut told,
+        ),
+        None => find_fault(alloc, Sha1Namer, source, features, state, &mut told),
+    };
+    progress.clear();
+    explained(run, &input, answer, &told)
+}

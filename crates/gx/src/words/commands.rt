@@ -1,0 +1,105 @@
+//! What runs the command of each line.
+
+use crate::fault::RunFault;
+use crate::run::Run;
+use crate::stores::{collect, drop_refs, import, init};
+use crate::streams::{adapt, answer_input, export, print, try_stream};
+use gx_cli::{Features, Line};
+use std::hash::RandomState;
+use std::process::ExitCode;
+
+/// Runs a command, and prints why it is refused.
+pub(crate) fn run_line(run: &Run<'_>, line: &Line<'_>) -> ExitCode {
+    match run_seeded(run, line) {
+        Ok(()) => ExitCode::SUCCESS,
+        Err(fault) => {
+            run.tell(&fault, file_of(line));
+            ExitCode::from(1)
+        }
+    }
+}
+
+/// Runs a command with random keys for the tables of names, which a stream could choose to be slow.
+fn run_seeded(run: &Run<'_>, line: &Line<'_>) -> Result<(), RunFault> {
+    match RandomState::new(run.rt) {
+        Ok(state) => run_command(run, line, state),
+        Err(_) => Err(RunFault::RandomFailed),
+    }
+}
+
+/// The store file that a command names.
+fn file_of<'a>(line: &Line<'a>) -> Option<&'a str> {
+    match line {
+        Line::Init { file }
+        | Line::Import { file, .. }
+        | Line::Batch { file, .. }
+        | Line::Drop { file, .. }
+        | Line::Gc { file, .. }
+        | Line::Export { file, .. }
+        | Line::ExportRange { file, .. }
+        | Line::Show { file, .. }
+        | Line::Ls { file, .. }
+        | Line::Archive { file, .. }
+        | Line::Refs { file }
+        | Line::Log { file, .. }
+        | Line::RevParse { file, .. } => Some(*file),
+        Line::Blobs
+        | Line::Where(_)
+        | Line::WhereFault { .. }
+        | Line::Try { .. }
+        | Line::Adapt { .. } => None,
+    }
+}
+
+/// Runs a command on its file and on the standard streams.
+fn run_command(run: &Run<'_>, line: &Line<'_>, state: RandomState) -> Result<(), RunFault> {
+    let answered = match line {
+        Line::Init { file } => return init(run, line, file, state),
+        Line::Drop { file, .. } => return drop_refs(run, line, file, state),
+        Line::Gc { file, report } => return collect(run, file, *report, state),
+        Line::Import {
+            file,
+            done,
+            force,
+            report,
+            explain,
+        } => {
+            run.explain_if(*explain);
+            return import(run, file, features(done, force), *report, state);
+        }
+        Line::Try {
+            revision,
+            done,
+            force,
+            explain,
+        } => {
+            run.explain_if(*explain);
+            try_stream(run, Some(*revision), features(done, force), state)
+        }
+        Line::WhereFault { done, force } => {
+            run.explain_if(true);
+            try_stream(run, None, features(done, force), state)
+        }
+        Line::Adapt { drop_signatures } => adapt(run, *drop_signatures),
+        Line::Blobs | Line::Where(_) => answer_input(run, line, None, state),
+        Line::Batch { file, .. } => answer_input(run, line, Some(*file), state),
+        Line::Export { file, .. } | Line::ExportRange { file, .. } => {
+            export(run, line, file, state)
+        }
+        Line::Show { file, .. }
+        | Line::Ls { file, .. }
+        | Line::Archive { file, .. }
+        | Line::Refs { file }
+        | Line::Log { file, .. }
+        | Line::RevParse { file, .. } => print(run, line, file, state),
+    };
+    Ok(answered?)
+}
+
+/// The features that a command's options ask for.
+fn features(done: &bool, force: &bool) -> Features {
+    Features {
+        done: *done,
+        force: *force,
+    }
+}

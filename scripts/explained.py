@@ -19,6 +19,9 @@ FRONT = (
 )
 COMMIT = b"commit refs/heads/main\n" + WHO + b"data 1\nx"
 DIGITS = b"0123456789" * 4
+# a message behind a long delimiter, with a line that has its front and its length
+END = b"E" * 250
+LONG = b"commit refs/heads/main\n" + WHO + b"data <<" + END + b"a\n" + END + b"b\nM 100644 :1 c\n" + END + b"a\n"
 
 # A fault, the stream behind FRONT, and the lines behind that of the place.
 CASES = [
@@ -55,6 +58,10 @@ CASES = [
     ("UnknownMark", b"@@" + COMMIT + b"from :4\nmerge :4\nmerge :77\n", b"gx: asked for :77\n"),
     ("UnknownRef", b"@@reset refs/heads/new\nfrom n\303\266~2\n", b'gx: asked for "n\\303\\266~2"\n'),
     ("UnknownObject", b"@@reset refs/heads/new\nfrom " + DIGITS + b"\n", b"gx: asked for " + DIGITS + b"\n"),
+    ("BadPath", b"@@reset refs/heads/q\nfrom q:a//b\nblob\ndata 0\n", b"gx: asked for q:a//b\n"),
+    ("BadPath", b"@@reset refs/heads/q\nfrom q:a//b\n", b"gx: asked for q:a//b\n"),
+    ("UnknownMark", b"blob\ndata " + b"0" * 300 + b"7\nreset x@@reset refs/heads/z\nfrom :77\n", b"gx: asked for :77\n"),
+    ("UnknownMark", LONG + b"@@M 100644 :77 bad\n", b"gx: change 1: bad\ngx: asked for :77\n"),
     ("WrongKind", b"@@tag v1\nfrom :1\ntagger A <a@x> 1 +0000\ndata 0\n", b"gx: asked for :1\n"),
 ]
 results = []

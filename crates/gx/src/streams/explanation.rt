@@ -31,15 +31,20 @@ fn lines_of(
 ) -> Result<Vec<u8>, AllocError> {
     let mut lines = match item_at_fault(trail, fault, told) {
         Some(item) => item_line(alloc, item.line, item.byte, trail.text(item))?,
-        None => end_line(alloc, trail, fault)?,
+        None => end_line(alloc, trail, fault, told)?,
     };
     lines.extend_from_slice(explanation_lines(alloc, told)?.as_slice())?;
     Ok(lines)
 }
 
 /// The line of the stream's end, where that is at fault.
-fn end_line(alloc: Global, trail: &Trail, fault: &ImportFault) -> Result<Vec<u8>, AllocError> {
-    if is_of_end(trail, fault.kind) {
+fn end_line(
+    alloc: Global,
+    trail: &Trail,
+    fault: &ImportFault,
+    told: &Explanation<Global>,
+) -> Result<Vec<u8>, AllocError> {
+    if is_of_end(trail, fault.kind, told) {
         item_line(alloc, trail.line(), trail.byte(), b"end of the stream")
     } else {
         Ok(Vec::new(alloc))
@@ -47,8 +52,8 @@ fn end_line(alloc: Global, trail: &Trail, fault: &ImportFault) -> Result<Vec<u8>
 }
 
 /// Whether the stream's end is at fault: the reader wants an item, and there is none.
-fn is_of_end(trail: &Trail, kind: ImportKind) -> bool {
-    kind == ImportKind::MissingDone || (is_of_reading(kind) && trail.has_ended())
+fn is_of_end(trail: &Trail, kind: ImportKind, told: &Explanation<Global>) -> bool {
+    kind == ImportKind::MissingDone || (is_of_reading(kind, told) && trail.has_ended())
 }
 
 /// The item at fault: the line of the change that is told, the last that was read where no command is read, or the first of the
@@ -66,9 +71,9 @@ fn item_at_fault<'a>(
             .filter(|item| begins_change(trail.text(item)))
             .nth(before);
     }
-    if is_of_end(trail, fault.kind) {
+    if is_of_end(trail, fault.kind, told) {
         None
-    } else if is_of_reading(fault.kind) {
+    } else if is_of_reading(fault.kind, told) {
         trail.last()
     } else {
         items.first()
@@ -84,9 +89,10 @@ fn begins_change(line: &[u8]) -> bool {
             .any(|front| line.starts_with(front.as_slice()))
 }
 
-/// Whether a fault is one of a command that isn't read whole, where no change is told.
-fn is_of_reading(kind: ImportKind) -> bool {
-    matches!(
+/// Whether a fault is one of a command that isn't read whole, where no change is told. What was asked for in vain is of one that is,
+/// also where its path is a bad one.
+fn is_of_reading(kind: ImportKind, told: &Explanation<Global>) -> bool {
+    let is_met_in_reading = matches!(
         kind,
         ImportKind::ReadFailed
             | ImportKind::UnknownCommand
@@ -101,5 +107,6 @@ fn is_of_reading(kind: ImportKind) -> bool {
             | ImportKind::Unsupported
             | ImportKind::LateOption
             | ImportKind::MissingDone
-    )
+    );
+    is_met_in_reading && told.asked.is_none()
 }

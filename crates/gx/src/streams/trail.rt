@@ -3,8 +3,11 @@
 use gx_text::{cut, decimal};
 use std::alloc::{AllocError, Global};
 
-/// So many bytes of a line are kept.
+/// So many bytes of a line are kept, but all of one that announces a block, by which its end is known.
 const KEPT: usize = 200;
+
+/// What a line begins with that announces a block.
+const BLOCK: &[u8] = b"data ";
 
 /// The lines that are a command, or begin one, as a whole.
 const WHOLE: &[&str] = &["blob", "checkpoint", "done"];
@@ -42,7 +45,7 @@ enum Place {
 }
 
 /// A line of a block beside the one that ends it: where it begins, how long that one is with its line feed, and whether they are
-/// the same so far. Of a long one the front and the length are compared.
+/// the same so far.
 #[derive(Clone, Copy)]
 struct Compared {
     byte: u64,
@@ -115,7 +118,8 @@ impl Trail {
     /// Where the byte behind this part of a block's line stands.
     fn compared(&self, line: Compared, passed: &[u8]) -> Place {
         let seen = self.bytes.saturating_sub(line.byte) as usize;
-        let mut there = self.delimiter().iter().skip(seen).zip(passed);
+        let wanted = self.delimiter().get(seen..).unwrap_or(b"");
+        let mut there = wanted.iter().zip(passed);
         let is_same = line.is_same && there.all(|(wanted, byte)| *wanted == *byte);
         let end = self.bytes.saturating_add(passed.len() as u64);
         if !passed.ends_with(b"\n") {
@@ -131,10 +135,10 @@ impl Trail {
         }
     }
 
-    /// The front of the delimiter that the last item announced.
+    /// The delimiter that the last item announced.
     fn delimiter(&self) -> &[u8] {
         match self.items.last() {
-            Some(item) => self.text(item).get(7..).unwrap_or(b""),
+            Some(item) => self.line_of(item).get(7..).unwrap_or(b""),
             None => b"",
         }
     }
@@ -145,7 +149,7 @@ impl Trail {
         self.bytes = self.bytes.saturating_add(bytes.len() as u64);
     }
 
-    /// Keeps the front of a line that begins or goes on with these bytes.
+    /// Keeps what is to be kept of a line that begins or goes on with these bytes.
     fn keep(&mut self, bytes: &[u8]) -> Result<(), AllocError> {
         let at = self.texts.len();
         let mut open = self.open.unwrap_or(Spot {
@@ -156,7 +160,16 @@ impl Trail {
         });
         let text = bytes.strip_suffix(b"\n").unwrap_or(bytes);
         let room = KEPT.saturating_sub(open.end.saturating_sub(open.start));
-        self.texts.extend_from_slice(&text[..text.len().min(room)])?;
+        let front = text.len().min(room);
+        self.texts.extend_from_slice(&text[..front])?;
+        let is_block = self
+            .texts
+            .get(open.start..)
+            .unwrap_or(b"")
+            .starts_with(BLOCK);
+        if is_block {
+            self.texts.extend_from_slice(&text[front..])?;
+        }
         open.end = self.texts.len();
         self.open = Some(open);
         Ok(())
@@ -183,7 +196,7 @@ impl Trail {
 
     /// Where the byte behind an item's line stands: in the block that the line announces, if it does.
     fn place_behind(&self, item: &Spot) -> Place {
-        let Some(size) = self.text(item).strip_prefix(b"data ") else {
+        let Some(size) = self.line_of(item).strip_prefix(BLOCK) else {
             return Place::Line;
         };
         if size.starts_with(b"<<") {
@@ -260,6 +273,12 @@ impl Trail {
 
     /// The front of an item's line.
     pub(crate) fn text(&self, item: &Spot) -> &[u8] {
+        let line = self.line_of(item);
+        line.get(..KEPT).unwrap_or(line)
+    }
+
+    /// What is kept of an item's line.
+    fn line_of(&self, item: &Spot) -> &[u8] {
         self.texts.get(item.start..item.end).unwrap_or(b"")
     }
 }

@@ -302,10 +302,6 @@ module _ {N W : Type 0} (name_of : N → Kind → Bytes → Bytes) (taken : W �
   PrintsOthers repo options names old new result =
       PrintsText (flat_map (next_entry (name_of repo.0) options) (map (commit_at repo.1) names)) (taken old) (taken new) result
 
-  -- the commit of this name goes out behind another
-  abbrev pub PrintsNext : Repository N → LogOptions → Name → W → W → Result (Unit {0}) CliFault → Type 0
-  PrintsNext repo options commit old new result = PrintsText (next_entry (name_of repo.0) options (commit_at repo.1 commit)) (taken old) (taken new) result
-
-  -- the commit of this name goes out
-  abbrev pub PrintsCommit : Repository N → LogOptions → Name → W → W → Result (Unit {0}) CliFault → Type 0
-  PrintsCommit repo options commit old new result = PrintsText (entry_at name_of repo options commit) (taken old) (taken new) result
+  -- a text and behind it the commit of this name go out
+  abbrev pub PrintsCommit : Repository N → LogOptions → Bytes → Name → W → W → Result (Unit {0}) CliFault → Type 0
+  PrintsCommit repo options before commit old new result = PrintsText (before ++ entry_at name_of repo options commit) (taken old) (taken new) result

@@ -4,10 +4,10 @@ ghost use Rattle.std.specs.Prelude.{◌≡◌, ◌≤◌, ◌-◌, ◌++◌, ◌
 ghost use Rattle.gx_model.specs.Objects.{hex};
 ghost use Rattle.gx_rev.specs.Objects.{IsHeldAs};
 ghost use Rattle.gx_model.specs.declared.objects.Kind.TheVariants as kinds;
-ghost use Rattle.gx_cli.specs.Identities.{email_in, name_in, seconds_in};
-ghost use Rattle.gx_cli.specs.Logs.{gap, head_text, named, parent_text};
+ghost use Rattle.gx_cli.specs.Identities.{name_and_email};
+ghost use Rattle.gx_cli.specs.Logs.{both_dates, gap, head_text, named, parent_text};
 ghost use Rattle.gx_cli.specs.Messages.{indented, subject, trimmed};
-ghost use Rattle.gx_cli.specs.Parts.{AreCommits, PrintsCommit, PrintsCommits, PrintsNext, PrintsOthers, entry_at, told_at};
+ghost use Rattle.gx_cli.specs.Parts.{AreCommits, PrintsCommit, PrintsCommits, PrintsOthers, entry_at, told_at};
 
 use super::identities::{email_in, name_in, seconds_in};
 use super::messages::{put_indented, put_subject, trimmed};
@@ -34,7 +34,7 @@ pub(super) fn print_commits<N: Namer, A: Allocator + Copy, W: Sink>(
         return Ok(());
     };
     let mut text = Vec::new(alloc);
-    print_commit(repo, options, first, &mut text, sink)?;
+    print_commit(repo, options, b"", first, &mut text, sink)?;
     print_others(repo, options, others, &mut text, sink)
 }
 
@@ -50,24 +50,9 @@ fn print_others<N: Namer, A: Allocator + Copy, W: Sink>(
     ensures { PrintsOthers N.name_of W.taken repo.now options names.now sink.old sink.new result }
 {
     for name in names {
-        print_next(repo, options, name, text, sink)?;
+        print_commit(repo, options, gap(options.format), name, text, sink)?;
     }
     Ok(())
-}
-
-/// Prints what stands between two commits, and then a held commit.
-fn print_next<N: Namer, A: Allocator + Copy, W: Sink>(
-    repo: &Repo<N, A>,
-    options: LogOptions,
-    commit: &Name,
-    text: &mut Vec<u8, A>,
-    sink: &mut W,
-) -> Result<(), CliFault>
-    requires { IsHeldAs kinds.Commit repo.now.1 commit.now }
-    ensures { PrintsNext N.name_of W.taken repo.now options commit.now sink.old sink.new result }
-{
-    put_text(sink, gap(options.format))?;
-    print_commit(repo, options, commit, text, sink)
 }
 
 /// What stands between two commits.
@@ -84,19 +69,21 @@ fn gap(format: LogFormat) -> &'static [u8]
     }
 }
 
-/// Prints a held commit. Its text is made in place of the one before.
+/// Prints a text, and behind it a held commit, whose own text is made in place of the one before.
 fn print_commit<N: Namer, A: Allocator + Copy, W: Sink>(
     repo: &Repo<N, A>,
     options: LogOptions,
+    before: &[u8],
     commit: &Name,
     text: &mut Vec<u8, A>,
     sink: &mut W,
 ) -> Result<(), CliFault>
     requires { IsHeldAs kinds.Commit repo.now.1 commit.now }
-    ensures { PrintsCommit N.name_of W.taken repo.now options commit.now sink.old sink.new result }
+    ensures { PrintsCommit N.name_of W.taken repo.now options before.now commit.now sink.old sink.new result }
 {
     text.clear();
     put_commit(text, repo, options, commit)?;
+    put_text(sink, before)?;
     put_text(sink, text.as_slice())
 }
 
@@ -237,7 +224,7 @@ fn put_author<A: Allocator + Copy>(
     view: &CommitView<'_>,
     commit: &Name,
 ) -> Result<(), AllocError>
-    ensures { OnOk result (out.new.items ≡ out.old.items ++ (hex commit.now.bytes ++ 32 ∷ name_in view.now.text.author ++ codes " <" ++ email_in view.now.text.author ++ codes ">")) }
+    ensures { OnOk result (out.new.items ≡ out.old.items ++ (hex commit.now.bytes ++ 32 ∷ name_and_email view.now.text.author)) }
 {
     let author = view.author();
     out.extend_from_slice(commit.hex().as_slice())?;
@@ -254,7 +241,7 @@ fn put_dates<A: Allocator + Copy>(
     view: &CommitView<'_>,
     commit: &Name,
 ) -> Result<(), AllocError>
-    ensures { OnOk result (out.new.items ≡ out.old.items ++ (hex commit.now.bytes ++ 32 ∷ seconds_in view.now.text.author ++ 32 ∷ seconds_in view.now.text.committer)) }
+    ensures { OnOk result (out.new.items ≡ out.old.items ++ (hex commit.now.bytes ++ 32 ∷ both_dates view.now.text)) }
 {
     out.extend_from_slice(commit.hex().as_slice())?;
     out.push(b' ')?;

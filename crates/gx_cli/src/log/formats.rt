@@ -1,13 +1,14 @@
 //! What is printed of each commit. Source: git-log(1), "PRETTY FORMATS".
 
-ghost use Rattle.std.specs.Prelude.{◌≡◌, ◌≤◌, ◌-◌, ◌++◌, ◌∷◌, [], OnOk, codes, length, take};
+ghost use Rattle.std.specs.Prelude.{◌≡◌, ◌≤◌, ◌-◌, ◌++◌, ◌∷◌, OnOk, [], codes, length, map, take};
 ghost use Rattle.gx_model.specs.Objects.{hex};
-ghost use Rattle.gx_rev.specs.Objects.{IsHeldAs};
 ghost use Rattle.gx_model.specs.declared.objects.Kind.TheVariants as kinds;
+ghost use Rattle.gx_rev.specs.Objects.{IsHeldAs, commit_at};
+ghost use Rattle.gx_cli.specs.Sending.{PrintsText};
 ghost use Rattle.gx_cli.specs.Identities.{name_and_email};
-ghost use Rattle.gx_cli.specs.Logs.{both_dates, gap, head_text, named, parent_text};
+ghost use Rattle.gx_cli.specs.Logs.{both_dates, entries_text, gap, head_text, named, parent_text, told};
 ghost use Rattle.gx_cli.specs.Messages.{indented, subject, trimmed};
-ghost use Rattle.gx_cli.specs.Parts.{AreCommits, PrintsCommit, PrintsCommits, PrintsOthers, entry_at, told_at};
+ghost use Rattle.gx_cli.specs.Parts.{AreCommits, PrintsOthers, entry_at};
 
 use super::identities::{email_in, name_in, seconds_in};
 use super::messages::{put_indented, put_subject, trimmed};
@@ -28,7 +29,7 @@ pub(super) fn print_commits<N: Namer, A: Allocator + Copy, W: Sink>(
     sink: &mut W,
 ) -> Result<(), CliFault>
     requires { AreCommits repo.now.1 names.now }
-    ensures { PrintsCommits N.name_of W.taken repo.now options names.now sink.old sink.new result }
+    ensures { PrintsText (entries_text (N.name_of repo.now.0) options (map (commit_at repo.now.1) names.now)) (W.taken sink.old) (W.taken sink.new) result }
 {
     let Some((first, others)) = names.split_first() else {
         return Ok(());
@@ -79,7 +80,7 @@ fn print_commit<N: Namer, A: Allocator + Copy, W: Sink>(
     sink: &mut W,
 ) -> Result<(), CliFault>
     requires { IsHeldAs kinds.Commit repo.now.1 commit.now }
-    ensures { PrintsCommit N.name_of W.taken repo.now options before.now commit.now sink.old sink.new result }
+    ensures { PrintsText (before.now ++ entry_at N.name_of repo.now options commit.now) (W.taken sink.old) (W.taken sink.new) result }
 {
     text.clear();
     put_commit(text, repo, options, commit)?;
@@ -111,7 +112,7 @@ fn put_told<N: Namer, A: Allocator + Copy>(
 ) -> Result<(), AllocError>
     requires held { IsHeldAs kinds.Commit repo.now.1 commit.now }
     requires empty { text.old.items ≡ [] }
-    ensures { OnOk result (text.new.items ≡ told_at N.name_of repo.now options commit.now) }
+    ensures { OnOk result (text.new.items ≡ told (N.name_of repo.now.0) options.format options.parents (commit_at repo.now.1 commit.now)) }
 {
     repo.sound();
     let view = view_of(repo, commit);

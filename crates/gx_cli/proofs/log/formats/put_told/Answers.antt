@@ -1,8 +1,7 @@
 use Rattle.std.proofs.Common.{◌≡◌, ◌++◌, ◌∷◌, ◌∙◌, OnOk, codes, sym, ap, subst}
 use Rattle.gx_model.specs.declared.objects.Kind.TheVariants as kinds
-use Rattle.gx_model.specs.Histories.Values.{commit_value}
 use Rattle.gx_model.specs.Objects.{hex}
-use Rattle.gx_model.specs.Records.{name_of, parts_of_commit}
+use Rattle.gx_model.specs.Records.{parts_of_commit}
 use Rattle.gx_model.proofs.HeldValues.{commit_text_held, kind_held}
 use Rattle.gx_rev.specs.Objects.{commit_at}
 use Rattle.gx_cli.specs.Identities.{name_and_email}

@@ -10,7 +10,6 @@ use Rattle.gx_model.specs.Stores.StoreReading.{Stored}
 use Rattle.gx_repo.specs.Pruning.{weight}
 use Rattle.gx_repo.specs.Repositories.{Repository}
 use Rattle.gx_repo.specs.declared.pruning.Pruned.{Pruned}
-use Rattle.gx_cli.specs.CollectedParts.{CollectsOpened}
 use Rattle.gx_cli.specs.Collecting.{CollectsStored, IsCollected}
 use Rattle.gx_cli.specs.Serving.{CollectsInto, IsRefused, IsWritten}
 use Rattle.gx_cli.specs.declared.fault.CliFault.{CliFault}
@@ -29,7 +28,7 @@ module _ {N : Type 0} (name_of : N → Kind → Bytes → Bytes) where
   -- what is left of it, and how much went
   pub repository_collected : (old new : Repository N) (gone : Pruned) → PrunedStands (name_of old.0) → PrunedAnswers (name_of old.0) → IsSound (name_of old.0) old.1
       → new.0 ≡ old.0 → new.1 ≡ pruned old.1 → gone.objects + length new.1.records ≡ length old.1.records → gone.bytes + weight new.1.records ≡ weight old.1.records
-      → CollectsOpened name_of old (Ok (new, gone))
+      → CollectsStored name_of old.0 (Ok old.1) (Ok (new, gone))
   repository_collected old new gone stands answers sound kept left objects bytes = (
     kept,
     subst (IsCollected (name_of old.0) old.1) (sym left) (is_collected (name_of old.0) old.1 stands answers sound),

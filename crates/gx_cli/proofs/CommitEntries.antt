@@ -1,5 +1,5 @@
 -- What is printed of commits, one behind the other.
-use Rattle.std.proofs.Common.{◌≡◌, ◌-◌, ℕ, arith, refl, sym, ap, ◌∙◌, List, [], ◌∷◌, ◌++◌, map, take, length, length-append, append_assoc, codes, Option, Result, Ok, Err}
+use Rattle.std.proofs.Common.{◌≡◌, ◌-◌, arith, refl, sym, ap, ◌∙◌, List, [], ◌∷◌, ◌++◌, map, take, length, length-append, append_assoc, codes, Option, Ok, Err}
 use Rattle.std.specs.List.{flat_map, join_by}
 use Rattle.std.proofs.Math.Seq.{take-append_seam}
 use Rattle.gx_model.specs.Objects.{CommitParts, commit_text, hex, line, optional_line}

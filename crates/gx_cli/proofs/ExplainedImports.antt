@@ -1,5 +1,5 @@
 -- What imports tell of a refusal, through each part of a command.
-use Rattle.std.proofs.Common.{◌≡◌, refl, sym, subst, inl, inr, [], Option, Some, None, Result, Ok, Err}
+use Rattle.std.proofs.Common.{◌≡◌, sym, subst, inl, inr, Option, Result, Ok, Err}
 use Rattle.gx_model.specs.declared.objects.Kind.{Kind}
 use Rattle.gx_model.specs.declared.features.Features.{Features}
 use Rattle.gx_model.specs.declared.store_faults.FileFault.{FileFault}
@@ -9,14 +9,14 @@ use Rattle.gx_model.specs.Histories.{Records}
 use Rattle.gx_model.specs.Stores.StoreReading.{Stored}
 use Rattle.gx_model.specs.Texts.Sinks.{Taken}
 use Rattle.gx_text.specs.Devices.{Coming}
-use Rattle.gx_import.specs.Explaining.{ExplainsAnswer, ExplainsFault, TellsNothing}
+use Rattle.gx_import.specs.Explaining.{ExplainsFault, TellsNothing}
 use Rattle.gx_import.specs.Exported.{nothing}
 use Rattle.gx_import.specs.declared.explanation.Explanation.{Explanation}
 use Rattle.gx_import.specs.declared.fault.ImportFault.{ImportFault}
 use Rattle.gx_cli.specs.Explained.{ExplainsCommand, ExplainsStored, ExplainsTry, KeepsTold}
 use Rattle.gx_cli.specs.Trying.{Shows}
 use Rattle.gx_cli.specs.declared.fault.CliFault.{CliFault}
-use Rattle.gx_cli.specs.declared.fault.CliFault.TheVariants.{Import, OutOfMemory, Store}
+use Rattle.gx_cli.specs.declared.fault.CliFault.TheVariants.{Import, Store}
 
 module _ (name : Kind → Bytes → Bytes) {A : Type 0} (told : Explanation A) where
   -- of a store that isn't read nothing is told

@@ -1,5 +1,5 @@
 -- Batches in a format, and texts that are no format.
-use Rattle.std.proofs.Common.{◌≡◌, inl, inr, refl, sym, subst, List, Option, Some, None, Ok, Err}
+use Rattle.std.proofs.Common.{◌≡◌, inl, inr, sym, subst, List, Option, Some, None, Err}
 use Rattle.gx_model.specs.declared.objects.Kind.{Kind}
 use Rattle.gx_model.specs.Stores.StoreReading.{store_of}
 use Rattle.gx_model.specs.Texts.{Bytes}

@@ -1,12 +1,12 @@
 -- White space at the end of a text, and the lines of a message.
-use Rattle.std.proofs.Common.{◌≡◌, ℕ, Bool, true, false, cond, refl, sym, ap, subst, arith, ◌∙◌, if◌then◌else◌, ◌&&◌, List, [], ◌∷◌, ◌++◌, map, take, length, append_assoc, append-nil, Option, None, Some}
+use Rattle.std.proofs.Common.{◌≡◌, ℕ, Bool, true, false, cond, refl, ap, subst, arith, ◌∙◌, ◌&&◌, List, [], ◌∷◌, ◌++◌, map, take, length, Option, None, Some}
 use Rattle.std.specs.Prelude.{◌==◌, eqb}
 use Rattle.std.specs.List.{flat_map, join_by, list_all, onto_first, slice_split}
 use Rattle.std.specs.Option.{option_map}
 use Rattle.std.proofs.lemmas.Bool.{eqb-true}
 use Rattle.std.proofs.lemmas.List.Folds.{list_all-append}
 use Rattle.gx_model.specs.Texts.{Bytes, cut_at}
-use Rattle.gx_cli.specs.Messages.{behind_blank, indented_line, is_space, message_lines, paragraph, subject, trimmed}
+use Rattle.gx_cli.specs.Messages.{behind_blank, is_space, message_lines, paragraph, subject, trimmed}
 
 -- ---- white space at the end
 

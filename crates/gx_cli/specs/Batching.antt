@@ -16,8 +16,6 @@ use Rattle.gx_batch.specs.declared.fault.BatchFault.{BatchFault}
 use Rattle.gx_batch.specs.declared.format.Format.{Format}
 use Rattle.gx_batch.specs.declared.format.Part.{Part}
 use Rattle.gx_line.specs.declared.command_line.BatchForm.{BatchForm}
-use Rattle.gx_rev.specs.declared.fault.RevFault.{RevFault}
-use Rattle.gx_rev.specs.RevFaults.{fault_of}
 use Rattle.gx_cli.specs.Commanding.{Asked, answered, archive, contents, flush, info, log, ls, no_options, refs, rev_parse, unknown}
 use Rattle.gx_cli.specs.Gathering.{batch_answer}
 use Rattle.gx_cli.specs.Opening.{bytes_of}
@@ -51,10 +49,6 @@ ReadsParts parts (Ok format) = parts ≡ Some format.parts.items
 ReadsParts parts (Err BadFormat) = parts ≡ None
 ReadsParts parts (Err OutOfMemory) = ⊤
 ReadsParts parts (Err fault) = ⊥
-
--- the same of the format that is given, or of the usual one
-abbrev pub ReadsFormat : {A : Type 0} → Option (Bor Bytes) → Result (Format A) CliFault → Type 0
-ReadsFormat text result = ReadsParts (format_parts text) result
 
 module _ {N W : Type 0} (name_of : N → Kind → Bytes → Bytes) (taken : W → Option Taken) where
   -- the answers to the lines of a source over the store of these bytes go out, and how the command ends

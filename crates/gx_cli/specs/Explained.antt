@@ -8,10 +8,9 @@ use Rattle.gx_model.specs.Histories.{Records}
 use Rattle.gx_model.specs.Stores.StoreReading.{Stored, store_of}
 use Rattle.gx_text.specs.Devices.{Coming}
 use Rattle.gx_repo.specs.Repositories.{Repository}
-use Rattle.gx_import.specs.Explaining.{ExplainsAnswer, ExplainsFault, TellsNothing}
+use Rattle.gx_import.specs.Explaining.{ExplainsFault, TellsNothing}
 use Rattle.gx_import.specs.Exported.{nothing}
 use Rattle.gx_import.specs.declared.explanation.Explanation.{Explanation}
-use Rattle.gx_import.specs.declared.fault.ImportFault.{ImportFault}
 use Rattle.gx_cli.specs.declared.fault.CliFault.{CliFault}
 use Rattle.gx_cli.specs.declared.fault.CliFault.TheVariants.{Import, OutOfMemory}
 
@@ -33,10 +32,6 @@ module _ (name : Kind → Bytes → Bytes) {A : Type 0} where
   -- the same of a stream that is tried, which is imported into an empty store
   abbrev pub ExplainsTry : {X : Type 0} → Features → Option Coming → Result X CliFault → Explanation A → Type 0
   ExplainsTry asks coming answer told = ExplainsCommand asks nothing coming answer told
-
-  -- and of that import alone
-  abbrev pub ExplainsAlone : {X : Type 0} → Features → Option Coming → Result X ImportFault → Explanation A → Type 0
-  ExplainsAlone asks coming answer told = ExplainsAnswer name asks nothing coming answer told
 
 module _ {N X A : Type 0} (name_of : N → Kind → Bytes → Bytes) where
   -- the same of an import into the store of a text, which is read first

@@ -25,7 +25,6 @@ pub mod Batching
 pub mod Again
 pub mod Parts
 pub mod Collecting
-pub mod CollectedParts
 pub mod Reporting
 pub mod ExplainedLines
 pub mod Explained

@@ -21,7 +21,7 @@ use Rattle.gx_line.specs.declared.command_line.LogFormat.{LogFormat}
 use Rattle.gx_line.specs.declared.command_line.LogFormat.TheVariants.{Author, Dates, Names, Oneline, Raw, Subject}
 use Rattle.gx_line.specs.declared.command_line.LogOptions.{LogOptions}
 use Rattle.gx_cli.specs.Answers.{Prints}
-use Rattle.gx_cli.specs.Identities.{email_in, name_in, seconds_in}
+use Rattle.gx_cli.specs.Identities.{name_and_email, seconds_in}
 use Rattle.gx_cli.specs.Messages.{indented, subject, trimmed}
 use Rattle.gx_cli.specs.Stored.{Printed, all_words}
 use Rattle.gx_cli.specs.declared.fault.CliFault.{CliFault}
@@ -68,6 +68,10 @@ head_text parts = commit_text (record {
   text = record { author = parts.text.author; committer = parts.text.committer; encoding = parts.text.encoding; message = [] };
 })
 
+-- when a commit was written, and when it was made
+abbrev pub both_dates : CommitText → Bytes
+both_dates text = seconds_in text.author ++ 32 ∷ seconds_in text.committer
+
 -- what stands between two commits
 abbrev pub gap : LogFormat → Bytes
 gap Raw = 10 ∷ []
@@ -89,8 +93,8 @@ module _ (name : Kind → Bytes → Bytes) where
   told Oneline parents made = digits_of made ++ 32 ∷ subject (text_of made).message
   told Raw parents made = trimmed (codes "commit " ++ digits_of made ++ 10 ∷ head_text (parts_of_commit name made) ++ indented (text_of made).message)
   told Subject parents made = subject (text_of made).message
-  told Author parents made = digits_of made ++ 32 ∷ name_in (text_of made).author ++ codes " <" ++ email_in (text_of made).author ++ codes ">"
-  told Dates parents made = digits_of made ++ 32 ∷ seconds_in (text_of made).author ++ 32 ∷ seconds_in (text_of made).committer
+  told Author parents made = digits_of made ++ 32 ∷ name_and_email (text_of made).author
+  told Dates parents made = digits_of made ++ 32 ∷ both_dates (text_of made)
 
   -- what is printed of a commit
   abbrev pub entry_of : LogOptions → Commit → Bytes

@@ -44,8 +44,3 @@ module _ {N A : Type 0} (name_of : N → Kind → Bytes → Bytes) (namer : N) w
   -- the same of the store of a text, which is read first
   abbrev pub ReportsStore : Features → Bytes → Option Coming → Option Taken → Option Taken → Told N A → Type 0
   ReportsStore asks text coming was now told = ReportsStored asks (store_of (name_of namer) text) coming was now told
-
-module _ {N A W : Type 0} (name_of : N → Kind → Bytes → Bytes) (taken : W → Option Taken) where
-  -- the same of a repository
-  abbrev pub ReportsOpened : N × Records → Features → Option Coming → W → W → Told N A → Type 0
-  ReportsOpened repo asks coming old new told = ReportsStored name_of repo.0 asks (Ok repo.1) coming (taken old) (taken new) told

@@ -65,7 +65,3 @@ module _ {N : Type 0} (name_of : N → Kind → Bytes → Bytes) (namer : N) whe
   -- the import of a stream into the store of a text, which is read first
   abbrev pub ImportsStore : Features → Bytes → Option Coming → Option Taken → Option Taken → Answer N → Type 0
   ImportsStore asks text coming was now answer = ImportsStored asks (store_of (name_of namer) text) coming was now answer
-
-  -- the import of a sound repository's export into the store of a text, where that is an empty store
-  abbrev pub ImportsStoreAgain : Features → Bytes → Option Coming → Answer N → Type 0
-  ImportsStoreAgain asks text coming answer = ImportsStoredAgain asks (store_of (name_of namer) text) coming answer

@@ -4,7 +4,6 @@ use Rattle.std.specs.Prelude.{◌≡◌, ◌≢◌, if◌then◌else◌, [], ◌
 use Rattle.std.specs.List.{AllByRecursion, flat_map}
 use Rattle.gx_model.specs.declared.objects.Kind.{Kind}
 use Rattle.gx_model.specs.declared.objects.Kind.TheVariants as kinds
-use Rattle.gx_model.specs.declared.objects.Mode.{Mode}
 use Rattle.gx_model.specs.declared.objects.Mode.TheVariants.{Dir}
 use Rattle.gx_model.specs.Histories.Files.{FileMap, Leaf}
 use Rattle.gx_model.specs.Objects.{Entry as TreeEntry, is_dir}
@@ -58,15 +57,6 @@ module _ {N : Type 0} (name_of : N → Kind → Bytes → Bytes) (repo : Reposit
   -- a tree of this name is held, and with this text before it each path of its files is one
   abbrev pub HasPathsBehind : Name → Type 0
   HasPathsBehind tree = IsTrue (is_held repo.1.records kinds.Tree tree.bytes) × HavePaths front (files_in (name_of repo.0) repo.1 tree.bytes)
-
-  -- the same of an entry
-  abbrev pub IsEntryBehind : Entry → Type 0
-  IsEntryBehind entry = IsWithin (name_of repo.0) repo.1 front (shown entry)
-
-module _ {W : Type 0} (taken : W → Option Taken) where
-  -- the line of the file of this mode at the path of a text goes out
-  abbrev pub PrintsAt : Bytes → Mode → Name → W → W → Result (Unit {0}) CliFault → Type 0
-  PrintsAt path mode called old new result = PrintsText (entry_line (record { mode = mode; component = path; name = called.bytes })) (taken old) (taken new) result
 
 module _ {N W : Type 0} (name_of : N → Kind → Bytes → Bytes) (taken : W → Option Taken) (repo : Repository N) (front : Bytes) where
   -- the lines of these files go out

@@ -1,6 +1,9 @@
 //! The archive of a revision's tree. Source: git-archive(1).
 
-ghost use Rattle.gx_cli.specs.Parts.{ArchivesRevision, ArchivesWord};
+ghost use Rattle.gx_model.specs.Records.HistoryOf.{history_of};
+ghost use Rattle.gx_archive.specs.Archives.{archive_of};
+ghost use Rattle.gx_cli.specs.Stored.{only_word, tar_text};
+ghost use Rattle.gx_cli.specs.Answers.{Prints};
 
 use crate::CliFault;
 use crate::words::refused;
@@ -22,7 +25,7 @@ pub(crate) fn print_archive<N: Namer, A: Allocator + Copy, W: Sink>(
     word: &[u8],
     sink: &mut W,
 ) -> Result<(), CliFault>
-    ensures { ArchivesWord N.name_of W.taken repo.now prefix.now word.now sink.old sink.new result }
+    ensures { Prints (tar_text (N.name_of repo.now.0) prefix.now (history_of repo.now.1) word.now) (W.taken sink.old) (W.taken sink.new) result }
 {
     match Revision::read(alloc, word) {
         Ok(revision) => archive_revision(alloc, repo, &revision, prefix, sink),
@@ -38,7 +41,8 @@ fn archive_revision<N: Namer, A: Allocator + Copy, W: Sink>(
     prefix: &[u8],
     sink: &mut W,
 ) -> Result<(), CliFault>
-    ensures { ArchivesRevision N.name_of W.taken repo.now prefix.now revision.now sink.old sink.new result }
+    ensures { Prints (only_word (archive_of (N.name_of repo.now.0) (history_of repo.now.1) revision.now prefix.now))
+        (W.taken sink.old) (W.taken sink.new) result }
 {
     match archive(alloc, repo, revision, prefix, sink) {
         Ok(()) => Ok(()),

@@ -2,8 +2,8 @@
 
 ghost use Rattle.std.specs.Prelude.{◌≡◌};
 ghost use Rattle.gx_batch.specs.Formats.{format_of};
-ghost use Rattle.gx_cli.specs.Batching.{AnswersAll, AnswersFormatted, AnswersRevisions, AnswersStored, Batches, ReadsFormat, ReadsParts};
-ghost use Rattle.gx_cli.specs.Serving.{ending_of};
+ghost use Rattle.gx_cli.specs.Batching.{AnswersAll, AnswersFormatted, AnswersRevisions, AnswersStored, Batches, ReadsParts};
+ghost use Rattle.gx_cli.specs.Serving.{ending_of, format_parts};
 
 use crate::commanding::Commands;
 use crate::opening::{StoreBytes, open};
@@ -45,7 +45,7 @@ pub(crate) fn batch_stored<N: Namer + Drop, R: Source + Drop, W: Sink, A: Alloca
 
 /// The format of a text, or the usual one.
 fn read_format<A: Allocator + Copy>(alloc: A, text: Option<&str>) -> Result<Format<A>, CliFault>
-    ensures { ReadsFormat text.entry result }
+    ensures { ReadsParts (format_parts text.entry) result }
 {
     match text {
         Some(text) => read_text(alloc, text.as_bytes()),

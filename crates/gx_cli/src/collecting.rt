@@ -1,8 +1,10 @@
 //! Objects that leave a store since no ref reaches them. Source: git-gc(1) and git-prune(1).
 
-ghost use Rattle.gx_cli.specs.Collecting.{CollectsStored};
-ghost use Rattle.gx_cli.specs.CollectedParts.{CollectsBytes, CollectsOpened, CollectsTo};
+ghost use Rattle.std.specs.Prelude.{Ok};
 ghost use Rattle.gx_model.specs.Stores.StoreReading.{store_of};
+ghost use Rattle.gx_cli.specs.Serving.{CollectsInto};
+ghost use Rattle.gx_cli.specs.Opening.{bytes_of};
+ghost use Rattle.gx_cli.specs.Collecting.{CollectsStored};
 
 use crate::CliFault;
 use crate::importing::with_text;
@@ -41,7 +43,7 @@ pub(crate) fn collect_stored<N: Namer + Drop, A: Allocator + Copy>(
     store: StoreBytes<'_, A>,
     state: RandomState,
 ) -> Outcome<A>
-    ensures { CollectsTo N.name_of namer store.entry result }
+    ensures { CollectsInto (N.name_of namer) (store_of (N.name_of namer) (bytes_of store.entry)) result }
 {
     match collect(alloc, namer, store, state) {
         Ok((repo, _)) => with_text(alloc, &repo, 0, None),
@@ -56,7 +58,7 @@ fn collect<N: Namer + Drop, A: Allocator + Copy>(
     store: StoreBytes<'_, A>,
     state: RandomState,
 ) -> Result<(Repo<N, A>, Pruned), CliFault>
-    ensures { CollectsBytes N.name_of namer store.entry result }
+    ensures { CollectsStored N.name_of namer (store_of (N.name_of namer) (bytes_of store.entry)) result }
 {
     match open(alloc, namer, store, state) {
         Ok(repo) => collect_opened(repo),
@@ -68,7 +70,7 @@ fn collect<N: Namer + Drop, A: Allocator + Copy>(
 fn collect_opened<N: Namer + Drop, A: Allocator + Copy>(
     repo: Repo<N, A>,
 ) -> Result<(Repo<N, A>, Pruned), CliFault>
-    ensures { CollectsOpened N.name_of repo result }
+    ensures { CollectsStored N.name_of repo.0 (Ok repo.1) result }
 {
     pruned_stands();
     pruned_answers();

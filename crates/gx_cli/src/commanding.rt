@@ -1,14 +1,13 @@
 //! Commands that one store is asked, a line each. Source: git-cat-file(1), "--batch-command".
 
 ghost use Rattle.std.specs.Prelude.{◌≡◌};
-ghost use Rattle.gx_batch.specs.Answers.{reason};
-ghost use Rattle.gx_batch.specs.Batches.{Sent};
-ghost use Rattle.gx_batch.specs.Calls.{SendsAnswer};
 ghost use Rattle.gx_rev.specs.RevFaults.{fault_of};
-ghost use Rattle.gx_cli.specs.Batching.{SendsLog, SendsNames, SendsPrinted};
-ghost use Rattle.gx_cli.specs.Commanding.{command_answer, word_at};
+ghost use Rattle.gx_batch.specs.Answers.{reason};
+ghost use Rattle.gx_batch.specs.Calls.{SendsAnswer};
+ghost use Rattle.gx_cli.specs.Commanding.{command_answer, log, word_at};
 ghost use Rattle.gx_cli.specs.Stored.{texts_of};
 ghost use Rattle.gx_cli.specs.Words.{words_in};
+ghost use Rattle.gx_cli.specs.Batching.{SendsLog, SendsNames, SendsPrinted};
 
 mod asked;
 mod replies;

@@ -1,6 +1,11 @@
 //! Refs that leave a store. Source: git-update-ref(1), "delete".
 
-ghost use Rattle.gx_cli.specs.Parts.{DropsLines, DropsNames, DropsOpened, DropsStored};
+ghost use Rattle.gx_model.specs.Stores.StoreReading.{store_of};
+ghost use Rattle.gx_repo.specs.Dropping.{dropped};
+ghost use Rattle.gx_cli.specs.Opening.{bytes_of};
+ghost use Rattle.gx_cli.specs.Stored.{texts_of};
+ghost use Rattle.gx_cli.specs.Serving.{DropsFrom, DropsRefs, IsDropped};
+ghost use Rattle.gx_cli.specs.Parts.{DropsAll, with_lines};
 
 use crate::CliFault;
 use crate::importing::with_text;
@@ -30,7 +35,7 @@ pub(crate) fn drop_stored<N: Namer + Drop, R: Source + Drop, A: Allocator + Copy
     source: R,
     state: RandomState,
 ) -> Outcome<A>
-    ensures { DropsStored N.name_of namer store.entry stdin words.now (R.coming source) result }
+    ensures { DropsRefs (N.name_of namer) stdin (store_of (N.name_of namer) (bytes_of store.entry)) (texts_of words.now) (R.coming source) result }
 {
     match open(alloc, namer, store, state) {
         Ok(mut repo) => drop_opened(alloc, &mut repo, words, stdin, source),
@@ -46,7 +51,7 @@ fn drop_opened<N: Namer, R: Source + Drop, A: Allocator + Copy>(
     stdin: bool,
     source: R,
 ) -> Outcome<A>
-    ensures { DropsOpened N.name_of repo.old stdin words.now (R.coming source) result }
+    ensures { DropsFrom (N.name_of repo.old.0) stdin repo.old.1 (texts_of words.now) (R.coming source) result }
 {
     if stdin {
         let lines = match lines_from(alloc, source) {
@@ -66,7 +71,7 @@ fn drop_lines<'a, N: Namer, A: Allocator + Copy>(
     words: &[&'a str],
     lines: &'a [Vec<u8, A>],
 ) -> Outcome<A>
-    ensures { DropsLines N.name_of repo.old words.now lines.now result }
+    ensures { IsDropped (N.name_of repo.old.0) repo.old.1 (dropped (with_lines words.now lines.now) repo.old.1.refs) result }
 {
     match drop_names(alloc, repo, words, lines) {
         Ok(()) => {
@@ -84,7 +89,7 @@ fn drop_names<'a, N: Namer, A: Allocator + Copy>(
     words: &[&'a str],
     lines: &'a [Vec<u8, A>],
 ) -> Result<(), CliFault>
-    ensures { DropsNames repo.old repo.new words.now lines.now result }
+    ensures { DropsAll repo.old repo.new (with_lines words.now lines.now) result }
 {
     let mut names = texts_of(alloc, words)?;
     add_lines(&mut names, lines)?;

@@ -1,9 +1,8 @@
 //! The export of a store. Source: git-fast-export(1).
 
-ghost use Rattle.std.specs.Prelude.{◌≡◌};
+ghost use Rattle.gx_cli.specs.Opening.{bytes_of};
 ghost use Rattle.gx_cli.specs.Forms.{ExportsAs};
-ghost use Rattle.gx_cli.specs.Parts.{SendsStored};
-ghost use Rattle.gx_cli.specs.Serving.{SendsExport};
+ghost use Rattle.gx_cli.specs.Serving.{ExportsStore, SendsExport};
 
 use crate::opening::{StoreBytes, open};
 use crate::serving::{Outcome, outcome_of, refused};
@@ -26,7 +25,7 @@ pub(crate) fn export_stored<N: Namer + Drop, W: Sink, A: Allocator + Copy>(
     sink: &mut W,
     state: RandomState,
 ) -> Outcome<A>
-    ensures { SendsStored N.name_of W.taken namer form store.entry sink.old sink.new result }
+    ensures { ExportsStore (N.name_of namer) form (bytes_of store.entry) (W.taken sink.old) (W.taken sink.new) result }
 {
     match open(alloc, namer, store, state) {
         Ok(repo) => outcome_of(export_opened(alloc, &repo, form, sink)),

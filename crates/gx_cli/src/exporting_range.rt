@@ -1,7 +1,9 @@
 //! The export of what range words give. Source: git-fast-export(1), and gitrevisions(7), "Specifying Ranges".
 
 ghost use Rattle.std.specs.Prelude.{◌≡◌, []};
-ghost use Rattle.gx_cli.specs.Parts.{ReadsRangesInto, SendsRangeOf, SendsWords};
+ghost use Rattle.gx_cli.specs.Forms.{SendsRange};
+ghost use Rattle.gx_cli.specs.Stored.{texts_of};
+ghost use Rattle.gx_cli.specs.Parts.{ReadsRangesInto, SendsRangeOf};
 
 use crate::CliFault;
 use crate::log::read_into;
@@ -47,7 +49,7 @@ fn export_words<N: Namer, W: Sink, A: Allocator + Copy>(
     words: &[&str],
     sink: &mut W,
 ) -> Result<(), CliFault>
-    ensures { SendsWords N.name_of W.taken repo.now done words.now sink.old sink.new result }
+    ensures { SendsRange (N.name_of repo.now.0) done repo.now.1 (texts_of words.now) (W.taken sink.old) (W.taken sink.new) result }
 {
     let mut ranges = Vec::new(alloc);
     read_words(alloc, words, &mut ranges)?;

@@ -1,10 +1,10 @@
 //! The commands that make a store's next text. Source: git-init(1) and git-fast-import(1).
 
+ghost use Rattle.std.specs.Prelude.{Ok};
 ghost use Rattle.gx_import.specs.Exported.{nothing};
-ghost use Rattle.gx_cli.specs.Again.{IntoAgain};
+ghost use Rattle.gx_cli.specs.Again.{ImportsAgain, IntoAgain};
 ghost use Rattle.gx_cli.specs.Opening.{bytes_of};
-ghost use Rattle.gx_cli.specs.Parts.{ImportsTo, ImportsToAgain, ImportsToStored};
-ghost use Rattle.gx_cli.specs.Serving.{EndsWithText, ImportsInto, IsLeft, IsWritten};
+ghost use Rattle.gx_cli.specs.Serving.{EndsWithText, ImportsInto, ImportsIntoStored, IsLeft, IsWritten};
 ghost use Rattle.gx_cli.specs.declared.fault.CliFault.TheVariants.{Import};
 
 use crate::CliFault;
@@ -63,7 +63,7 @@ pub(crate) fn import_stored<N: Namer + Drop, R: Source + Drop, W: Sink, A: Alloc
     features: Features,
     state: RandomState,
 ) -> (Outcome<A>, Option<Report>)
-    ensures imported { ImportsToStored N.name_of W.taken namer features store.entry (R.coming source) sink.old sink.new result }
+    ensures imported { ImportsInto (N.name_of namer) features (bytes_of store.entry) (R.coming source) (W.taken sink.old) (W.taken sink.new) result }
     ensures again { IntoAgain (N.name_of namer) features (bytes_of store.entry) (R.coming source) result.0 }
 {
     match open(alloc, namer, store, state) {
@@ -80,8 +80,8 @@ fn import_opened<N: Namer, R: Source + Drop, W: Sink, A: Allocator + Copy>(
     sink: &mut W,
     features: Features,
 ) -> (Outcome<A>, Option<Report>)
-    ensures into { ImportsTo N.name_of W.taken repo.old features (R.coming source) sink.old sink.new result }
-    ensures again { ImportsToAgain N.name_of features repo.old (R.coming source) result.0 }
+    ensures into { ImportsIntoStored (N.name_of repo.old.0) features (Ok repo.old.1) (R.coming source) (W.taken sink.old) (W.taken sink.new) result }
+    ensures again { ImportsAgain (N.name_of repo.old.0) features (Ok repo.old.1) (R.coming source) result.0 }
 {
     forms_are_imported();
     match import_asking(alloc, repo, source, sink, features) {

@@ -1,7 +1,11 @@
 //! The commits that range words list, each in its format. Source: git-log(1) and git-rev-list(1).
 
 ghost use Rattle.std.specs.Prelude.{◌≡◌, []};
-ghost use Rattle.gx_cli.specs.Parts.{Logs, LogsOpened, LogsStored, LogsWords, ReadsRangesInto};
+ghost use Rattle.gx_model.specs.Records.HistoryOf.{history_of};
+ghost use Rattle.gx_cli.specs.Stored.{texts_of};
+ghost use Rattle.gx_cli.specs.Logs.{LogsFrom, log_text};
+ghost use Rattle.gx_cli.specs.Answers.{Prints};
+ghost use Rattle.gx_cli.specs.Parts.{LogsStored, LogsWords, ReadsRangesInto};
 
 mod commits;
 mod formats;
@@ -54,7 +58,8 @@ fn log_opened<N: Namer, R: Source + Drop, W: Sink, A: Allocator + Copy>(
     source: R,
     sink: &mut W,
 ) -> Result<(), CliFault>
-    ensures { LogsOpened N.name_of W.taken repo.now options words.now (R.coming source) sink.old sink.new result }
+    ensures { LogsFrom (N.name_of repo.now.0) options options.stdin repo.now.1 (texts_of words.now) (R.coming source)
+        (W.taken sink.old) (W.taken sink.new) result }
 {
     if options.stdin {
         let lines = lines_from(alloc, source)?;
@@ -93,7 +98,7 @@ pub(crate) fn log<N: Namer, A: Allocator + Copy, W: Sink>(
     words: &[&[u8]],
     sink: &mut W,
 ) -> Result<(), CliFault>
-    ensures { Logs N.name_of W.taken repo.now options words.now sink.old sink.new result }
+    ensures { Prints (log_text (N.name_of repo.now.0) options (history_of repo.now.1) (texts_of words.now)) (W.taken sink.old) (W.taken sink.new) result }
 {
     let mut ranges = Vec::new(alloc);
     read_into(alloc, words, &mut ranges)?;

@@ -1,11 +1,20 @@
 //! The entries of a revision's tree, or all of its files. Source: git-ls-tree(1).
 
+ghost use Rattle.std.specs.List.{flat_map};
 ghost use Rattle.std.specs.Prelude.{◌≡◌, IfOk, OnOk};
+ghost use Rattle.gx_model.specs.Records.HistoryOf.{history_of};
+ghost use Rattle.gx_model.specs.Faults.{Gives};
 ghost use Rattle.gx_model.specs.declared.objects.Kind.TheVariants as kinds;
 ghost use Rattle.gx_model.specs.Objects.{is_dir};
-ghost use Rattle.gx_rev.specs.Objects.{IsHeldAs};
-ghost use Rattle.gx_cli.specs.Parts.{GivesTree, ListsFiles, ListsWord, PrintsFile};
-ghost use Rattle.gx_cli.specs.WalkedFiles.{HasPathsBehind, IsEntryBehind, IsPathText, PrintsAt, PrintsBelow, PrintsEntry};
+ghost use Rattle.gx_object.specs.Entries.{shown};
+ghost use Rattle.gx_rev.specs.RevFaults.{fault_of};
+ghost use Rattle.gx_rev.specs.Objects.{IsHeldAs, files_at};
+ghost use Rattle.gx_cli.specs.Listings.{entry_line};
+ghost use Rattle.gx_cli.specs.Answers.{Prints};
+ghost use Rattle.gx_cli.specs.Stored.{file_line, files_of_word, list_text};
+ghost use Rattle.gx_cli.specs.FileLines.{path_line};
+ghost use Rattle.gx_cli.specs.Sending.{PrintsText};
+ghost use Rattle.gx_cli.specs.WalkedFiles.{HasPathsBehind, IsPathText, IsWithin, PrintsBelow, PrintsEntry};
 
 use crate::CliFault;
 use crate::listing::put_file;
@@ -30,7 +39,7 @@ pub(crate) fn list<N: Namer, A: Allocator + Copy, W: Sink>(
     word: &[u8],
     sink: &mut W,
 ) -> Result<(), CliFault>
-    ensures { ListsWord N.name_of W.taken repo.now recursive word.now sink.old sink.new result }
+    ensures { Prints (list_text (N.name_of repo.now.0) recursive (history_of repo.now.1) word.now) (W.taken sink.old) (W.taken sink.new) result }
 {
     match tree_of_word(alloc, repo, word) {
         Ok(tree) => {
@@ -50,7 +59,7 @@ fn tree_of_word<N: Namer, A: Allocator + Copy>(
     repo: &Repo<N, A>,
     word: &[u8],
 ) -> Result<Name, RevFault>
-    ensures files { GivesTree N.name_of repo.now word.now result }
+    ensures files { Gives fault_of (files_at repo.now.1) result (files_of_word (N.name_of repo.now.0) (history_of repo.now.1) word.now) }
     ensures held { IfOk result (IsHeldAs kinds.Tree repo.now.1) }
 {
     let revision = Revision::read(alloc, word)?;
@@ -65,7 +74,7 @@ fn print_files<N: Namer, A: Allocator + Copy, W: Sink>(
     sink: &mut W,
 ) -> Result<(), CliFault>
     requires { IsHeldAs kinds.Tree repo.now.1 tree.now }
-    ensures { ListsFiles N.name_of W.taken repo.now tree.now sink.old sink.new result }
+    ensures { PrintsText (flat_map (file_line (N.name_of repo.now.0)) (files_at repo.now.1 tree.now)) (W.taken sink.old) (W.taken sink.new) result }
 {
     repo.sound();
     let mut path = Vec::new(alloc);
@@ -105,7 +114,7 @@ fn print_entry<N: Namer, A: Allocator + Copy, W: Sink>(
     line: &mut Vec<u8, A>,
     sink: &mut W,
 ) -> Result<(), CliFault>
-    requires { IsEntryBehind N.name_of repo.now path.old.items entry.now }
+    requires { IsWithin (N.name_of repo.now.0) repo.now.1 path.old.items (shown entry.now) }
     ensures lines { PrintsEntry N.name_of W.taken repo.now path.old.items entry.now sink.old
         sink.new result }
     ensures path { OnOk result (path.new.items ≡ path.old.items) }
@@ -139,7 +148,7 @@ fn print_at<A: Allocator + Copy, W: Sink>(
     sink: &mut W,
 ) -> Result<(), CliFault>
     requires { IsPathText path.now }
-    ensures { PrintsAt W.taken path.now mode name.now sink.old sink.new result }
+    ensures { PrintsText (entry_line (record { mode = mode; component = path.now; name = name.now.bytes })) (W.taken sink.old) (W.taken sink.new) result }
 {
     match TreePath::read(alloc, path) {
         Ok(path) => print_file(line, &path, mode, name, sink),
@@ -156,7 +165,7 @@ fn print_file<A: Allocator + Copy, W: Sink>(
     name: &Name,
     sink: &mut W,
 ) -> Result<(), CliFault>
-    ensures { PrintsFile W.taken path.now mode name.now sink.old sink.new result }
+    ensures { PrintsText (path_line path.now mode name.now) (W.taken sink.old) (W.taken sink.new) result }
 {
     line.clear();
     match put_file(line, path, mode, name) {

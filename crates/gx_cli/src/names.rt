@@ -1,9 +1,15 @@
 //! The names of what revisions give, one a line. Source: git-rev-parse(1).
 
-ghost use Rattle.std.specs.Prelude.{◌≡◌, [], Ok, OnOk};
-ghost use Rattle.std.specs.List.{flat_map};
+ghost use Rattle.std.specs.Prelude.{◌≡◌, Ok, OnOk, []};
+ghost use Rattle.std.specs.List.{AllByRecursion, flat_map};
+ghost use Rattle.gx_model.specs.Records.HistoryOf.{history_of};
+ghost use Rattle.gx_model.specs.Revisions.{revision_of};
+ghost use Rattle.gx_model.specs.Revisions.Ranges.{each_word};
+ghost use Rattle.gx_rev.specs.Answers.{IsNamed};
+ghost use Rattle.gx_cli.specs.Stored.{all_words, names_text, texts_of};
+ghost use Rattle.gx_cli.specs.Words.{GivesWords};
 ghost use Rattle.gx_cli.specs.Answers.{Prints, shown_line};
-ghost use Rattle.gx_cli.specs.Parts.{AreAllNamed, EvaluatesInto, NamesStore, PrintsNames, ReadsInto};
+ghost use Rattle.gx_cli.specs.Parts.{EvaluatesInto, NamesStore};
 
 use crate::CliFault;
 use crate::opening::StoreBytes;
@@ -49,7 +55,7 @@ pub(crate) fn print_names<N: Namer, A: Allocator + Copy, W: Sink>(
     words: &[&[u8]],
     sink: &mut W,
 ) -> Result<(), CliFault>
-    ensures { PrintsNames N.name_of W.taken repo.now words.now sink.old sink.new result }
+    ensures { Prints (names_text (N.name_of repo.now.0) (history_of repo.now.1) (texts_of words.now)) (W.taken sink.old) (W.taken sink.new) result }
 {
     let mut revisions = Vec::new(alloc);
     read_into(alloc, words, &mut revisions)?;
@@ -65,7 +71,7 @@ fn read_into<A: Allocator + Copy>(
     revisions: &mut Vec<Revision<A>, A>,
 ) -> Result<(), CliFault>
     requires empty { revisions.old.items ≡ [] }
-    ensures { ReadsInto words.now revisions.new.items result }
+    ensures { GivesWords (λ done. revisions.new.items) result (all_words (each_word revision_of (texts_of words.now))) }
 {
     for (place, word) in words.iter().enumerate() {
         match Revision::read(alloc, word) {
@@ -84,7 +90,7 @@ fn eval_into<N: Namer, A: Allocator + Copy>(
 ) -> Result<(), CliFault>
     requires empty { shown.old.items ≡ [] }
     ensures shown { EvaluatesInto N.name_of repo.now revisions.now shown.new.items result }
-    ensures named { OnOk result (AreAllNamed N.name_of repo.now shown.new.items) }
+    ensures named { OnOk result (AllByRecursion (IsNamed (N.name_of repo.now.0) repo.now.1) shown.new.items) }
 {
     for (place, revision) in revisions.iter().enumerate() {
         match revision.eval(repo) {

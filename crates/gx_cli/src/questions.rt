@@ -1,6 +1,8 @@
 //! What commands ask of a store, and what is printed for it.
 
-ghost use Rattle.gx_cli.specs.Parts.{AsksStore, PrintsOf};
+ghost use Rattle.gx_cli.specs.Serving.{printed_by};
+ghost use Rattle.gx_cli.specs.Answers.{Prints};
+ghost use Rattle.gx_cli.specs.Parts.{AsksStore};
 
 use crate::archiving::print_archive;
 use crate::log::log;
@@ -58,7 +60,7 @@ pub(crate) fn print_answer<N: Namer, W: Sink, A: Allocator + Copy>(
     question: Question<'_>,
     sink: &mut W,
 ) -> Result<(), CliFault>
-    ensures { PrintsOf N.name_of W.taken question.entry repo.now sink.old sink.new result }
+    ensures { Prints (printed_by (N.name_of repo.now.0) question.entry repo.now.1) (W.taken sink.old) (W.taken sink.new) result }
 {
     match question {
         Question::Show(revision) => show(alloc, repo, revision, sink),

@@ -1,7 +1,8 @@
 //! An import that tells which refs it changed. Source: git-fast-import(1), and githooks(5), "post-receive".
 
+ghost use Rattle.std.specs.Prelude.{Ok};
 ghost use Rattle.gx_cli.specs.Explained.{ExplainsOpened, ExplainsStore, KeepsTold};
-ghost use Rattle.gx_cli.specs.Reporting.{Reports, ReportsOpened, ReportsStore};
+ghost use Rattle.gx_cli.specs.Reporting.{Reports, ReportsStore, ReportsStored};
 
 use crate::CliFault;
 use crate::opening::{StoreBytes, open};
@@ -52,7 +53,7 @@ fn report_opened<N: Namer + Drop, R: Source + Drop, W: Sink, A: Allocator + Copy
     told: &mut Explanation<A>,
 ) -> (Option<(Repo<N, A>, Vec<u8, A>)>, Result<Report, CliFault>)
     ensures explained { ExplainsOpened N.name_of repo features (R.coming source) result.1 told.new }
-    ensures reported { ReportsOpened N.name_of W.taken repo features (R.coming source) sink.old sink.new result }
+    ensures reported { ReportsStored N.name_of repo.0 features (Ok repo.1) (R.coming source) (W.taken sink.old) (W.taken sink.new) result }
 {
     match repo.copy_refs() {
         Ok(before) => {

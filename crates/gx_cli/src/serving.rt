@@ -1,9 +1,11 @@
 //! What a command does with the store's bytes, its input and its output.
 
+ghost use Rattle.std.specs.Prelude.{◌≡◌, Result, ℕ};
+ghost use Rattle.gx_blobs.specs.Naming.{NamesBlobs};
+ghost use Rattle.gx_blobs.specs.declared.blob_names.BlobsFault.{BlobsFault};
+ghost use Rattle.gx_cli.specs.Opening.{bytes_of};
 ghost use Rattle.gx_cli.specs.Again.{ServesExported};
-ghost use Rattle.gx_cli.specs.Parts.{AnswersBlobs, ServesAgain, ServesStored};
-ghost use Rattle.std.specs.Prelude.{◌≡◌};
-ghost use Rattle.gx_cli.specs.Serving.{IsOutcome, IsRefused, Serves, features_of};
+ghost use Rattle.gx_cli.specs.Serving.{IsOutcome, IsRefused, Serves, blobs_answer, features_of};
 
 use crate::adapting::adapt_stream;
 use crate::batching::batch_stored;
@@ -94,8 +96,8 @@ fn serve_bytes<N: Namer + Drop, R: Source + Drop, W: Sink, A: Allocator + Copy>(
     sink: &mut W,
     state: RandomState,
 ) -> Outcome<A>
-    ensures served { ServesStored N.name_of W.taken namer line.now store.entry (R.coming source) sink.old sink.new result }
-    ensures again { ServesAgain N.name_of namer line.now store.entry (R.coming source) result }
+    ensures served { Serves (N.name_of namer) line.now (bytes_of store.entry) (R.coming source) (W.taken sink.old) (W.taken sink.new) result }
+    ensures again { ServesExported (N.name_of namer) line.now (bytes_of store.entry) (R.coming source) result }
 {
     match line {
         Line::Blobs => outcome_of(blobs_alone(alloc, namer, source, sink, state)),
@@ -209,7 +211,7 @@ fn blobs_alone<N: Namer + Drop, R: Source + Drop, W: Sink, A: Allocator + Copy>(
     sink: &mut W,
     state: RandomState,
 ) -> Result<u64, CliFault>
-    ensures { AnswersBlobs N.name_of W.taken namer (R.coming source) sink.old sink.new result }
+    ensures { (answer : Result ℕ BlobsFault) × NamesBlobs N.name_of W.taken namer (R.coming source) sink.old sink.new answer × (result ≡ blobs_answer answer) }
 {
     match blobs(alloc, namer, source, sink, state) {
         Ok(count) => Ok(count),

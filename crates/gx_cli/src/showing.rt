@@ -1,10 +1,16 @@
 //! What a revision shows, printed. Source: git-cat-file(1) and git-ls-tree(1).
 
-ghost use Rattle.std.specs.Prelude.{◌≡◌, IfOk};
+ghost use Rattle.std.specs.Prelude.{[], IfOk, Ok};
+ghost use Rattle.gx_model.specs.Revisions.{revision_of};
+ghost use Rattle.gx_model.specs.Records.HistoryOf.{history_of};
+ghost use Rattle.gx_model.specs.Revisions.Denotation.{denoted};
+ghost use Rattle.gx_model.specs.Faults.{Gives, and_then};
 ghost use Rattle.gx_model.specs.declared.objects.Kind.TheVariants as kinds;
-ghost use Rattle.gx_rev.specs.Answers.{IsNamed};
-ghost use Rattle.gx_rev.specs.Objects.{IsHeldAs};
-ghost use Rattle.gx_cli.specs.Parts.{Evaluates, PrintsShown, ShowsEntries, ShowsWord};
+ghost use Rattle.gx_rev.specs.RevFaults.{fault_of};
+ghost use Rattle.gx_rev.specs.Answers.{IsNamed, shown_by};
+ghost use Rattle.gx_rev.specs.Objects.{IsHeldAs, files_at};
+ghost use Rattle.gx_cli.specs.Listings.{shown_text, text_of_word, tree_lines};
+ghost use Rattle.gx_cli.specs.Trying.{Shows};
 
 use crate::CliFault;
 use crate::listing::listing;
@@ -25,7 +31,7 @@ pub(crate) fn show<N: Namer, A: Allocator + Copy, W: Sink>(
     word: &[u8],
     sink: &mut W,
 ) -> Result<(), CliFault>
-    ensures { ShowsWord N.name_of W.taken repo.now word.now sink.old sink.new result }
+    ensures { Shows [] (text_of_word (N.name_of repo.now.0) (history_of repo.now.1) word.now) (W.taken sink.old) (W.taken sink.new) result }
 {
     match eval_word(alloc, repo, word) {
         Ok(shown) => print_shown(alloc, repo, shown, sink),
@@ -40,7 +46,7 @@ fn eval_word<N: Namer, A: Allocator + Copy>(
     repo: &Repo<N, A>,
     word: &[u8],
 ) -> Result<Shown, RevFault>
-    ensures shown { Evaluates N.name_of repo.now word.now result }
+    ensures shown { Gives fault_of (shown_by repo.now.1) result (and_then (revision_of word.now) (denoted (N.name_of repo.now.0) (history_of repo.now.1))) }
     ensures named { IfOk result (IsNamed (N.name_of repo.now.0) repo.now.1) }
 {
     let revision = Revision::read(alloc, word)?;
@@ -55,7 +61,7 @@ fn print_shown<N: Namer, A: Allocator + Copy, W: Sink>(
     sink: &mut W,
 ) -> Result<(), CliFault>
     requires { IsNamed (N.name_of repo.now.0) repo.now.1 shown }
-    ensures { PrintsShown N.name_of W.taken repo.now shown sink.old sink.new result }
+    ensures { Shows [] (Ok (shown_text (N.name_of repo.now.0) (shown_by repo.now.1 shown))) (W.taken sink.old) (W.taken sink.new) result }
 {
     repo.sound();
     match shown {
@@ -75,7 +81,7 @@ pub(crate) fn print_entries<N: Namer, A: Allocator + Copy, W: Sink>(
     sink: &mut W,
 ) -> Result<(), CliFault>
     requires { IsHeldAs kinds.Tree repo.now.1 tree.now }
-    ensures { ShowsEntries N.name_of W.taken repo.now tree.now sink.old sink.new result }
+    ensures { Shows [] (Ok (tree_lines (N.name_of repo.now.0) (files_at repo.now.1 tree.now))) (W.taken sink.old) (W.taken sink.new) result }
 {
     repo.sound();
     match listing(alloc, entries_of(repo, tree)) {

@@ -1,12 +1,12 @@
 //! An import whose store's next text goes out to a sink. Source: git-fast-import(1).
 
 ghost use Rattle.std.specs.Prelude.{◌≡◌, IfErr, IfOk, Ok};
+ghost use Rattle.gx_model.specs.Stores.StoreReading.{store_of};
 ghost use Rattle.gx_model.specs.declared.store_versions.Version.TheVariants.{Two};
 ghost use Rattle.gx_model.specs.Stores.StoreText.{store_text};
 ghost use Rattle.gx_cli.specs.Explained.{ExplainsOpened, ExplainsStore};
-ghost use Rattle.gx_cli.specs.Parts.{IsReadBack, LeavesNext};
 ghost use Rattle.gx_cli.specs.Sending.{PrintsText};
-ghost use Rattle.gx_cli.specs.Storing.{ImportsStore, ImportsStoreAgain, ImportsStoredAgain, next_after};
+ghost use Rattle.gx_cli.specs.Storing.{ImportsStore, ImportsStored, ImportsStoredAgain, next_after};
 ghost use Rattle.gx_cli.specs.declared.fault.CliFault.TheVariants.{WriteFailed};
 
 use crate::CliFault;
@@ -41,7 +41,7 @@ pub fn import_store<N: Namer + Drop, R: Source + Drop, W: Sink, A: Allocator + C
 ) -> (Option<Repo<N, A>>, Result<Report, CliFault>)
     ensures imported { ImportsStore N.name_of namer features store.items (R.coming source) (W.taken sink.old) (W.taken sink.new) result }
     ensures explained { ExplainsStore N.name_of namer features store.items (R.coming source) result.1 told.new }
-    ensures again { ImportsStoreAgain N.name_of namer features store.items (R.coming source) result }
+    ensures again { ImportsStoredAgain N.name_of namer features (store_of (N.name_of namer) store.items) (R.coming source) result }
 {
     match open(alloc, namer, StoreBytes::Owned(store), state) {
         Ok(repo) => import_opened(alloc, repo, source, sink, features, told),
@@ -61,7 +61,7 @@ pub(crate) fn import_opened<N: Namer + Drop, R: Source + Drop, W: Sink, A: Alloc
     features: Features,
     told: &mut Explanation<A>,
 ) -> (Option<Repo<N, A>>, Result<Report, CliFault>)
-    ensures imported { LeavesNext N.name_of W.taken repo features (R.coming source) sink.old sink.new result }
+    ensures imported { ImportsStored N.name_of repo.0 features (Ok repo.1) (R.coming source) (W.taken sink.old) (W.taken sink.new) result }
     ensures explained { ExplainsOpened N.name_of repo features (R.coming source) result.1 told.new }
     ensures again { ImportsStoredAgain N.name_of repo.0 features (Ok repo.1) (R.coming source) result }
 {
@@ -92,7 +92,7 @@ pub fn send_store<N: Namer, A: Allocator + Copy, W: Sink>(
     sink: &mut W,
 ) -> Result<(), CliFault>
     ensures text { PrintsText (store_text Two repo.now.1) (W.taken sink.old) (W.taken sink.new) result }
-    ensures read { IfOk result (λ _. IsReadBack N.name_of repo.now) }
+    ensures read { IfOk result (λ _. store_of (N.name_of repo.now.0) (store_text Two repo.now.1) ≡ Ok repo.now.1) }
     ensures fault { IfErr result (λ fault. fault ≡ WriteFailed) }
 {
     match write_to(repo, sink) {

@@ -1,9 +1,10 @@
 //! A stream, imported into an empty store, and what a revision shows there.
 
 ghost use Rattle.std.specs.Prelude.{◌≡◌, IfOk};
-ghost use Rattle.gx_cli.specs.Explained.{ExplainsAlone, ExplainsTry};
-ghost use Rattle.gx_cli.specs.Parts.{ImportsFirst, TriesWord};
-ghost use Rattle.gx_cli.specs.Trying.{LooksIn};
+ghost use Rattle.gx_import.specs.Exported.{nothing};
+ghost use Rattle.gx_import.specs.Explaining.{ExplainsAnswer};
+ghost use Rattle.gx_cli.specs.Explained.{ExplainsTry};
+ghost use Rattle.gx_cli.specs.Trying.{ImportsAlone, LooksIn, Tries};
 
 use crate::CliFault;
 use crate::showing::show;
@@ -34,7 +35,7 @@ pub fn try_revision<N: Namer + Drop, A: Allocator + Copy, R: Source + Drop, W: S
     told: &mut Explanation<A>,
 ) -> Result<(), CliFault>
     ensures explained { ExplainsTry (N.name_of namer) features (R.coming source) result told.new }
-    ensures tried { TriesWord N.name_of W.taken namer features (R.coming source) word.now sink.old sink.new result }
+    ensures tried { Tries (N.name_of namer) features (R.coming source) word.now (W.taken sink.old) (W.taken sink.new) result }
 {
     match import_alone(alloc, namer, source, sink, features, state, told) {
         Ok(repo) => show(alloc, &repo, word, sink),
@@ -55,9 +56,9 @@ pub fn import_alone<N: Namer + Drop, A: Allocator + Copy, R: Source + Drop, W: S
     state: RandomState,
     told: &mut Explanation<A>,
 ) -> Result<Repo<N, A>, ImportFault>
-    ensures explained { ExplainsAlone (N.name_of namer) features (R.coming source) result told.new }
+    ensures explained { ExplainsAnswer (N.name_of namer) features nothing (R.coming source) result told.new }
     ensures namer { IfOk result (λ repo. repo.0 ≡ namer) }
-    ensures replayed { ImportsFirst N.name_of W.taken namer features (R.coming source) sink.old sink.new result }
+    ensures replayed { ImportsAlone (N.name_of namer) features (R.coming source) (W.taken sink.old) (W.taken sink.new) result }
 {
     let mut repo = Repo::new(alloc, namer, state);
     match import_explained(alloc, &mut repo, source, sink, features, told) {

@@ -1,7 +1,6 @@
 //! Replies to lines: a text behind its own line, or why there is none.
 
 ghost use Rattle.std.specs.Prelude.{◌≡◌, ◌∷◌, ◌++◌, [], IfErr, OnOk};
-ghost use Rattle.std.specs.Fmt.{decimal};
 ghost use Rattle.gx_model.specs.Objects.{line};
 ghost use Rattle.gx_batch.specs.Batches.{Sent};
 ghost use Rattle.gx_batch.specs.declared.fault.BatchFault.TheVariants.{WriteFailed};
@@ -24,7 +23,8 @@ pub(crate) fn reply<W: Sink, A: Allocator>(
 ) -> Result<(), BatchFault>
     ensures { Sent (printed_answer command.now text.now) (W.taken sink.old) (W.taken sink.new) result }
 {
-    make_line(command, text.len(), buffer)?;
+    let mut digits = Buffer::new();
+    make_line(command, digits.format(text.len()).as_bytes(), buffer)?;
     if text.len() < SMALL {
         buffer.extend_from_slice(text)?;
         buffer.push(b'\n')?;
@@ -32,23 +32,6 @@ pub(crate) fn reply<W: Sink, A: Allocator>(
     } else {
         put_parts(sink, buffer, text)
     }
-}
-
-/// Makes the line of a command and the length of its text.
-fn make_line<A: Allocator>(
-    command: &[u8],
-    length: usize,
-    buffer: &mut Vec<u8, A>,
-) -> Result<(), AllocError>
-    ensures { OnOk result (buffer.new.items ≡ line command.now (decimal length)) }
-{
-    let mut digits = Buffer::new();
-    buffer.clear();
-    buffer.extend_from_slice(command)?;
-    buffer.push(b' ')?;
-    buffer.extend_from_slice(digits.format(length).as_bytes())?;
-    buffer.push(b'\n')?;
-    Ok(())
 }
 
 /// Sends a text, and behind it why it isn't answered otherwise.
@@ -60,12 +43,23 @@ pub(crate) fn refuse<W: Sink, A: Allocator>(
 ) -> Result<(), BatchFault>
     ensures { Sent (line text.now why.now) (W.taken sink.old) (W.taken sink.new) result }
 {
-    buffer.clear();
-    buffer.extend_from_slice(text)?;
-    buffer.push(b' ')?;
-    buffer.extend_from_slice(why)?;
-    buffer.push(b'\n')?;
+    make_line(text, why, buffer)?;
     put(sink, buffer)
+}
+
+/// Makes a line of two texts, with a space between them, in place of what the buffer has.
+fn make_line<A: Allocator>(
+    front: &[u8],
+    behind: &[u8],
+    buffer: &mut Vec<u8, A>,
+) -> Result<(), AllocError>
+    ensures { OnOk result (buffer.new.items ≡ line front.now behind.now) }
+{
+    buffer.clear();
+    buffer.extend_from_slice(front)?;
+    buffer.push(b' ')?;
+    buffer.extend_from_slice(behind)?;
+    Ok(buffer.push(b'\n')?)
 }
 
 /// Sends a line, a text and an LF, one after the other.

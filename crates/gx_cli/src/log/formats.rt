@@ -1,13 +1,14 @@
 //! What is printed of each commit. Source: git-log(1), "PRETTY FORMATS".
 
-ghost use Rattle.std.specs.Prelude.{◌≡◌, ◌≤◌, ◌-◌, ◌++◌, ◌∷◌, [], OnOk, codes, length, take};
+ghost use Rattle.std.specs.Prelude.{◌≡◌, ◌≤◌, ◌-◌, ◌++◌, ◌∷◌, OnOk, [], codes, length, map, take};
 ghost use Rattle.gx_model.specs.Objects.{hex};
-ghost use Rattle.gx_rev.specs.Objects.{IsHeldAs};
 ghost use Rattle.gx_model.specs.declared.objects.Kind.TheVariants as kinds;
-ghost use Rattle.gx_cli.specs.Identities.{email_in, name_in, seconds_in};
-ghost use Rattle.gx_cli.specs.Logs.{gap, head_text, named, parent_text};
+ghost use Rattle.gx_rev.specs.Objects.{IsHeldAs, commit_at};
+ghost use Rattle.gx_cli.specs.Sending.{PrintsText};
+ghost use Rattle.gx_cli.specs.Identities.{name_and_email};
+ghost use Rattle.gx_cli.specs.Logs.{both_dates, entries_text, gap, head_text, named, parent_text, told};
 ghost use Rattle.gx_cli.specs.Messages.{indented, subject, trimmed};
-ghost use Rattle.gx_cli.specs.Parts.{AreCommits, PrintsCommit, PrintsCommits, PrintsNext, PrintsOthers, entry_at, told_at};
+ghost use Rattle.gx_cli.specs.Parts.{AreCommits, PrintsOthers, entry_at};
 
 use super::identities::{email_in, name_in, seconds_in};
 use super::messages::{put_indented, put_subject, trimmed};
@@ -28,13 +29,13 @@ pub(super) fn print_commits<N: Namer, A: Allocator + Copy, W: Sink>(
     sink: &mut W,
 ) -> Result<(), CliFault>
     requires { AreCommits repo.now.1 names.now }
-    ensures { PrintsCommits N.name_of W.taken repo.now options names.now sink.old sink.new result }
+    ensures { PrintsText (entries_text (N.name_of repo.now.0) options (map (commit_at repo.now.1) names.now)) (W.taken sink.old) (W.taken sink.new) result }
 {
     let Some((first, others)) = names.split_first() else {
         return Ok(());
     };
     let mut text = Vec::new(alloc);
-    print_commit(repo, options, first, &mut text, sink)?;
+    print_commit(repo, options, b"", first, &mut text, sink)?;
     print_others(repo, options, others, &mut text, sink)
 }
 
@@ -50,24 +51,9 @@ fn print_others<N: Namer, A: Allocator + Copy, W: Sink>(
     ensures { PrintsOthers N.name_of W.taken repo.now options names.now sink.old sink.new result }
 {
     for name in names {
-        print_next(repo, options, name, text, sink)?;
+        print_commit(repo, options, gap(options.format), name, text, sink)?;
     }
     Ok(())
-}
-
-/// Prints what stands between two commits, and then a held commit.
-fn print_next<N: Namer, A: Allocator + Copy, W: Sink>(
-    repo: &Repo<N, A>,
-    options: LogOptions,
-    commit: &Name,
-    text: &mut Vec<u8, A>,
-    sink: &mut W,
-) -> Result<(), CliFault>
-    requires { IsHeldAs kinds.Commit repo.now.1 commit.now }
-    ensures { PrintsNext N.name_of W.taken repo.now options commit.now sink.old sink.new result }
-{
-    put_text(sink, gap(options.format))?;
-    print_commit(repo, options, commit, text, sink)
 }
 
 /// What stands between two commits.
@@ -84,19 +70,21 @@ fn gap(format: LogFormat) -> &'static [u8]
     }
 }
 
-/// Prints a held commit. Its text is made in place of the one before.
+/// Prints a text, and behind it a held commit, whose own text is made in place of the one before.
 fn print_commit<N: Namer, A: Allocator + Copy, W: Sink>(
     repo: &Repo<N, A>,
     options: LogOptions,
+    before: &[u8],
     commit: &Name,
     text: &mut Vec<u8, A>,
     sink: &mut W,
 ) -> Result<(), CliFault>
     requires { IsHeldAs kinds.Commit repo.now.1 commit.now }
-    ensures { PrintsCommit N.name_of W.taken repo.now options commit.now sink.old sink.new result }
+    ensures { PrintsText (before.now ++ entry_at N.name_of repo.now options commit.now) (W.taken sink.old) (W.taken sink.new) result }
 {
     text.clear();
     put_commit(text, repo, options, commit)?;
+    put_text(sink, before)?;
     put_text(sink, text.as_slice())
 }
 
@@ -124,7 +112,7 @@ fn put_told<N: Namer, A: Allocator + Copy>(
 ) -> Result<(), AllocError>
     requires held { IsHeldAs kinds.Commit repo.now.1 commit.now }
     requires empty { text.old.items ≡ [] }
-    ensures { OnOk result (text.new.items ≡ told_at N.name_of repo.now options commit.now) }
+    ensures { OnOk result (text.new.items ≡ told (N.name_of repo.now.0) options.format options.parents (commit_at repo.now.1 commit.now)) }
 {
     repo.sound();
     let view = view_of(repo, commit);
@@ -237,7 +225,7 @@ fn put_author<A: Allocator + Copy>(
     view: &CommitView<'_>,
     commit: &Name,
 ) -> Result<(), AllocError>
-    ensures { OnOk result (out.new.items ≡ out.old.items ++ (hex commit.now.bytes ++ 32 ∷ name_in view.now.text.author ++ codes " <" ++ email_in view.now.text.author ++ codes ">")) }
+    ensures { OnOk result (out.new.items ≡ out.old.items ++ (hex commit.now.bytes ++ 32 ∷ name_and_email view.now.text.author)) }
 {
     let author = view.author();
     out.extend_from_slice(commit.hex().as_slice())?;
@@ -254,7 +242,7 @@ fn put_dates<A: Allocator + Copy>(
     view: &CommitView<'_>,
     commit: &Name,
 ) -> Result<(), AllocError>
-    ensures { OnOk result (out.new.items ≡ out.old.items ++ (hex commit.now.bytes ++ 32 ∷ seconds_in view.now.text.author ++ 32 ∷ seconds_in view.now.text.committer)) }
+    ensures { OnOk result (out.new.items ≡ out.old.items ++ (hex commit.now.bytes ++ 32 ∷ both_dates view.now.text)) }
 {
     out.extend_from_slice(commit.hex().as_slice())?;
     out.push(b' ')?;

@@ -1,4 +1,4 @@
-use Rattle.std.proofs.Common.{Ok, Err, ap, subst, sym}
+use Rattle.std.proofs.Common.{Ok, Err, subst, sym}
 use Rattle.gx_model.specs.Records.HistoryOf.{history_of}
 use Rattle.gx_archive.specs.Archives.{archive_of}
 use Rattle.gx_cli.specs.Answers.{Prints}

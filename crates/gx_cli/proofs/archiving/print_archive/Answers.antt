@@ -1,4 +1,4 @@
-use Rattle.std.proofs.Common.{ap, subst, sym, ◌∙◌, Ok}
+use Rattle.std.proofs.Common.{ap, subst, sym}
 use Rattle.gx_model.specs.Faults.{and_then}
 use Rattle.gx_model.specs.Records.HistoryOf.{history_of}
 use Rattle.gx_model.specs.Revisions.{revision_of}

@@ -1,4 +1,4 @@
-use Rattle.std.proofs.Common.{◌≡◌, ◌∙◌, sym, ap, Bool, false, length}
+use Rattle.std.proofs.Common.{◌∙◌, sym, ap, Bool, false, length}
 use Rattle.std.specs.Prelude.{◌&&◌, ◌||◌, not, slice_index_or}
 use Rattle.gx_model.specs.Histories.Marks.{marks_of}
 use Rattle.gx_model.specs.Histories.Values.{Commit}

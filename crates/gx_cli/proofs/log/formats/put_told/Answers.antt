@@ -1,12 +1,11 @@
 use Rattle.std.proofs.Common.{◌≡◌, ◌++◌, ◌∷◌, ◌∙◌, OnOk, codes, sym, ap, subst}
 use Rattle.gx_model.specs.declared.objects.Kind.TheVariants as kinds
-use Rattle.gx_model.specs.Histories.Values.{commit_value}
 use Rattle.gx_model.specs.Objects.{hex}
-use Rattle.gx_model.specs.Records.{name_of, parts_of_commit}
+use Rattle.gx_model.specs.Records.{parts_of_commit}
 use Rattle.gx_model.proofs.HeldValues.{commit_text_held, kind_held}
 use Rattle.gx_rev.specs.Objects.{commit_at}
-use Rattle.gx_cli.specs.Identities.{email_in, name_in, seconds_in}
-use Rattle.gx_cli.specs.Logs.{head_text, named, told}
+use Rattle.gx_cli.specs.Identities.{name_and_email}
+use Rattle.gx_cli.specs.Logs.{both_dates, head_text, named, told}
 use Rattle.gx_cli.specs.Messages.{indented, subject, trimmed}
 use Rattle.gx_cli.proofs.CommitEntries.{head_and_message}
 use Rattle.gx_cli.proofs.ListedCommits.{commit_called}
@@ -79,7 +78,7 @@ returns-in-Author g c =
     let made = commit_at r c.args.commit.now in
     let e = commit_called name namer r c.sound.ensures c.args.commit.now.bytes c.requires.held in
     let v = c.view_of-view.ensures in
-    subst (λ t. OnOk c.put_author.result (c.put_author.new.out.items ≡ t)) ((λ i. c.requires.empty i ++ (hex (e i) ++ 32 ∷ name_in (v i).text.author ++ codes " <" ++ email_in (v i).text.author ++ codes ">")) ∙ ap (λ f. told name f o.parents made) (sym c.in-Author.is)) c.put_author.ensures
+    subst (λ t. OnOk c.put_author.result (c.put_author.new.out.items ≡ t)) ((λ i. c.requires.empty i ++ (hex (e i) ++ 32 ∷ name_and_email (v i).text.author)) ∙ ap (λ f. told name f o.parents made) (sym c.in-Author.is)) c.put_author.ensures
 
 pub returns-in-Dates : goal.returns-in-Dates
 returns-in-Dates g c =
@@ -90,4 +89,4 @@ returns-in-Dates g c =
     let made = commit_at r c.args.commit.now in
     let e = commit_called name namer r c.sound.ensures c.args.commit.now.bytes c.requires.held in
     let v = c.view_of-view.ensures in
-    subst (λ t. OnOk c.put_dates.result (c.put_dates.new.out.items ≡ t)) ((λ i. c.requires.empty i ++ (hex (e i) ++ 32 ∷ seconds_in (v i).text.author ++ 32 ∷ seconds_in (v i).text.committer)) ∙ ap (λ f. told name f o.parents made) (sym c.in-Dates.is)) c.put_dates.ensures
+    subst (λ t. OnOk c.put_dates.result (c.put_dates.new.out.items ≡ t)) ((λ i. c.requires.empty i ++ (hex (e i) ++ 32 ∷ both_dates (v i).text)) ∙ ap (λ f. told name f o.parents made) (sym c.in-Dates.is)) c.put_dates.ensures

@@ -1,0 +1,20 @@
+//! A library that any language can call: repositories in memory behind a handle, over the C calls of include/ginlarch.h.
+//! What a call answers is what the functions below it answer; only the handle's pointer is proved by hand.
+#![tactic(auto)]
+
+mod answer;
+mod asking;
+mod calls;
+mod growing;
+mod held;
+mod importing;
+mod keys;
+mod opened;
+mod reading;
+mod store;
+mod writing;
+
+pub use answer::{Answer, Why};
+pub use held::Held;
+pub use opened::Opened;
+pub use store::Store;

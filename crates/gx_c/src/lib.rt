@@ -5,10 +5,12 @@
 mod answer;
 mod asking;
 mod calls;
+mod fields;
 mod growing;
 mod held;
 mod importing;
 mod keys;
+mod listing;
 mod opened;
 mod reading;
 mod store;

@@ -1,2 +1,4 @@
 pub mod Handles
+pub mod Places
 pub mod Pointers
+pub mod Walks

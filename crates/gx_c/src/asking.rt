@@ -119,7 +119,8 @@ pub(crate) fn commits<N: Namer, A: Allocator + Copy>(
 
 /// The lines of these names.
 fn given_names<A: Allocator + Copy>(alloc: A, names: &[Name]) -> Answer<A>
-    ensures { AnswersText (Ok (flat_map (λ name. digits_line name.bytes) names.now)) result }
+    ensures text { AnswersText (Ok (flat_map (λ name. digits_line name.bytes) names.now)) result }
+    ensures number { result.number ≡ 0 }
 {
     match put_names(alloc, names) {
         Ok(bytes) => Answer::given(bytes, 0),

@@ -2,12 +2,12 @@
 
 ghost use Rattle.std.specs.Prelude.{◌≡◌};
 ghost use Rattle.gx_model.specs.Records.Sound.{IsSound};
-ghost use Rattle.gx_c.specs.Importing.{AnswersImport, features_of};
+ghost use Rattle.gx_c.specs.Importing.{AnswersImport, features_of, told_fault};
 
 use crate::answer::{Answer, Why};
 use crate::growing::Growing;
 use gx_import::import_asking;
-use gx_model::Features;
+use gx_model::{Fault, Features};
 use gx_object::Namer;
 use gx_repo::Repo;
 use gx_text::Bytes;
@@ -44,10 +44,20 @@ pub(crate) fn import<N: Namer, A: Allocator + Copy>(
             count: report.objects,
         },
         Err(fault) => Answer {
-            why: Why::Import(fault.kind),
+            why: Why::Import(told_fault(fault.kind)),
             bytes: lines.into_bytes(),
             number: fault.command,
             count: fault.checkpoints,
         },
+    }
+}
+
+/// The fault of an import whose sink is in memory: that one fails for want of it.
+fn told_fault(fault: Fault) -> Fault
+    ensures { result ≡ told_fault fault }
+{
+    match fault {
+        Fault::WriteFailed => Fault::OutOfMemory,
+        _ => fault,
     }
 }

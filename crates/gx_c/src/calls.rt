@@ -4,10 +4,9 @@ ghost use Rattle.std.specs.Prelude.{◌≡◌};
 ghost use Rattle.gx_c.specs.Calls.{Calls, Closes, IsStore, Opens};
 ghost use Rattle.gx_c.specs.Called as called;
 
-use crate::asking;
 use crate::opened::Opened;
 use crate::store::{CLOSED, DONE, IN_USE, OUT_OF_MEMORY, Store, put_back, taken};
-use crate::writing;
+use crate::{asking, writing};
 use std::alloc::Global;
 
 /// Opens a handle on a repository with no objects and no refs, whose hashes are keyed by sixteen bytes.

@@ -8,10 +8,6 @@ use Rattle.gx_c.specs.declared.answer.Why.TheVariants.{Done}
 use Rattle.gx_c.specs.declared.opened.Opened.{Opened}
 use Rattle.gx_c.specs.declared.store.Store.{Store}
 
--- a handle says whether it holds something
-abbrev pub IsStore : Store → Type 0
-IsStore store = is_some store.held.value ≡ store.is_open
-
 -- what a handle holds is taken, which leaves it closed; of a closed one nothing is
 abbrev pub Takes : {A : Type 0} → Store → Store → Option (Box Opened A) → Type 0
 Takes old new None = (old.held.value ≡ None) × (new ≡ old)

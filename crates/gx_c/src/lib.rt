@@ -6,12 +6,15 @@ mod answer;
 mod asking;
 mod calls;
 mod growing;
+mod handing;
 mod held;
 mod importing;
 mod keys;
 mod opened;
 mod reading;
 mod store;
+#[cfg(test)]
+mod tests;
 mod writing;
 
 pub use answer::{Answer, Why};

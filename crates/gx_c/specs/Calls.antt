@@ -18,6 +18,7 @@ pub record IsNew (opened : Opened) : Type 0 where
   pub repository : opened.repo.1 ≡ record { records = []; refs = [] }
   pub words : opened.words.items ≡ []
   pub done : opened.answer.why ≡ Done
+  pub nothing : opened.answer.bytes.items ≡ []
 
 -- A closed handle holds a new repository, unless memory ran out; one that is open stays as it was.
 abbrev pub OpensSo : Option Opened → Option Opened → Store → Store → ℕ → Type 0

@@ -84,6 +84,24 @@ uint32_t ginlarch_word(ginlarch_store *store, const uint8_t *word, size_t length
  * first, and forgets the words. Refused, the number is that of the word. */
 uint32_t ginlarch_walk(ginlarch_store *store);
 
+/* Answers the entries of a revision's tree as `git ls-tree -z`: of each the mode in six digits, a space, the
+ * kind, a space, 40 digits, a TAB, the name and a NUL. A tree below is asked for by itself: "main:doc". */
+uint32_t ginlarch_ls(ginlarch_store *store, const uint8_t *revision, size_t length);
+
+/* The fields of a commit. */
+enum {
+    GINLARCH_TREE = 0,       /* the 40 digits of its tree */
+    GINLARCH_PARENTS = 1,    /* those of each parent, with an LF behind them */
+    GINLARCH_AUTHOR = 2,     /* NAME <EMAIL> SECONDS ZONE */
+    GINLARCH_COMMITTER = 3,  /* the same */
+    GINLARCH_ENCODING = 4,   /* that of the message, or nothing where the commit tells none */
+    GINLARCH_MESSAGE = 5     /* the message, with its last LF where it has one */
+};
+
+/* Answers a field of the commit that a revision gives, where a tag gives its commit. A number that is none
+ * of the fields is refused with the word UnknownField, whatever the revision is. */
+uint32_t ginlarch_commit(ginlarch_store *store, const uint8_t *revision, size_t length, uint32_t field);
+
 /* Answers the archive of a revision's tree as git-archive(1), with these bytes before each path. */
 uint32_t ginlarch_archive(ginlarch_store *store, const uint8_t *revision, size_t revision_length,
                           const uint8_t *prefix, size_t prefix_length);
@@ -108,7 +126,7 @@ uint64_t ginlarch_number(ginlarch_store *store);
 uint64_t ginlarch_count(ginlarch_store *store);
 
 /* Copies the word of why the last call was refused, as far as it fits, and answers how many bytes that
- * were; none of a call that was accepted. The words are those of docs/FAULTS.md. */
+ * were; none of a call that was accepted. The words are UnknownField and those of docs/FAULTS.md. */
 size_t ginlarch_why(ginlarch_store *store, uint8_t *room, size_t room_length);
 
 #ifdef __cplusplus

@@ -11,12 +11,13 @@ GINLARCH_LIBRARY says, then where the system has libraries. Nothing else is need
 import fcntl
 import os
 import stat
-from typing import BinaryIO, Dict, Iterator, List, NamedTuple, Optional, Union
+from dataclasses import dataclass
+from typing import BinaryIO, Dict, Iterator, List, NamedTuple, Optional, Tuple, Union
 
 from . import calls
 from .faults import Closed, Refused
 
-__all__ = ["Closed", "File", "Object", "Refused", "Report", "Repository", "StoreChanged"]
+__all__ = ["Closed", "Commit", "Entry", "File", "Object", "Refused", "Report", "Repository", "StoreChanged"]
 
 Text = Union[str, bytes]
 
@@ -40,6 +41,30 @@ class File(NamedTuple):
     data: bytes
 
 
+class Entry(NamedTuple):
+    """An entry of a tree: its mode, as 0o100644, its kind and name, and its path from where the listing began."""
+
+    mode: int
+    kind: str
+    name: str
+    path: str
+
+
+@dataclass(frozen=True)
+class Commit:
+    """A commit: the names of its tree and its parents, and its texts. The encoding is that of the message, where one is told.
+
+    The author and the committer are `NAME <EMAIL> SECONDS ZONE`.
+    """
+
+    tree: str
+    parents: Tuple[str, ...]
+    author: bytes
+    committer: bytes
+    encoding: Optional[str]
+    message: bytes
+
+
 class Report(NamedTuple):
     """What an import did: its commands, the new objects, and the lines of `progress`."""
 
@@ -50,6 +75,16 @@ class Report(NamedTuple):
 
 def _bytes(text: Text) -> bytes:
     return text.encode("utf-8", "surrogateescape") if isinstance(text, str) else bytes(text)
+
+
+def _text(data: bytes) -> str:
+    return data.decode("utf-8", "surrogateescape")
+
+
+def _entry(listed: bytes) -> Entry:
+    head, path = listed.split(b"\t", 1)
+    mode, kind, name = head.decode("ascii").split(" ")
+    return Entry(int(mode, 8), kind, name, _text(path))
 
 
 class Repository:
@@ -120,6 +155,33 @@ class Repository:
         """The name of what a revision gives, as `git rev-parse` prints it."""
         return self._handle.ask("name", _bytes(revision)).data.decode("ascii")
 
+    def commit(self, revision: Text) -> Commit:
+        """The commit that a revision gives; of a tag, the commit that it names."""
+        tree, parents, author, committer, encoding, message = (
+            self._handle.ask("commit", _bytes(revision), field).data for field in range(6)
+        )
+        names = tuple(parents.decode("ascii").split())
+        return Commit(tree.decode("ascii"), names, author, committer, _text(encoding) or None, message)
+
+    def ls(self, revision: Text, recursive: bool = False) -> List[Entry]:
+        """The entries of a revision's tree, as `git ls-tree` lists them; or all of its files, as with `-r`."""
+        return list(self._files_below(revision)) if recursive else self._entries(revision)
+
+    def _entries(self, revision: Text) -> List[Entry]:
+        return [_entry(listed) for listed in self._handle.ask("ls", _bytes(revision)).data.split(b"\0")[:-1]]
+
+    def _files_below(self, revision: Text) -> Iterator[Entry]:
+        below = [("", iter(self._entries(revision)))]
+        while below:
+            front, rest = below[-1]
+            entry = next(rest, None)
+            if entry is None:
+                below.pop()
+            elif entry.kind == "tree":
+                below.append((front + entry.path + "/", iter(self._entries(entry.name))))
+            else:
+                yield entry._replace(path=front + entry.path)
+
     def file(self, revision: Text, path: Text) -> bytes:
         """The bytes of the file at a path in a revision's tree."""
         return self.entry(revision, path).data
@@ -137,7 +199,7 @@ class Repository:
     @property
     def refs(self) -> Dict[str, str]:
         """The refs: their names with the names of their objects."""
-        return {name.decode("utf-8", "surrogateescape"): digits.decode("ascii") for digits, name in self._ref_lines()}
+        return {_text(name): digits.decode("ascii") for digits, name in self._ref_lines()}
 
     def _ref_lines(self) -> Iterator[List[bytes]]:
         return (line.split(b" ", 1) for line in self._handle.ask("refs").data.split(b"\n") if line)

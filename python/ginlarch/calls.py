@@ -46,6 +46,8 @@ _ARGUMENTS = {
     "name": _text,
     "word": _text,
     "walk": [],
+    "ls": _text,
+    "commit": _text + [ctypes.c_uint32],
     "archive": _text + _text,
     "export": [],
     "changes": _flag,
@@ -85,12 +87,12 @@ class Handle:
         self._thread = threading.get_ident()
         self.ask("open", os.urandom(16))
 
-    def ask(self, name: str, *arguments: Union[bytes, bool]) -> Answer:
+    def ask(self, name: str, *arguments: Union[bytes, bool, int]) -> Answer:
         """What a call answers. A refusal is raised."""
         self._want_own_thread()
         passed: List[object] = []
         for argument in arguments:
-            passed += [argument] if isinstance(argument, bool) else [argument, len(argument)]
+            passed += [argument] if isinstance(argument, int) else [argument, len(argument)]
         status = _CALLS[name](self._pointer(), *passed)
         if status == _DONE:
             return Answer(self._data(), _number(self._pointer()), _count(self._pointer()))

@@ -60,6 +60,8 @@ static uint32_t ask(ginlarch_store *store, uint32_t call, const uint8_t *a, size
     case 12: return ginlarch_archive(store, a, n, b, m);
     case 13: return ginlarch_export(store);
     case 14: return ginlarch_changes(store, next(2));
+    case 15: return ginlarch_ls(store, a, n);
+    case 16: return ginlarch_commit(store, a, n, next(8));
     default: return ginlarch_range(store, next(2));
     }
 }
@@ -94,7 +96,7 @@ int main(int argc, char **argv) {
         case 1: case 2: case 3:
             expect(ginlarch_open(store, a, n) == (was_open ? GINLARCH_IN_USE : GINLARCH_DONE), "a handle isn't opened");
             break;
-        default: look(store, ask(store, next(16), a, n, b, m), was_open);
+        default: look(store, ask(store, next(18), a, n, b, m), was_open);
         }
         free(a), free(b);
     }

@@ -31,8 +31,17 @@ def git(folder: str, *words: str, stdin: bytes = b"") -> bytes:
     return done.stdout
 
 
+#: a commit with an encoding, a submodule, a name with odd bytes, and a message without an LF
+ODD = (
+    b"commit refs/heads/odd\ncommitter C <c@x> 1700000009 -0230\nencoding ISO-8859-1\ndata 3\n\xe4\n\n"
+    b"M 160000 1111111111111111111111111111111111111111 sub\n"
+    b'M 100644 inline "d/\\303\\244\\377\\t\\n"\ndata 0\n\n'
+    b"commit refs/heads/odd\ncommitter C <c@x> 1700000010 -0230\ndata 4\nlast\n"
+)
+
+
 def make_history(folder: str) -> None:
-    """Two branches that are merged, a tag, files of three modes, and odd bytes."""
+    """Branches that are merged, a tag, files of all modes, and odd bytes."""
     git(folder, "init", "-q", "-b", "main")
 
     def commit(when: int, message: str) -> None:
@@ -59,6 +68,7 @@ def make_history(folder: str) -> None:
     (top / "doc" / "README").write_bytes(b"three\n")
     commit(3, "three")
     git(folder, "merge", "-q", "--no-edit", "topic")
+    git(folder, "fast-import", "--quiet", stdin=ODD)
 
 
 class Compared(unittest.TestCase):
@@ -68,7 +78,7 @@ class Compared(unittest.TestCase):
         cls.folder = os.path.join(cls.held.name, "history")
         os.mkdir(cls.folder)
         make_history(cls.folder)
-        cls.stream = git(cls.folder, "fast-export", "--all", "--use-done-feature")
+        cls.stream = git(cls.folder, "fast-export", "--all", "--use-done-feature", "--reencode=no")
 
     @classmethod
     def tearDownClass(cls) -> None:
@@ -116,8 +126,35 @@ class Compared(unittest.TestCase):
             self.assertEqual(entry.mode, int(mode, 8))
             self.assertEqual(entry.data, git(self.folder, "cat-file", "blob", name))
 
+    def test_listings_are_those_of_git(self) -> None:
+        for revision in ["main", "topic", "v1", "main:doc", "main~2^{tree}", "odd"]:
+            for words, recursive in [([], False), (["-r"], True)]:
+                listed = git(self.folder, "ls-tree", "-z", *words, revision).split(b"\0")[:-1]
+                shown = [
+                    f"{entry.mode:06o} {entry.kind} {entry.name}\t{entry.path}".encode("utf-8", "surrogateescape")
+                    for entry in self.repository.ls(revision, recursive)
+                ]
+                self.assertEqual(shown, listed)
+        self.assertRaises(faults.WrongKind, self.repository.ls, "main:run")
+
+    def test_commits_are_those_of_git(self) -> None:
+        for revision in git(self.folder, "rev-list", "--all").decode().split() + ["v1", "odd"]:
+            made = self.repository.commit(revision)
+            head, message = git(self.folder, "cat-file", "commit", revision).split(b"\n\n", 1)
+            lines = [f"tree {made.tree}".encode(), *(f"parent {name}".encode() for name in made.parents)]
+            lines += [b"author " + made.author, b"committer " + made.committer]
+            lines += [] if made.encoding is None else [b"encoding " + made.encoding.encode()]
+            self.assertEqual((b"\n".join(lines), made.message), (head, message))
+        self.assertRaises(faults.WrongKind, self.repository.commit, "main:doc")
+
+    def test_number_of_no_field_is_refused(self) -> None:
+        for revision in [b"main", b"gone"]:
+            with self.assertRaises(Refused) as caught:
+                self.repository._handle.ask("commit", revision, 6)
+            self.assertEqual(caught.exception.word, "UnknownField")
+
     def test_exports_come_back_in_git(self) -> None:
-        for stream in [self.repository.export(), self.repository.export(changes=False), self.repository.export(None, "main", "topic", "v1")]:
+        for stream in [self.repository.export(), self.repository.export(changes=False), self.repository.export(None, "main", "topic", "v1", "odd")]:
             with tempfile.TemporaryDirectory() as again:
                 git(again, "init", "-q", "--bare")
                 git(again, "fast-import", "--quiet", stdin=stream)

@@ -1,6 +1,6 @@
 -- What a call answers of a repository: a text and a number, or the fault's word.
 -- Source: gitrevisions(7), git-cat-file(1), git-show-ref(1), git-rev-list(1), git-archive(1) and git-fast-export(1).
-use Rattle.std.specs.Prelude.{◌≡◌, ℕ, List, [], ◌∷◌, ◌++◌, Result, Ok, Err}
+use Rattle.std.specs.Prelude.{◌≡◌, ℕ, List, [], ◌∷◌, ◌++◌, Result, Ok, Err, codes}
 use Rattle.std.specs.List.{flat_map}
 use Rattle.gx_model.specs.declared.faults.Fault.{Fault}
 use Rattle.gx_model.specs.declared.faults.Fault.TheVariants.{WrongKind}
@@ -24,7 +24,7 @@ use Rattle.gx_rev.specs.RevFaults as rev
 use Rattle.gx_rev.specs.Walking.{IsWordFault}
 use Rattle.gx_c.specs.declared.answer.Answer.{Answer}
 use Rattle.gx_c.specs.declared.answer.Why.{Why}
-use Rattle.gx_c.specs.declared.answer.Why.TheVariants.{Done, Import, Revision, Store}
+use Rattle.gx_c.specs.declared.answer.Why.TheVariants.{Done, Field, Import, Revision, Store}
 
 -- 0 for a call that was accepted, and 1 for one that was refused
 abbrev pub status_of : Why → ℕ
@@ -32,6 +32,7 @@ status_of Done = 0
 status_of (Revision fault) = 1
 status_of (Import fault) = 1
 status_of (Store fault) = 1
+status_of Field = 1
 
 -- the name of the fault
 abbrev pub word_of_why : Why → Bytes
@@ -39,6 +40,7 @@ word_of_why Done = []
 word_of_why (Revision fault) = rev.word fault
 word_of_why (Import fault) = import_words.word_of fault
 word_of_why (Store fault) = store_words.word fault
+word_of_why Field = codes "UnknownField"
 
 -- The number and the bytes are those that are given, or the fault is told; unless memory ran out.
 abbrev pub AnswersSo : {A : Type 0} → Given (ℕ × Bytes) → Why → Answer A → Type 0
@@ -46,6 +48,7 @@ AnswersSo given Done answer = given ≡ Ok (answer.number, answer.bytes.items)
 AnswersSo given (Revision fault) answer = IsFaultOf (rev.fault_of fault) given
 AnswersSo given (Import fault) answer = ⊥
 AnswersSo given (Store fault) answer = ⊥
+AnswersSo given Field answer = ⊥
 
 abbrev pub Answers : {A : Type 0} → Given (ℕ × Bytes) → Answer A → Type 0
 Answers given answer = AnswersSo given answer.why answer
@@ -60,6 +63,7 @@ AnswersWords given IsText Done answer = IsText answer.bytes.items
 AnswersWords given IsText (Revision fault) answer = IsWordFault answer.number (rev.fault_of fault) given
 AnswersWords given IsText (Import fault) answer = ⊥
 AnswersWords given IsText (Store fault) answer = ⊥
+AnswersWords given IsText Field answer = ⊥
 
 -- the digits of a name, in a line
 abbrev pub digits_line : Bytes → Bytes
@@ -108,6 +112,8 @@ module _ (name : Kind → Bytes → Bytes) (h : History) where
   name_answer revision = and_then (and_then (revision_of revision) (denoted name h)) named_answer
 
   -- the commits that range words list, each by the digits of its name in a line
+  abbrev pub ListsCommits : List RangeWord → Bytes → Type 0
+  ListsCommits words text = (names : List Bytes) × (listed name h words ≡ Ok names) × (text ≡ flat_map digits_line names)
+
   abbrev pub AnswersWalk : {A : Type 0} → List RangeWord → Answer A → Type 0
-  AnswersWalk words answer =
-      AnswersWords (listed name h words) (λ text. (names : List Bytes) × (listed name h words ≡ Ok names) × (text ≡ flat_map digits_line names)) answer.why answer
+  AnswersWalk words answer = AnswersWords (listed name h words) (ListsCommits words) answer.why answer

@@ -1,6 +1,6 @@
 -- What each call makes of what a handle holds.
 -- Source: gitrevisions(7), git-cat-file(1), git-show-ref(1), git-rev-list(1), git-archive(1), git-fast-export(1) and git-fast-import(1).
-use Rattle.std.specs.Prelude.{◌≡◌, Bool, List, [], ◌∷◌, ◌++◌, map, Result, Ok, Err}
+use Rattle.std.specs.Prelude.{◌≡◌, ℕ, Bool, List, [], ◌∷◌, ◌++◌, map, Result, Ok, Err}
 use Rattle.std.specs.List.{flat_map}
 use Rattle.std.specs.declared.alloc.Global.{Global}
 use Rattle.sha1.specs.Sha1.{sha1}
@@ -24,6 +24,8 @@ use Rattle.gx_rev.specs.declared.range.Range.{Range as RangeHeld}
 use Rattle.gx_c.specs.Answers as answers
 use Rattle.gx_c.specs.Answers.{Answers, AnswersText}
 use Rattle.gx_c.specs.Written.{AnswersRange, archive_answer}
+use Rattle.gx_c.specs.Fields.{AnswersField}
+use Rattle.gx_c.specs.Listings.{listing_of}
 use Rattle.gx_c.specs.Importing.{AnswersImport, features_of}
 use Rattle.gx_c.specs.declared.answer.Answer.{Answer}
 use Rattle.gx_c.specs.declared.answer.Why.{Why}
@@ -59,6 +61,12 @@ Object revision = Asks (λ repository. Answers (answers.object_answer git_name (
 abbrev pub Name : Bytes → Opened → Opened → Type 0
 Name revision = Asks (λ repository. Answers (answers.name_answer git_name (history_of repository) revision))
 
+abbrev pub Lists : Bytes → Opened → Opened → Type 0
+Lists revision = Asks (λ repository. AnswersText (listing_of git_name (history_of repository) revision))
+
+abbrev pub Commit : Bytes → ℕ → Opened → Opened → Type 0
+Commit revision number = Asks (λ repository. AnswersField git_name (history_of repository) revision number)
+
 abbrev pub Archive : Bytes → Bytes → Opened → Opened → Type 0
 Archive revision prefix = Asks (λ repository. AnswersText (archive_answer git_name (history_of repository) revision prefix))
 
@@ -91,6 +99,7 @@ AddsWord given why.Done was now = and_then given (λ word. Ok (words_of was ++ w
 AddsWord given (why.Revision fault) was now = IsFaultOf (fault_of fault) given × (words_of now ≡ words_of was)
 AddsWord given (why.Import fault) was now = ⊥
 AddsWord given (why.Store fault) was now = ⊥
+AddsWord given why.Field was now = ⊥
 
 pub record Word (text : Bytes) (was now : Opened) : Type 0 where
   pub repository : now.repo ≡ was.repo
@@ -103,6 +112,7 @@ LoadsSo stored why.Done was now = stored ≡ Ok now.repo.1
 LoadsSo stored (why.Store fault) was now = file.IsFaultOf fault stored × (now.repo ≡ was.repo)
 LoadsSo stored (why.Revision fault) was now = ⊥
 LoadsSo stored (why.Import fault) was now = ⊥
+LoadsSo stored why.Field was now = ⊥
 
 pub record Loads (text : Bytes) (was now : Opened) : Type 0 where
   pub words : now.words ≡ was.words

@@ -21,11 +21,14 @@ took_nothing = record { bytes = []; failed = false }
 
 -- the report or the fault of an import, with what went to its sink
 abbrev pub TellsImport : {A : Type 0} → Result Report ImportFault → Taken → Answer A → Type 0
-TellsImport (Ok report) lines answer = (answer.why ≡ Done) × (answer.number ≡ report.commands) × (answer.count ≡ report.objects) × (answer.bytes.items ≡ lines.bytes)
-TellsImport (Err fault) lines answer = (answer.why ≡ Import fault.kind) × (answer.number ≡ fault.command) × (answer.count ≡ fault.checkpoints) × (answer.bytes.items ≡ lines.bytes)
+TellsImport (Ok report) lines answer =
+    (answer.why ≡ Done) × (answer.number ≡ report.commands) × (answer.count ≡ report.objects) × (answer.bytes.items ≡ lines.bytes)
+TellsImport (Err fault) lines answer =
+    (answer.why ≡ Import fault.kind) × (answer.number ≡ fault.command) × (answer.count ≡ fault.checkpoints) × (answer.bytes.items ≡ lines.bytes)
 
 -- A whole stream is imported, and what comes of that is told. Where it is refused before a checkpoint, the repository is as it was.
-pub record AnswersImport {N A : Type 0} (name_of : N → Kind → Bytes → Bytes) (features : Features) (old new : N × Records) (stream : Bytes) (answer : Answer A) : Type 0 where
+pub record AnswersImport {N A : Type 0} (name_of : N → Kind → Bytes → Bytes) (features : Features) (old new : N × Records)
+    (stream : Bytes) (answer : Answer A) : Type 0 where
   pub result : Result Report ImportFault
   pub lines : Taken
   pub imported : ImportsAsked name_of (λ taken. Some taken) features old new (Some (record { bytes = stream; fails = false })) took_nothing lines result

@@ -17,7 +17,9 @@ module _ (name : Kind → Bytes → Bytes) (h : History) where
   abbrev pub archive_answer : Bytes → Bytes → Given Bytes
   archive_answer revision prefix = and_then (revision_of revision) (λ r. archive_of name h r prefix)
 
-  -- the export of the changes that range words list
+  -- the export of the changes of the commits that range words list
+  abbrev pub ExportsRange : Bool → List RangeWord → Bytes → Type 0
+  ExportsRange closed words text = (meant : List Word) × (words_denoted name h words ≡ Ok meant) × (text ≡ range_text name closed h meant)
+
   abbrev pub AnswersRange : {A : Type 0} → Bool → List RangeWord → Answer A → Type 0
-  AnswersRange closed words answer =
-      AnswersWords (listed name h words) (λ text. (meant : List Word) × (words_denoted name h words ≡ Ok meant) × (text ≡ range_text name closed h meant)) answer.why answer
+  AnswersRange closed words answer = AnswersWords (listed name h words) (ExportsRange closed words) answer.why answer

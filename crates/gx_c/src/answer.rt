@@ -20,6 +20,8 @@ pub enum Why {
     Import(Fault),
     /// A store's text.
     Store(FileFault),
+    /// The number of a commit's field.
+    Field,
 }
 
 impl Why {
@@ -32,6 +34,7 @@ impl Why {
             Why::Revision(fault) => fault.word(),
             Why::Import(fault) => fault.word(),
             Why::Store(fault) => fault.word(),
+            Why::Field => "UnknownField",
         }
     }
 
@@ -41,7 +44,7 @@ impl Why {
     {
         match self {
             Why::Done => DONE,
-            Why::Revision(_) | Why::Import(_) | Why::Store(_) => REFUSED,
+            Why::Revision(_) | Why::Import(_) | Why::Store(_) | Why::Field => REFUSED,
         }
     }
 }

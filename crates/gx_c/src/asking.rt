@@ -19,7 +19,8 @@ use std::alloc::{AllocError, Allocator};
 
 /// The mode of a file, and its bytes, at the path of a text in the tree that a text gives as a revision.
 ///
-/// Refused by the first fault of the revision's text, of the path's, and of what they give. Cost: that of `gx_rev::look`.
+/// Refused by the first fault of the revision's text, of the path's, and of what they give. Cost: that of
+/// `gx_rev::look`.
 pub(crate) fn file<N: Namer, A: Allocator + Copy>(
     alloc: A,
     repo: &Repo<N, A>,
@@ -137,7 +138,7 @@ fn put_names<A: Allocator + Copy>(alloc: A, names: &[Name]) -> Result<Vec<u8, A>
 }
 
 /// Appends a name's line.
-fn put_name<A: Allocator>(text: &mut Vec<u8, A>, name: &Name) -> Result<(), AllocError>
+pub(crate) fn put_name<A: Allocator>(text: &mut Vec<u8, A>, name: &Name) -> Result<(), AllocError>
     ensures { OnOk result (text.new.items ≡ text.old.items ++ digits_line name.now.bytes) }
 {
     text.extend_from_slice(name.hex().as_slice())?;
@@ -145,8 +146,9 @@ fn put_name<A: Allocator>(text: &mut Vec<u8, A>, name: &Name) -> Result<(), Allo
     Ok(())
 }
 
-/// The body of the object that a text gives as a revision, and the number that git has for its kind: 1 for a commit, 2 for a tree,
-/// 3 for a blob and 4 for a tag. A submodule's commit isn't in the repository, so that one is of the wrong kind.
+/// The body of the object that a text gives as a revision, and the number that git has for its kind: 1 for a commit, 2
+/// for a tree, 3 for a blob and 4 for a tag. A submodule's commit isn't in the repository, so that one is of the wrong
+/// kind.
 ///
 /// Refused by the first fault of the text and of what it gives. Cost: that of `Revision::eval`, and the body's length.
 pub(crate) fn object<N: Namer, A: Allocator + Copy>(
@@ -197,8 +199,8 @@ fn kind_number(kind: Kind) -> u64
     }
 }
 
-/// The name of what a text gives as a revision, in 40 digits, and the number that git has for its kind: that of a commit for a
-/// submodule's.
+/// The name of what a text gives as a revision, in 40 digits, and the number that git has for its kind: that of a
+/// commit for a submodule's.
 ///
 /// Refused by the first fault of the text and of what it gives. Cost: that of `Revision::eval`.
 pub(crate) fn name<N: Namer, A: Allocator + Copy>(

@@ -7,7 +7,7 @@ ghost use Rattle.gx_c.specs.Called as called;
 use crate::handing::{put_back, taken};
 use crate::opened::Opened;
 use crate::store::{CLOSED, IN_USE, OUT_OF_MEMORY, Store};
-use crate::{asking, writing};
+use crate::{asking, fields, listing, writing};
 use std::alloc::Global;
 
 /// Opens a handle on a repository with no objects and no refs, whose hashes are keyed by sixteen bytes.
@@ -124,6 +124,35 @@ pub extern "C" fn ginlarch_name(alloc: Global, store: &mut Store, revision: &[u8
         return CLOSED;
     };
     opened.answer = asking::name(alloc, &opened.repo, revision);
+    put_back(store, opened)
+}
+
+/// Answers the entries of a revision's tree.
+#[unsafe(no_mangle)]
+pub extern "C" fn ginlarch_ls(alloc: Global, store: &mut Store, revision: &[u8]) -> u32
+    ensures { Calls (called.Lists revision.now) store.old store.new result }
+{
+    let Some(mut opened) = taken(alloc, store) else {
+        return CLOSED;
+    };
+    opened.answer = listing::ls(alloc, &opened.repo, revision);
+    put_back(store, opened)
+}
+
+/// Answers a field of a revision's commit, by its number.
+#[unsafe(no_mangle)]
+pub extern "C" fn ginlarch_commit(
+    alloc: Global,
+    store: &mut Store,
+    revision: &[u8],
+    field: u32,
+) -> u32
+    ensures { Calls (called.Commit revision.now field) store.old store.new result }
+{
+    let Some(mut opened) = taken(alloc, store) else {
+        return CLOSED;
+    };
+    opened.answer = fields::commit_field(alloc, &opened.repo, revision, field);
     put_back(store, opened)
 }
 

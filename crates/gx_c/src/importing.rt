@@ -16,11 +16,12 @@ use std::alloc::Allocator;
 /// So many bytes of a stream are given at once.
 const PIECE: usize = 0x1_0000;
 
-/// Imports a stream, which with `done` has to end with the command `done`, and which with `force` may take commits from a branch.
+/// Imports a stream, which with `done` has to end with the command `done`, and which with `force` may take commits from
+/// a branch.
 ///
-/// It answers the lines of `progress`, and how many commands there were and how many objects are new. Refused, it answers the fault with the
-/// number of its command, and how many checkpoints were before it: the repository is as it was right after the last one.
-/// Cost: that of `gx_import::import_asking`.
+/// It answers the lines of `progress`, and how many commands there were and how many objects are new. Refused, it
+/// answers the fault with the number of its command, and how many checkpoints were before it: the repository is as it
+/// was right after the last one. Cost: that of `gx_import::import_asking`.
 pub(crate) fn import<N: Namer, A: Allocator + Copy>(
     alloc: A,
     repo: &mut Repo<N, A>,

@@ -5,11 +5,13 @@
 mod answer;
 mod asking;
 mod calls;
+mod fields;
 mod growing;
 mod handing;
 mod held;
 mod importing;
 mod keys;
+mod listing;
 mod opened;
 mod reading;
 mod store;

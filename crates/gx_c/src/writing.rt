@@ -1,4 +1,5 @@
-//! The texts that a repository is written as. Source: git-fast-export(1), git-archive(1), and this project's own format.
+//! The texts that a repository is written as. Source: git-fast-export(1), git-archive(1), and this project's own
+//! format.
 
 ghost use Rattle.std.specs.Prelude.{◌≡◌, Ok, map};
 ghost use Rattle.gx_model.specs.Changes.{changes_text};
@@ -35,7 +36,8 @@ pub(crate) fn text<N: Namer, A: Allocator + Copy>(alloc: A, repo: &Repo<N, A>) -
 
 /// The repository as a stream, each commit with all of its files.
 ///
-/// Refused for want of memory alone, also where the text had more than 2^63 - 1 bytes. Cost: that of `gx_export::export`, and the text.
+/// Refused for want of memory alone, also where the text had more than 2^63 - 1 bytes. Cost: that of
+/// `gx_export::export`, and the text.
 pub(crate) fn stream<N: Namer, A: Allocator + Copy>(alloc: A, repo: &Repo<N, A>) -> Answer<A>
     ensures { AnswersText (Ok (export_text (history_of repo.now.1))) result }
 {
@@ -46,7 +48,8 @@ pub(crate) fn stream<N: Namer, A: Allocator + Copy>(alloc: A, repo: &Repo<N, A>)
     }
 }
 
-/// The repository as a stream, each commit by what differs from its first parent; where it is `closed` with `done` at its end.
+/// The repository as a stream, each commit by what differs from its first parent; where it is `closed` with `done` at
+/// its end.
 ///
 /// Refused as `stream` is. Cost: that of `gx_export::export_changes`, and the text.
 pub(crate) fn changes<N: Namer, A: Allocator + Copy>(
@@ -65,7 +68,8 @@ pub(crate) fn changes<N: Namer, A: Allocator + Copy>(
 
 /// The same of the commits that range words list.
 ///
-/// Refused by the first word that gives nothing, with its number, and for want of memory. Cost: that of `gx_export::export_range`, and the text.
+/// Refused by the first word that gives nothing, with its number, and for want of memory. Cost: that of
+/// `gx_export::export_range`, and the text.
 pub(crate) fn range<N: Namer, A: Allocator + Copy>(
     alloc: A,
     repo: &Repo<N, A>,

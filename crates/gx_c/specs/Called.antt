@@ -8,7 +8,7 @@ use Rattle.gx_model.specs.declared.objects.Kind.{Kind}
 use Rattle.gx_model.specs.declared.store_versions.Version.TheVariants.{Two}
 use Rattle.gx_model.specs.Changes.{changes_text}
 use Rattle.gx_model.specs.Export.{export_text}
-use Rattle.gx_model.specs.Faults.{Given, IsFaultOf}
+use Rattle.gx_model.specs.Faults.{Given, IsFaultOf, and_then}
 use Rattle.gx_model.specs.Histories.{History, Records}
 use Rattle.gx_model.specs.Objects.Naming.{record_text}
 use Rattle.gx_model.specs.Records.HistoryOf.{history_of}
@@ -20,7 +20,6 @@ use Rattle.gx_file.specs.Faults as file
 use Rattle.gx_rev.specs.RevFaults.{fault_of}
 use Rattle.gx_rev.specs.Views.{shown_range}
 use Rattle.gx_rev.specs.declared.fault.RevFault.{RevFault}
-use Rattle.gx_rev.specs.declared.fault.RevFault.TheVariants.{OutOfMemory}
 use Rattle.gx_rev.specs.declared.range.Range.{Range as RangeHeld}
 use Rattle.gx_c.specs.Answers as answers
 use Rattle.gx_c.specs.Answers.{Answers, AnswersText}
@@ -89,14 +88,14 @@ Walk = Uses (λ h words answer. answers.AnswersWalk git_name h words answer)
 abbrev pub Range : Bool → Opened → Opened → Type 0
 Range closed = Uses (λ h words answer. AnswersRange git_name h closed words answer)
 
--- a word is put behind others; or memory ran out, and they stay
-abbrev pub Pushes : {B : Type 0} → RangeWord → List (RangeHeld B) → List (RangeHeld B) → Result (Unit {0}) RevFault → Type 0
-Pushes word old new (Ok done) = map shown_range new ≡ map shown_range old ++ word ∷ []
-Pushes word old new (Err fault) = (fault ≡ OutOfMemory) × (new ≡ old)
+-- A text is put behind words as a range word; or it is none, for this fault, or memory ran out, and they stay.
+abbrev pub Adds : {B : Type 0} → Given RangeWord → List (RangeHeld B) → List (RangeHeld B) → Result (Unit {0}) RevFault → Type 0
+Adds given old new (Ok done) = and_then given (λ word. Ok (map shown_range old ++ word ∷ [])) ≡ Ok (map shown_range new)
+Adds given old new (Err fault) = IsFaultOf (fault_of fault) given × (new ≡ old)
 
--- A text is put behind the words as a range word; or it is none, for this fault, or memory ran out, and they stay.
+-- the same of the words that were given, by why the call was refused
 abbrev pub AddsWord : Given RangeWord → Why → Opened → Opened → Type 0
-AddsWord given why.Done was now = (word : RangeWord) × (given ≡ Ok word) × (words_of now ≡ words_of was ++ word ∷ [])
+AddsWord given why.Done was now = and_then given (λ word. Ok (words_of was ++ word ∷ [])) ≡ Ok (words_of now)
 AddsWord given (why.Revision fault) was now = IsFaultOf (fault_of fault) given × (words_of now ≡ words_of was)
 AddsWord given (why.Import fault) was now = ⊥
 AddsWord given (why.Store fault) was now = ⊥
@@ -105,6 +104,7 @@ AddsWord given why.Field was now = ⊥
 pub record Word (text : Bytes) (was now : Opened) : Type 0 where
   pub repository : now.repo ≡ was.repo
   pub words : AddsWord (range_of text) now.answer.why was now
+  pub nothing : now.answer.bytes.items ≡ []
 
 -- The repository is that of a store text; or the text is refused for its first fault, or memory ran out, and it stays.
 abbrev pub LoadsSo : Stored Records → Why → Opened → Opened → Type 0
@@ -117,6 +117,7 @@ LoadsSo stored why.Field was now = ⊥
 pub record Loads (text : Bytes) (was now : Opened) : Type 0 where
   pub words : now.words ≡ was.words
   pub repository : LoadsSo (store_of git_name text) now.answer.why was now
+  pub nothing : now.answer.bytes.items ≡ []
 
 -- a stream is imported, and the words stay
 pub record Imports (done force : Bool) (stream : Bytes) (was now : Opened) : Type 0 where

@@ -1,16 +1,12 @@
 -- What a call of C does with a handle.
 -- Source: this project's own.
-use Rattle.std.specs.Prelude.{◌≡◌, ◌⊎◌, ℕ, ◌++◌, min, length, take, drop, false, true, [], is_some, Option, Some, None}
+use Rattle.std.specs.Prelude.{◌≡◌, ℕ, ◌++◌, min, length, take, drop, false, true, [], is_some, Option, Some, None}
 use Rattle.std.specs.declared.boxed.Box.{Box}
 use Rattle.gx_model.specs.Texts.{Bytes}
 use Rattle.gx_c.specs.Answers.{status_of}
 use Rattle.gx_c.specs.declared.answer.Why.TheVariants.{Done}
 use Rattle.gx_c.specs.declared.opened.Opened.{Opened}
 use Rattle.gx_c.specs.declared.store.Store.{Store}
-
--- a handle says whether it holds something
-abbrev pub IsStore : Store → Type 0
-IsStore store = is_some store.held.value ≡ store.is_open
 
 -- what a handle holds is taken, which leaves it closed; of a closed one nothing is
 abbrev pub Takes : {A : Type 0} → Store → Store → Option (Box Opened A) → Type 0
@@ -22,28 +18,30 @@ pub record IsNew (opened : Opened) : Type 0 where
   pub repository : opened.repo.1 ≡ record { records = []; refs = [] }
   pub words : opened.words.items ≡ []
   pub done : opened.answer.why ≡ Done
+  pub nothing : opened.answer.bytes.items ≡ []
 
 -- A closed handle holds a new repository, unless memory ran out; one that is open stays as it was.
-abbrev pub OpensSo : Option Opened → Store → Store → ℕ → Type 0
-OpensSo (Some opened) old new status = (status ≡ 3) × (new ≡ old)
-OpensSo None old new status =
-    ((status ≡ 4) × (new ≡ old)) ⊎ ((status ≡ 0) × (new.is_open ≡ true) × ((opened : Opened) × (new.held.value ≡ Some opened) × IsNew opened))
+abbrev pub OpensSo : Option Opened → Option Opened → Store → Store → ℕ → Type 0
+OpensSo (Some was) held old new status = (status ≡ 3) × (new ≡ old)
+OpensSo None None old new status = (status ≡ 4) × (new ≡ old)
+OpensSo None (Some now) old new status = (status ≡ 0) × (new.is_open ≡ true) × IsNew now
 
 abbrev pub Opens : Store → Store → ℕ → Type 0
-Opens old new status = OpensSo old.held.value old new status
+Opens old new status = OpensSo old.held.value new.held.value old new status
 
 -- it holds nothing
 abbrev pub Closes : Store → Type 0
 Closes new = (new.is_open ≡ false) × (new.held.value ≡ None)
 
--- What an open handle holds goes over into this, and the status is that of its answer. A closed one stays as it was, with the status 2.
-abbrev pub CallsSo : (Opened → Opened → Type 0) → Option Opened → Store → Store → ℕ → Type 0
-CallsSo Goes None old new status = (status ≡ 2) × (new ≡ old)
-CallsSo Goes (Some was) old new status =
-    (new.is_open ≡ true) × ((now : Opened) × (new.held.value ≡ Some now) × (status ≡ status_of now.answer.why) × Goes was now)
+-- What an open handle holds goes over into what it holds then, and the status is that of its answer. A closed one stays as it was, with the
+-- status 2.
+abbrev pub CallsSo : (Opened → Opened → Type 0) → Option Opened → Option Opened → Store → Store → ℕ → Type 0
+CallsSo Goes None held old new status = (status ≡ 2) × (new ≡ old)
+CallsSo Goes (Some was) None old new status = ⊥
+CallsSo Goes (Some was) (Some now) old new status = Goes was now × (status ≡ status_of now.answer.why) × (new.is_open ≡ true)
 
 abbrev pub Calls : (Opened → Opened → Type 0) → Store → Store → ℕ → Type 0
-Calls Goes old new status = CallsSo Goes old.held.value old new status
+Calls Goes old new status = CallsSo Goes old.held.value new.held.value old new status
 
 -- What an open handle holds is so, and of a closed one this holds. Neither changes.
 abbrev pub ReadsSo : (Opened → Type 0) → Type 0 → Option Opened → Type 0

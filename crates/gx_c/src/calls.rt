@@ -1,18 +1,18 @@
 //! The calls of C that open and close a handle, or ask something of its repository. Each has its sentence in include/ginlarch.h.
 
 ghost use Rattle.std.specs.Prelude.{◌≡◌};
-ghost use Rattle.gx_c.specs.Calls.{Calls, Closes, IsStore, Opens};
+ghost use Rattle.gx_c.specs.Calls.{Calls, Closes, Opens};
 ghost use Rattle.gx_c.specs.Called as called;
 
+use crate::handing::{put_back, taken};
 use crate::opened::Opened;
-use crate::store::{CLOSED, DONE, IN_USE, OUT_OF_MEMORY, Store, put_back, taken};
+use crate::store::{CLOSED, IN_USE, OUT_OF_MEMORY, Store};
 use crate::{asking, fields, listing, writing};
 use std::alloc::Global;
 
 /// Opens a handle on a repository with no objects and no refs, whose hashes are keyed by sixteen bytes.
 #[unsafe(no_mangle)]
 pub extern "C" fn ginlarch_open(alloc: Global, store: &mut Store, key: &[u8]) -> u32
-    requires { IsStore store.old }
     ensures { Opens store.old store.new result }
 {
     if store.is_open {
@@ -27,7 +27,6 @@ pub extern "C" fn ginlarch_open(alloc: Global, store: &mut Store, key: &[u8]) ->
 /// Closes a handle, and frees all that it holds. One that isn't open stays so.
 #[unsafe(no_mangle)]
 pub extern "C" fn ginlarch_close(alloc: Global, store: &mut Store)
-    requires { IsStore store.old }
     ensures { Closes store.new }
 {
     let _ = taken(alloc, store);
@@ -36,7 +35,6 @@ pub extern "C" fn ginlarch_close(alloc: Global, store: &mut Store)
 /// Replaces the repository by that of a store text; where that is refused it stays as it was.
 #[unsafe(no_mangle)]
 pub extern "C" fn ginlarch_load(alloc: Global, store: &mut Store, text: &[u8]) -> u32
-    requires { IsStore store.old }
     ensures { Calls (called.Loads text.now) store.old store.new result }
 {
     let Some(mut opened) = taken(alloc, store) else {
@@ -55,7 +53,6 @@ pub extern "C" fn ginlarch_import(
     done: bool,
     force: bool,
 ) -> u32
-    requires { IsStore store.old }
     ensures { Calls (called.Imports done force stream.now) store.old store.new result }
 {
     let Some(mut opened) = taken(alloc, store) else {
@@ -68,7 +65,6 @@ pub extern "C" fn ginlarch_import(
 /// Answers the repository's store text.
 #[unsafe(no_mangle)]
 pub extern "C" fn ginlarch_text(alloc: Global, store: &mut Store) -> u32
-    requires { IsStore store.old }
     ensures { Calls called.Texts store.old store.new result }
 {
     let Some(mut opened) = taken(alloc, store) else {
@@ -81,7 +77,6 @@ pub extern "C" fn ginlarch_text(alloc: Global, store: &mut Store) -> u32
 /// Answers the refs, a line each.
 #[unsafe(no_mangle)]
 pub extern "C" fn ginlarch_refs(alloc: Global, store: &mut Store) -> u32
-    requires { IsStore store.old }
     ensures { Calls called.Refs store.old store.new result }
 {
     let Some(mut opened) = taken(alloc, store) else {
@@ -99,7 +94,6 @@ pub extern "C" fn ginlarch_file(
     revision: &[u8],
     path: &[u8],
 ) -> u32
-    requires { IsStore store.old }
     ensures { Calls (called.File revision.now path.now) store.old store.new result }
 {
     let Some(mut opened) = taken(alloc, store) else {
@@ -112,7 +106,6 @@ pub extern "C" fn ginlarch_file(
 /// Answers the body and the kind of the object that a revision gives.
 #[unsafe(no_mangle)]
 pub extern "C" fn ginlarch_object(alloc: Global, store: &mut Store, revision: &[u8]) -> u32
-    requires { IsStore store.old }
     ensures { Calls (called.Object revision.now) store.old store.new result }
 {
     let Some(mut opened) = taken(alloc, store) else {
@@ -125,7 +118,6 @@ pub extern "C" fn ginlarch_object(alloc: Global, store: &mut Store, revision: &[
 /// Answers the name of what a revision gives, in 40 digits, and its kind.
 #[unsafe(no_mangle)]
 pub extern "C" fn ginlarch_name(alloc: Global, store: &mut Store, revision: &[u8]) -> u32
-    requires { IsStore store.old }
     ensures { Calls (called.Name revision.now) store.old store.new result }
 {
     let Some(mut opened) = taken(alloc, store) else {
@@ -138,7 +130,6 @@ pub extern "C" fn ginlarch_name(alloc: Global, store: &mut Store, revision: &[u8
 /// Answers the entries of a revision's tree.
 #[unsafe(no_mangle)]
 pub extern "C" fn ginlarch_ls(alloc: Global, store: &mut Store, revision: &[u8]) -> u32
-    requires { IsStore store.old }
     ensures { Calls (called.Lists revision.now) store.old store.new result }
 {
     let Some(mut opened) = taken(alloc, store) else {
@@ -156,7 +147,6 @@ pub extern "C" fn ginlarch_commit(
     revision: &[u8],
     field: u32,
 ) -> u32
-    requires { IsStore store.old }
     ensures { Calls (called.Commit revision.now field) store.old store.new result }
 {
     let Some(mut opened) = taken(alloc, store) else {
@@ -174,7 +164,6 @@ pub extern "C" fn ginlarch_archive(
     revision: &[u8],
     prefix: &[u8],
 ) -> u32
-    requires { IsStore store.old }
     ensures { Calls (called.Archive revision.now prefix.now) store.old store.new result }
 {
     let Some(mut opened) = taken(alloc, store) else {
@@ -187,7 +176,6 @@ pub extern "C" fn ginlarch_archive(
 /// Answers the repository as a stream, each commit with all of its files.
 #[unsafe(no_mangle)]
 pub extern "C" fn ginlarch_export(alloc: Global, store: &mut Store) -> u32
-    requires { IsStore store.old }
     ensures { Calls called.Export store.old store.new result }
 {
     let Some(mut opened) = taken(alloc, store) else {
@@ -200,7 +188,6 @@ pub extern "C" fn ginlarch_export(alloc: Global, store: &mut Store) -> u32
 /// Answers the repository as a stream, each commit by what it changed, and where it is `closed` with `done` at its end.
 #[unsafe(no_mangle)]
 pub extern "C" fn ginlarch_changes(alloc: Global, store: &mut Store, closed: bool) -> u32
-    requires { IsStore store.old }
     ensures { Calls (called.Changes closed) store.old store.new result }
 {
     let Some(mut opened) = taken(alloc, store) else {

@@ -7,6 +7,7 @@ mod asking;
 mod calls;
 mod fields;
 mod growing;
+mod handing;
 mod held;
 mod importing;
 mod keys;
@@ -14,6 +15,8 @@ mod listing;
 mod opened;
 mod reading;
 mod store;
+#[cfg(test)]
+mod tests;
 mod writing;
 
 pub use answer::{Answer, Why};

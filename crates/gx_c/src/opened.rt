@@ -1,7 +1,7 @@
 //! A repository that is open.
 
 ghost use Rattle.std.specs.Prelude.{◌≡◌, IfSome};
-ghost use Rattle.gx_rev.specs.Views.{shown_range};
+ghost use Rattle.gx_model.specs.Revisions.{range_of};
 ghost use Rattle.gx_c.specs.Called as called;
 ghost use Rattle.gx_c.specs.Calls.{IsNew};
 
@@ -66,11 +66,7 @@ impl Opened {
     pub(crate) fn add_word(&mut self, alloc: Global, word: &[u8])
         ensures { called.Word word.now self.old self.new }
     {
-        let added = match Range::read(alloc, word) {
-            Ok(range) => push(&mut self.words, range),
-            Err(fault) => Err(fault),
-        };
-        self.answer = match added {
+        self.answer = match read_word(alloc, &mut self.words, word) {
             Ok(()) => Answer::given(Vec::new(alloc), 0),
             Err(fault) => Answer::refused(alloc, Why::Revision(fault), 0),
         };
@@ -93,11 +89,12 @@ impl Opened {
     }
 }
 
-/// Puts a range word behind the others, if there is memory for it.
-fn push(words: &mut Vec<Range<Global>>, word: Range<Global>) -> Result<(), RevFault>
-    ensures { called.Pushes (shown_range word) words.old.items words.new.items result }
+/// Puts the range word that a text gives behind others.
+fn read_word(alloc: Global, words: &mut Vec<Range<Global>>, word: &[u8]) -> Result<(), RevFault>
+    ensures { called.Adds (range_of word.now) words.old.items words.new.items result }
 {
-    match words.push(word) {
+    let range = Range::read(alloc, word)?;
+    match words.push(range) {
         Ok(()) => Ok(()),
         Err(_) => Err(RevFault::OutOfMemory),
     }

@@ -2,16 +2,16 @@
 
 ghost use Rattle.std.specs.Prelude.{◌≡◌, [], drop, length};
 ghost use Rattle.gx_c.specs.Answers.{word_of_why};
-ghost use Rattle.gx_c.specs.Calls.{Calls, IsCopied, IsStore, Reads};
+ghost use Rattle.gx_c.specs.Calls.{Calls, IsCopied, Reads};
 ghost use Rattle.gx_c.specs.Called as called;
 
-use crate::store::{CLOSED, Store, put_back, taken};
+use crate::handing::{put_back, taken};
+use crate::store::{CLOSED, Store};
 use std::alloc::Global;
 
 /// Puts a range word behind those that were given since the last walk.
 #[unsafe(no_mangle)]
 pub extern "C" fn ginlarch_word(alloc: Global, store: &mut Store, word: &[u8]) -> u32
-    requires { IsStore store.old }
     ensures { Calls (called.Word word.now) store.old store.new result }
 {
     let Some(mut opened) = taken(alloc, store) else {
@@ -24,7 +24,6 @@ pub extern "C" fn ginlarch_word(alloc: Global, store: &mut Store, word: &[u8]) -
 /// Answers the commits that the words list, and forgets the words.
 #[unsafe(no_mangle)]
 pub extern "C" fn ginlarch_walk(alloc: Global, store: &mut Store) -> u32
-    requires { IsStore store.old }
     ensures { Calls called.Walk store.old store.new result }
 {
     let Some(mut opened) = taken(alloc, store) else {
@@ -37,7 +36,6 @@ pub extern "C" fn ginlarch_walk(alloc: Global, store: &mut Store) -> u32
 /// Answers the changes of the commits that the words list as a stream, and forgets the words.
 #[unsafe(no_mangle)]
 pub extern "C" fn ginlarch_range(alloc: Global, store: &mut Store, closed: bool) -> u32
-    requires { IsStore store.old }
     ensures { Calls (called.Range closed) store.old store.new result }
 {
     let Some(mut opened) = taken(alloc, store) else {
@@ -50,7 +48,6 @@ pub extern "C" fn ginlarch_range(alloc: Global, store: &mut Store, closed: bool)
 /// How many bytes the last call answered.
 #[unsafe(no_mangle)]
 pub extern "C" fn ginlarch_length(alloc: Global, store: &mut Store) -> usize
-    requires { IsStore store.old }
     ensures { Reads (λ opened. result ≡ length opened.answer.bytes.items) (result ≡ 0) store.old store.new }
 {
     let Some(opened) = taken(alloc, store) else {
@@ -69,7 +66,6 @@ pub extern "C" fn ginlarch_read(
     from: usize,
     room: &mut [u8],
 ) -> usize
-    requires { IsStore store.old }
     ensures { Reads (λ opened. IsCopied (drop from opened.answer.bytes.items) room.old room.new result) (IsCopied [] room.old room.new result) store.old store.new }
 {
     let Some(opened) = taken(alloc, store) else {
@@ -83,7 +79,6 @@ pub extern "C" fn ginlarch_read(
 /// The number that the last call answered.
 #[unsafe(no_mangle)]
 pub extern "C" fn ginlarch_number(alloc: Global, store: &mut Store) -> u64
-    requires { IsStore store.old }
     ensures { Reads (λ opened. result ≡ opened.answer.number) (result ≡ 0) store.old store.new }
 {
     let Some(opened) = taken(alloc, store) else {
@@ -97,7 +92,6 @@ pub extern "C" fn ginlarch_number(alloc: Global, store: &mut Store) -> u64
 /// The count that the last call answered.
 #[unsafe(no_mangle)]
 pub extern "C" fn ginlarch_count(alloc: Global, store: &mut Store) -> u64
-    requires { IsStore store.old }
     ensures { Reads (λ opened. result ≡ opened.answer.count) (result ≡ 0) store.old store.new }
 {
     let Some(opened) = taken(alloc, store) else {
@@ -111,7 +105,6 @@ pub extern "C" fn ginlarch_count(alloc: Global, store: &mut Store) -> u64
 /// Copies the word of why the last call was refused, as far as there is room, and answers how many bytes that are.
 #[unsafe(no_mangle)]
 pub extern "C" fn ginlarch_why(alloc: Global, store: &mut Store, room: &mut [u8]) -> usize
-    requires { IsStore store.old }
     ensures { Reads (λ opened. IsCopied (word_of_why opened.answer.why) room.old room.new result) (IsCopied [] room.old room.new result) store.old store.new }
 {
     let Some(opened) = taken(alloc, store) else {

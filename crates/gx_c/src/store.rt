@@ -1,13 +1,8 @@
 //! What C holds of a repository.
 
-ghost use Rattle.std.specs.Prelude.{◌≡◌, Some, true};
-ghost use Rattle.gx_c.specs.Answers.{status_of};
-ghost use Rattle.gx_c.specs.Calls.{IsStore, Takes};
+ghost use Rattle.std.specs.Prelude.{◌≡◌, is_some};
 
-use crate::held::{Held, keep, none, take};
-use crate::opened::Opened;
-use std::alloc::Global;
-use std::mem::replace;
+use crate::held::Held;
 
 /// A call was accepted.
 pub(crate) const DONE: u32 = 0;
@@ -30,29 +25,5 @@ pub(crate) const OUT_OF_MEMORY: u32 = 4;
 pub struct Store {
     pub is_open: bool,
     pub held: Held,
-}
-
-/// Takes what a handle holds, and leaves it closed; nothing of one that isn't open.
-#[tactic(auto, using(crate::proofs::Handles::of_closed, crate::proofs::Handles::of_open))]
-pub(crate) fn taken(alloc: Global, store: &mut Store) -> Option<Box<Opened>>
-    requires { IsStore store.old }
-    ensures { Takes store.old store.new result }
-{
-    if !store.is_open {
-        return None;
-    }
-    store.is_open = false;
-    Some(take(alloc, replace(&mut store.held, none())))
-}
-
-/// Has a handle hold this, and answers the status of its last call.
-pub(crate) fn put_back(store: &mut Store, opened: Box<Opened>) -> u32
-    ensures open { store.new.is_open ≡ true }
-    ensures held { store.new.held.value ≡ Some opened.value }
-    ensures status { result ≡ status_of opened.value.answer.why }
-{
-    let status = opened.answer.why.status();
-    store.held = keep(opened);
-    store.is_open = true;
-    status
+    ghost tells: { is_some held.value ≡ is_open },
 }

@@ -18,6 +18,19 @@ const REFS: &[u8] = b"02d6adf1689e06135d2b4b4d471f1ae489887b53 refs/heads/main\n
 const COMMIT: &[u8] =
     b"tree d8329fc1cc938780ffdd9f94e0d364e0ea74f579\nauthor A <a@x> 1 +0000\ncommitter A <a@x> 1 +0000\n\nv1";
 
+/// As `git ls-tree -z main` has it.
+const LISTED: &[u8] = b"100644 blob 83baae61804e65cc73a7201a7252750c76066a30\ttest.txt\0";
+
+/// The number of a field of that commit, and its text.
+const FIELDS: [(u32, &[u8]); 6] = [
+    (0, b"d8329fc1cc938780ffdd9f94e0d364e0ea74f579"),
+    (1, b""),
+    (2, b"A <a@x> 1 +0000"),
+    (3, b"A <a@x> 1 +0000"),
+    (4, b""),
+    (5, b"v1"),
+];
+
 /// The name of git's archive of `main` with the prefix `p/`, as a blob's.
 const ARCHIVE: &[u8] = b"1e1682bdf8ec802579df1fc39c063c0a5a945eae";
 
@@ -96,6 +109,25 @@ fn questions_are_answered_as_by_git(rt: HostRuntime) -> Result<(), Fail> {
     let count = answered(alloc, &mut store, &mut room);
     let archive = Sha1Namer.name(Kind::Blob, room.get(..count).unwrap_or(b""));
     assert!(rt; archive.hex().as_slice() == ARCHIVE, "archive");
+    ginlarch_close(alloc, &mut store);
+    Ok(())
+}
+
+#[test]
+fn trees_and_commits_are_told_as_by_git(rt: HostRuntime) -> Result<(), Fail> {
+    let alloc = rt.alloc();
+    let mut store = imported(alloc, STREAM, true);
+    let status = ginlarch_ls(alloc, &mut store, b"main");
+    assert!(rt; gives(alloc, &mut store, status, LISTED, 0), "ls");
+    for (number, text) in FIELDS {
+        let status = ginlarch_commit(alloc, &mut store, b"main", number);
+        assert!(rt; gives(alloc, &mut store, status, text, 0), "field {number}");
+    }
+    let status = ginlarch_commit(alloc, &mut store, b"gone", 6);
+    assert!(rt;
+        refuses(alloc, &mut store, status, b"UnknownField"),
+        "no field"
+    );
     ginlarch_close(alloc, &mut store);
     Ok(())
 }

@@ -55,3 +55,8 @@ Reads IsSo IsClosed old new = ReadsSo IsSo IsClosed old.held.value × (new.held.
 pub record IsCopied (text old new : Bytes) (count : ℕ) : Type 0 where
   pub number : count ≡ min (length text) (length old)
   pub bytes : new ≡ take count text ++ drop count old
+
+-- This text of what an open handle holds is copied, and of a closed one nothing. Neither changes.
+abbrev pub Copies : (Opened → Bytes) → Bytes → Bytes → ℕ → Store → Store → Type 0
+Copies text_of room_was room count old new =
+    Reads (λ opened. IsCopied (text_of opened) room_was room count) (IsCopied [] room_was room count) old new

@@ -1,4 +1,5 @@
-//! The calls of C that open and close a handle, or ask something of its repository. Each has its sentence in include/ginlarch.h.
+//! The calls of C that open and close a handle, or ask something of its repository. Each has its sentence in
+//! include/ginlarch.h.
 
 ghost use Rattle.std.specs.Prelude.{◌≡◌};
 ghost use Rattle.gx_c.specs.Calls.{Calls, Closes, Opens};
@@ -44,7 +45,8 @@ pub extern "C" fn ginlarch_load(alloc: Global, store: &mut Store, text: &[u8]) -
     put_back(store, opened)
 }
 
-/// Imports a stream, which with `done` has to end with the command `done`, and which with `force` may take commits from a branch.
+/// Imports a stream, which with `done` has to end with the command `done`, and which with `force` may take commits from
+/// a branch.
 #[unsafe(no_mangle)]
 pub extern "C" fn ginlarch_import(
     alloc: Global,

@@ -4,7 +4,8 @@ use std::hash::RandomState;
 use std::io;
 use std::random::RandomSource;
 
-/// The keys of hashes, as they come from who opens a store. They decide how fast a look-up is, and nothing of what is answered.
+/// The keys of hashes, as they come from who opens a store. They decide how fast a look-up is, and nothing of what is
+/// answered.
 #[derive(Drop)]
 struct Keys<'a> {
     bytes: &'a [u8],

@@ -1,4 +1,4 @@
-//! A library that any language can call: repositories in memory behind a handle, over the C calls of include/ginlarch.h.
+//! A library that any language can call: repositories in memory behind a handle, over the calls of include/ginlarch.h.
 //! What a call answers is what the functions below it answer; only the handle's pointer is proved by hand.
 #![tactic(auto)]
 

@@ -28,7 +28,8 @@ pub struct Opened {
 }
 
 impl Opened {
-    /// One of no objects and no refs, if there is memory for it. Its hashes are keyed by the first sixteen of these bytes.
+    /// One of no objects and no refs, if there is memory for it. Its hashes are keyed by the first sixteen of these
+    /// bytes.
     pub(crate) fn new(alloc: Global, key: &[u8]) -> Option<Box<Opened>>
         ensures { IfSome result (λ opened. IsNew opened.value) }
     {

@@ -1,8 +1,8 @@
 //! The calls of C that give range words, and those that read what the last call answered.
 
-ghost use Rattle.std.specs.Prelude.{◌≡◌, [], drop, length};
+ghost use Rattle.std.specs.Prelude.{◌≡◌, drop, length};
 ghost use Rattle.gx_c.specs.Answers.{word_of_why};
-ghost use Rattle.gx_c.specs.Calls.{Calls, IsCopied, Reads};
+ghost use Rattle.gx_c.specs.Calls.{Calls, Copies, IsCopied, Reads};
 ghost use Rattle.gx_c.specs.Called as called;
 
 use crate::handing::{put_back, taken};
@@ -58,7 +58,8 @@ pub extern "C" fn ginlarch_length(alloc: Global, store: &mut Store) -> usize
     length
 }
 
-/// Copies what the last call answered, from a place on, as far as it goes and there is room, and answers how many bytes that are.
+/// Copies what the last call answered, from a place on, as far as it goes and there is room, and answers how many bytes
+/// that are.
 #[unsafe(no_mangle)]
 pub extern "C" fn ginlarch_read(
     alloc: Global,
@@ -66,7 +67,7 @@ pub extern "C" fn ginlarch_read(
     from: usize,
     room: &mut [u8],
 ) -> usize
-    ensures { Reads (λ opened. IsCopied (drop from opened.answer.bytes.items) room.old room.new result) (IsCopied [] room.old room.new result) store.old store.new }
+    ensures { Copies (λ opened. drop from opened.answer.bytes.items) room.old room.new result store.old store.new }
 {
     let Some(opened) = taken(alloc, store) else {
         return 0;
@@ -105,7 +106,7 @@ pub extern "C" fn ginlarch_count(alloc: Global, store: &mut Store) -> u64
 /// Copies the word of why the last call was refused, as far as there is room, and answers how many bytes that are.
 #[unsafe(no_mangle)]
 pub extern "C" fn ginlarch_why(alloc: Global, store: &mut Store, room: &mut [u8]) -> usize
-    ensures { Reads (λ opened. IsCopied (word_of_why opened.answer.why) room.old room.new result) (IsCopied [] room.old room.new result) store.old store.new }
+    ensures { Copies (λ opened. word_of_why opened.answer.why) room.old room.new result store.old store.new }
 {
     let Some(opened) = taken(alloc, store) else {
         return 0;

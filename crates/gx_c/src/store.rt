@@ -19,7 +19,8 @@ pub(crate) const IN_USE: u32 = 3;
 /// There was no memory for what a handle holds.
 pub(crate) const OUT_OF_MEMORY: u32 = 4;
 
-/// A handle: whether it is open, and what it holds then. Who calls makes it of zeros, and changes it by these calls alone.
+/// A handle: whether it is open, and what it holds then. Who calls makes it of zeros, and changes it by these calls
+/// alone.
 #[repr(C)]
 #[derive(Drop)]
 pub struct Store {

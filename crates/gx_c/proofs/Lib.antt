@@ -1,3 +1,4 @@
+pub mod Calling
 pub mod Handles
 pub mod Places
 pub mod Pointers

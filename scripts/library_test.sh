@@ -1,6 +1,6 @@
 #!/usr/bin/env bash
-# Tests the built library: the examples in C and Rust, calls at random under a checker of addresses and under valgrind, and the Python module
-# against git. What isn't installed is said and left out: valgrind, cargo.
+# Tests the built library: the examples in C and Rust, calls at random under a checker of addresses and under valgrind, each allocation failing in
+# turn, and the Python module against git. What isn't installed is said and left out: valgrind, cargo.
 #   scripts/library_test.sh [SEED]
 set -euo pipefail
 root=$(cd "$(dirname "$0")/.." && pwd)
@@ -40,6 +40,11 @@ if command -v valgrind > /dev/null; then
   valgrind -q --error-exitcode=1 --leak-check=full --errors-for-leak-kinds=all "$work/fuzz-plain" "$seed" 1000
 fi
 
+# each allocation fails in turn
+compile -fsanitize=address,undefined -fno-sanitize-recover=undefined -Wl,--wrap=malloc -Wl,--wrap=realloc \
+  -o "$work/memory" "$root/scripts/library/memory.c" "$work/libginlarch.a"
+"$work/memory"
+
 # the example in Rust
 if command -v cargo > /dev/null; then
   (cd "$root/examples/rust" && RUSTFLAGS="-L $work" cargo build -q --offline --target-dir "$work/target")
@@ -50,4 +55,4 @@ fi
 
 # the Python module
 GINLARCH_LIBRARY=$work/libginlarch.so python3 "$root/scripts/library/test_ginlarch.py" > "$work/tested" 2>&1 || { cat "$work/tested" >&2; exit 1; }
-echo 'the library: examples, calls at random and the Python module'
+echo 'the library: examples, calls at random, want of memory and the Python module'

@@ -168,7 +168,7 @@ def page_of_file(file):
 def made():
     text = []
     for line in (TOP / "crates.txt").read_text().splitlines():
-        crate = line.split(":")[0]
+        crate = line.split(":")[0].split()[0]
         if (TOP / "crates" / crate / "specs" / "Lib.antt").exists():
             text += ["", f"## {crate}"]
             text += [line for file in files_of(crate) for line in page_of_file(file)]

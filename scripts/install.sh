@@ -1,20 +1,25 @@
 #!/usr/bin/env bash
-# Installs the built program, git-remote-gx, their manuals and the completions of bash and zsh, or removes these six files again.
-#   scripts/install.sh [--uninstall]
+# Installs the built program, git-remote-gx, their manuals and the completions of bash and zsh, or removes these six files again; or the built
+# library with its header and the Python module.
+#   scripts/install.sh [--library] [--uninstall]
 # Variables of the environment say where, as `scripts/install.sh --help` tells.
 set -euo pipefail
 root=$(cd "$(dirname "$0")/.." && pwd)
 prefix=${PREFIX:-/usr/local}
 program=${GX:-$root/crates/gx/out/gx}
 stamped=''
+made=''
 
 usage() {
   cat << 'END'
-usage: scripts/install.sh [--uninstall | --help]
+usage: scripts/install.sh [--library] [--uninstall]
+       scripts/install.sh --help
 
 Installs the built program gx, the script git-remote-gx by which git has stores as
 remotes, their manuals and the completions of bash and zsh.
---uninstall removes these six files, and leaves all folders.
+With --library it installs libginlarch in place of these: the static and the shared
+library, the header, the file for pkg-config and the Python module. --uninstall
+removes what was installed so, and leaves all folders.
 
 Variables of the environment that say where, each with what it is by itself:
   PREFIX             /usr/local
@@ -22,6 +27,9 @@ Variables of the environment that say where, each with what it is by itself:
   MANDIR             PREFIX/share/man, with the manuals in its folder man1
   BASHCOMPLETIONDIR  PREFIX/share/bash-completion/completions
   ZSHCOMPLETIONDIR   PREFIX/share/zsh/site-functions
+  LIBDIR             PREFIX/lib, with the libraries and pkgconfig/ginlarch.pc
+  INCLUDEDIR         PREFIX/include
+  PYTHONDIR          PREFIX/lib/python3/dist-packages, with the folder ginlarch
   DESTDIR            empty; put in front of all of these, to make a package
   GX                 the program to install, crates/gx/out/gx
   COMMIT             the commit that gx --version tells, in 40 digits; that of
@@ -42,6 +50,33 @@ for_each_file() {
   "$1" 644 "$root/docs/git-remote-gx.1" "${MANDIR:-$prefix/share/man}/man1/git-remote-gx.1"
   "$1" 644 "$root/completions/gx.bash" "${BASHCOMPLETIONDIR:-$prefix/share/bash-completion/completions}/gx"
   "$1" 644 "$root/completions/_gx" "${ZSHCOMPLETIONDIR:-$prefix/share/zsh/site-functions}/_gx"
+}
+
+# the same of the files of the library, which were made in a folder
+for_each_library_file() {
+  local library=${LIBDIR:-$prefix/lib} python=${PYTHONDIR:-$prefix/lib/python3/dist-packages}
+  "$1" 644 "$made/libginlarch.a" "$library/libginlarch.a"
+  "$1" 755 "$made/libginlarch.so" "$library/libginlarch.so.1"
+  "$1" 755 "$made/libginlarch.so" "$library/libginlarch.so"
+  "$1" 644 "$made/ginlarch.pc" "$library/pkgconfig/ginlarch.pc"
+  "$1" 644 "$root/include/ginlarch.h" "${INCLUDEDIR:-$prefix/include}/ginlarch.h"
+  for module in __init__ calls faults; do
+    "$1" 644 "$root/python/ginlarch/$module.py" "$python/ginlarch/$module.py"
+  done
+}
+
+make_library() {
+  "$root/scripts/library.sh" "$made" > /dev/null
+  cat > "$made/ginlarch.pc" << END
+libdir=${LIBDIR:-$prefix/lib}
+includedir=${INCLUDEDIR:-$prefix/include}
+
+Name: ginlarch
+Description: The proved core of a Git repository
+Version: 1.0.0
+Libs: -L\${libdir} -lginlarch
+Cflags: -I\${includedir}
+END
 }
 
 # before anything is done: DESTDIR stands in front of whole paths alone
@@ -79,6 +114,18 @@ remove_file() {
     echo "removed $file" >&2
   fi
 }
+
+if [ "${1:-}" = --library ]; then
+  made=$(mktemp -d)
+  trap 'rm -rf "$made"' EXIT
+  for_each_library_file want_whole_path
+  case $#:${2:-} in
+    1:) make_library && for_each_library_file install_file ;;
+    2:--uninstall) for_each_library_file remove_file ;;
+    *) usage >&2 && exit 2 ;;
+  esac
+  exit
+fi
 
 case $#:${1:-} in
   0:)

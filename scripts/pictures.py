@@ -37,6 +37,7 @@ def draw(picture):
 def crates():
     """Each crate of this repository with those that it stands on, without what these stand on."""
     lines = [line.split(":") for line in (TOP / "crates.txt").read_text().splitlines()]
+    lines = [(front.split()[0], behind) for front, behind in lines]
     names = {line[0] for line in lines}
     stands = {line[0]: {name for name in line[1].split() if name in names} for line in lines}
 

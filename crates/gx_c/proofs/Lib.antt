@@ -1,0 +1,5 @@
+pub mod Calling
+pub mod Handles
+pub mod Places
+pub mod Pointers
+pub mod Walks

@@ -1,0 +1,102 @@
+//! A repository that is open.
+
+ghost use Rattle.std.specs.Prelude.{◌≡◌, IfSome};
+ghost use Rattle.gx_model.specs.Revisions.{range_of};
+ghost use Rattle.gx_c.specs.Called as called;
+ghost use Rattle.gx_c.specs.Calls.{IsNew};
+
+use crate::answer::{Answer, Why};
+use crate::asking::commits;
+use crate::importing::import;
+use crate::keys::hashing_state;
+use crate::writing::range;
+use gx_file::read;
+use gx_object::Sha1Namer;
+use gx_repo::Repo;
+use gx_rev::{Range, RevFault};
+use std::alloc::Global;
+use std::hash::RandomState;
+use std::mem::replace;
+
+/// A repository, the range words that were given for the next walk, and what the last call answered.
+#[derive(Drop)]
+pub struct Opened {
+    pub repo: Repo<Sha1Namer, Global>,
+    pub state: RandomState,
+    pub words: Vec<Range<Global>>,
+    pub answer: Answer<Global>,
+}
+
+impl Opened {
+    /// One of no objects and no refs, if there is memory for it. Its hashes are keyed by the first sixteen of these
+    /// bytes.
+    pub(crate) fn new(alloc: Global, key: &[u8]) -> Option<Box<Opened>>
+        ensures { IfSome result (λ opened. IsNew opened.value) }
+    {
+        let state = hashing_state(key).ok()?;
+        let opened = Opened {
+            repo: Repo::new(alloc, Sha1Namer, state),
+            state,
+            words: Vec::new(alloc),
+            answer: Answer::given(Vec::new(alloc), 0),
+        };
+        Box::new(alloc, opened).ok()
+    }
+
+    /// Replaces the repository by that of a store text; where the text is refused it stays.
+    pub(crate) fn load(&mut self, alloc: Global, text: &[u8])
+        ensures { called.Loads text.now self.old self.new }
+    {
+        match read(alloc, Sha1Namer, text, self.state) {
+            Ok(repo) => {
+                self.repo = repo;
+                self.answer = Answer::given(Vec::new(alloc), 0);
+            }
+            Err(fault) => self.answer = Answer::refused(alloc, Why::Store(fault), 0),
+        }
+    }
+
+    /// Imports a stream.
+    pub(crate) fn import(&mut self, alloc: Global, stream: &[u8], done: bool, force: bool)
+        ensures { called.Imports done force stream.now self.old self.new }
+    {
+        self.answer = import(alloc, &mut self.repo, stream, done, force);
+    }
+
+    /// Puts a range word behind the others.
+    pub(crate) fn add_word(&mut self, alloc: Global, word: &[u8])
+        ensures { called.Word word.now self.old self.new }
+    {
+        self.answer = match read_word(alloc, &mut self.words, word) {
+            Ok(()) => Answer::given(Vec::new(alloc), 0),
+            Err(fault) => Answer::refused(alloc, Why::Revision(fault), 0),
+        };
+    }
+
+    /// Walks from the words, and forgets them.
+    pub(crate) fn walk(&mut self, alloc: Global)
+        ensures { called.Walk self.old self.new }
+    {
+        let words = replace(&mut self.words, Vec::new(alloc));
+        self.answer = commits(alloc, &self.repo, &words);
+    }
+
+    /// Exports the changes of what the words list, and forgets them.
+    pub(crate) fn export_range(&mut self, alloc: Global, closed: bool)
+        ensures { called.Range closed self.old self.new }
+    {
+        let words = replace(&mut self.words, Vec::new(alloc));
+        self.answer = range(alloc, &self.repo, &words, closed);
+    }
+}
+
+/// Puts the range word that a text gives behind others.
+fn read_word(alloc: Global, words: &mut Vec<Range<Global>>, word: &[u8]) -> Result<(), RevFault>
+    ensures { called.Adds (range_of word.now) words.old.items words.new.items result }
+{
+    let range = Range::read(alloc, word)?;
+    match words.push(range) {
+        Ok(()) => Ok(()),
+        Err(_) => Err(RevFault::OutOfMemory),
+    }
+}

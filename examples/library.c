@@ -1,0 +1,30 @@
+/* Imports a stream from standard input, and writes a file of a revision: library REVISION PATH < STREAM */
+#include <ginlarch.h>
+#include <stdio.h>
+#include <stdlib.h>
+#include <string.h>
+
+static int refuse(ginlarch_store *store) {
+    uint8_t word[64];
+    size_t length = ginlarch_why(store, word, sizeof word);
+    fprintf(stderr, "refused: %.*s\n", (int)length, (char *)word);
+    ginlarch_close(store);
+    return 1;
+}
+
+int main(int argc, char **argv) {
+    static uint8_t stream[1 << 24], room[1 << 16], key[16];
+    FILE *random = fopen("/dev/urandom", "rb");
+    if (argc != 3 || !random || fread(key, 1, sizeof key, random) != sizeof key) return 2;
+    fclose(random);
+    size_t length = fread(stream, 1, sizeof stream, stdin);
+    ginlarch_store store = GINLARCH_CLOSED_STORE;
+    if (ginlarch_open(&store, key, sizeof key) != GINLARCH_DONE) return 2;
+    if (ginlarch_import(&store, stream, length, true, false) != GINLARCH_DONE) return refuse(&store);
+    if (ginlarch_file(&store, (uint8_t *)argv[1], strlen(argv[1]), (uint8_t *)argv[2], strlen(argv[2])) != GINLARCH_DONE)
+        return refuse(&store);
+    for (size_t at = 0, count; (count = ginlarch_read(&store, at, room, sizeof room)) != 0; at += count)
+        fwrite(room, 1, count, stdout);
+    ginlarch_close(&store);
+    return 0;
+}

@@ -1,0 +1,351 @@
+"""Ginlarch from Python: repositories of git, held in memory and kept in one file.
+
+    from ginlarch import Repository
+    repository = Repository.open("hello.gx")
+    print(repository.refs["refs/heads/main"])
+    print(repository.file("main", "doc/README").decode())
+
+It needs the shared library libginlarch.so, which is looked for beside this file, then where the variable
+GINLARCH_LIBRARY says, then where the system has libraries. Nothing else is needed but Python 3.8.
+"""
+import fcntl
+import os
+import stat
+from dataclasses import dataclass
+from typing import BinaryIO, Dict, Iterator, List, NamedTuple, Optional, Tuple, Union
+
+from . import calls
+from .faults import Closed, Refused
+
+__all__ = ["Closed", "Commit", "Entry", "File", "Object", "Refused", "Report", "Repository", "StoreChanged"]
+
+Text = Union[str, bytes]
+
+
+class StoreChanged(Exception):
+    """The store file isn't the one that was opened any more, so it wasn't replaced."""
+
+
+class Object(NamedTuple):
+    """An object: `commit`, `tree`, `blob` or `tag`, its name in 40 digits, and its body."""
+
+    kind: str
+    name: str
+    body: bytes
+
+
+class File(NamedTuple):
+    """A file: its mode, as 0o100644, and its bytes. Those of a submodule are its 40 digits."""
+
+    mode: int
+    data: bytes
+
+
+class Entry(NamedTuple):
+    """An entry of a tree: its mode, as 0o100644, its kind and name, and its path from where the listing began."""
+
+    mode: int
+    kind: str
+    name: str
+    path: str
+
+
+@dataclass(frozen=True)
+class Commit:
+    """A commit: the names of its tree and its parents, and its texts. The encoding is that of the message, where one is told.
+
+    The author and the committer are `NAME <EMAIL> SECONDS ZONE`.
+    """
+
+    tree: str
+    parents: Tuple[str, ...]
+    author: bytes
+    committer: bytes
+    encoding: Optional[str]
+    message: bytes
+
+
+class Report(NamedTuple):
+    """What an import did: its commands, the new objects, and the lines of `progress`."""
+
+    commands: int
+    objects: int
+    progress: bytes
+
+
+def _bytes(text: Text) -> bytes:
+    return text.encode("utf-8", "surrogateescape") if isinstance(text, str) else bytes(text)
+
+
+def _text(data: bytes) -> str:
+    return data.decode("utf-8", "surrogateescape")
+
+
+def _entry(listed: bytes) -> Entry:
+    head, path = listed.split(b"\t", 1)
+    mode, kind, name = head.decode("ascii").split(" ")
+    return Entry(int(mode, 8), kind, name, _text(path))
+
+
+class Repository:
+    """A repository in memory. It is closed by `close`, at the end of a `with`, and with its last reference.
+
+    Revisions and range words are those of gitrevisions(7), as text or bytes. A call that is refused raises
+    the subclass of `Refused` that is named after the fault; docs/FAULTS.md has the list.
+    """
+
+    def __init__(self) -> None:
+        """An empty repository."""
+        self._path: Optional[str] = None
+        self._stamp: Optional[tuple] = None
+        self._handle = calls.Handle()
+
+    @classmethod
+    def open(cls, path: Union[str, os.PathLike]) -> "Repository":
+        """The repository of a store file. OSError: it can't be read."""
+        repository = cls()
+        try:
+            with open(path, "rb") as file:
+                stamp = _stamp(os.fstat(file.fileno()))
+                repository._handle.ask("load", file.read())
+        except BaseException:
+            repository.close()
+            raise
+        repository._path, repository._stamp = os.fspath(path), stamp
+        return repository
+
+    @classmethod
+    def from_bytes(cls, text: bytes) -> "Repository":
+        """The repository of a store file's bytes."""
+        repository = cls()
+        try:
+            repository._handle.ask("load", text)
+        except BaseException:
+            repository.close()
+            raise
+        return repository
+
+    def close(self) -> None:
+        """Frees the repository. What is asked of it afterwards raises `Closed`."""
+        self._handle.close()
+
+    def __enter__(self) -> "Repository":
+        return self
+
+    def __exit__(self, *_: object) -> None:
+        self.close()
+
+    def import_stream(self, stream: Union[bytes, BinaryIO], done: bool = False, force: bool = False) -> Report:
+        """Imports a git-fast-import(1) stream, given as bytes or as a file that is read to its end.
+
+        With `done` it has to end with the command `done`, so that one that was cut off is refused. With
+        `force` branches may lose commits. Refused, the repository is as its last checkpoint left it.
+        """
+        data = stream if isinstance(stream, (bytes, bytearray, memoryview)) else stream.read()
+        answer = self._handle.ask("import", bytes(data), bool(done), bool(force))
+        return Report(answer.number, answer.count, answer.data)
+
+    def __getitem__(self, revision: Text) -> Object:
+        """The object that a revision gives, as `git cat-file` shows it."""
+        name = self.name(revision)
+        answer = self._handle.ask("object", _bytes(revision))
+        return Object(calls.KINDS[answer.number], name, answer.data)
+
+    def name(self, revision: Text) -> str:
+        """The name of what a revision gives, as `git rev-parse` prints it."""
+        return self._handle.ask("name", _bytes(revision)).data.decode("ascii")
+
+    def commit(self, revision: Text) -> Commit:
+        """The commit that a revision gives; of a tag, the commit that it names."""
+        tree, parents, author, committer, encoding, message = (
+            self._handle.ask("commit", _bytes(revision), field).data for field in range(6)
+        )
+        names = tuple(parents.decode("ascii").split())
+        return Commit(tree.decode("ascii"), names, author, committer, _text(encoding) or None, message)
+
+    def ls(self, revision: Text, recursive: bool = False) -> List[Entry]:
+        """The entries of a revision's tree, as `git ls-tree` lists them; or all of its files, as with `-r`."""
+        return list(self._files_below(revision)) if recursive else self._entries(revision)
+
+    def _entries(self, revision: Text) -> List[Entry]:
+        return [_entry(listed) for listed in self._handle.ask("ls", _bytes(revision)).data.split(b"\0")[:-1]]
+
+    def _files_below(self, revision: Text) -> Iterator[Entry]:
+        below = [("", iter(self._entries(revision)))]
+        while below:
+            front, rest = below[-1]
+            entry = next(rest, None)
+            if entry is None:
+                below.pop()
+            elif entry.kind == "tree":
+                below.append((front + entry.path + "/", iter(self._entries(entry.name))))
+            else:
+                yield entry._replace(path=front + entry.path)
+
+    def file(self, revision: Text, path: Text) -> bytes:
+        """The bytes of the file at a path in a revision's tree."""
+        return self.entry(revision, path).data
+
+    def entry(self, revision: Text, path: Text) -> File:
+        """The mode and the bytes of that file."""
+        answer = self._handle.ask("file", _bytes(revision), _bytes(path))
+        return File(answer.number, answer.data)
+
+    def log(self, *words: Text) -> List[str]:
+        """The names of the commits that range words list, the newest made first: `log("v1..main")`."""
+        self._add_words(words)
+        return self._handle.ask("walk").data.decode("ascii").split()
+
+    @property
+    def refs(self) -> Dict[str, str]:
+        """The refs: their names with the names of their objects."""
+        return {_text(name): digits.decode("ascii") for digits, name in self._ref_lines()}
+
+    def _ref_lines(self) -> Iterator[List[bytes]]:
+        return (line.split(b" ", 1) for line in self._handle.ask("refs").data.split(b"\n") if line)
+
+    def export(self, file: Optional[BinaryIO] = None, *words: Text, changes: bool = True, done: bool = True) -> bytes:
+        """The repository as a stream for `git fast-import`, which is written to a file where one is given.
+
+        With `changes` a commit has what it changed, and otherwise all of its files. Range words export the
+        changes of the commits that they list. Without `done` the stream has no `done` at its end.
+        """
+        if words:
+            self._add_words(words)
+            stream = self._handle.ask("range", bool(done)).data
+        elif changes:
+            stream = self._handle.ask("changes", bool(done)).data
+        else:
+            stream = self._handle.ask("export").data
+        if file is not None:
+            file.write(stream)
+        return stream
+
+    def archive(self, revision: Text, prefix: Text = b"") -> bytes:
+        """The tree of a revision as a tar archive, byte for byte that of `git archive`."""
+        return self._handle.ask("archive", _bytes(revision), _bytes(prefix)).data
+
+    def to_bytes(self) -> bytes:
+        """The bytes of a store file of the repository (docs/STORE.md)."""
+        return self._handle.ask("text").data
+
+    def save(self, path: Union[None, str, os.PathLike] = None) -> None:
+        """Writes the store file, or that at a path; it is replaced as a whole or stays as it was.
+
+        As `gx` does, it makes and locks FILE.new, writes it, and renames it over FILE. Where the file that
+        was opened is another one by now, it raises `StoreChanged`. A new file isn't put over one that is there.
+        """
+        target = self._path if path is None else os.fspath(path)
+        if target is None:
+            raise ValueError("this repository was opened from no file")
+        expected = self._stamp if target == self._path else None
+        self._stamp = _replace(os.path.realpath(target), self.to_bytes(), expected)
+        self._path = target
+
+    def _add_words(self, words: tuple) -> None:
+        try:
+            for word in words:
+                self._handle.ask("word", _bytes(word))
+        except Refused:
+            # a walk uses up those before it
+            self._handle.ask("walk")
+            raise
+
+
+def _stamp(found: os.stat_result) -> tuple:
+    """Which file it was, and as of when."""
+    return (found.st_dev, found.st_ino, found.st_size, found.st_mtime_ns)
+
+
+def _look(path: str) -> Optional[os.stat_result]:
+    try:
+        return os.stat(path)
+    except FileNotFoundError:
+        return None
+
+
+def _replace(path: str, text: bytes, expected: Optional[tuple]) -> tuple:
+    """Puts a text into a file's place, under the lock that `gx` takes."""
+    beside = path + ".new"
+    held = _claim(beside, 0o666 if expected is None else 0o600)
+    try:
+        found = _look(path)
+        if (None if found is None else _stamp(found)) != expected:
+            raise StoreChanged(path)
+        if found is not None:
+            _give_rights(held, found)
+        _write(held, text)
+        stamp = _stamp(os.fstat(held))
+        os.rename(beside, path)
+    except BaseException:
+        os.unlink(beside)
+        raise
+    finally:
+        os.close(held)
+    _sync_folder(os.path.dirname(path) or ".")
+    return stamp
+
+
+def _claim(path: str, mode: int) -> int:
+    """Makes and locks the file. One that another run holds is waited for, and one that it left is removed."""
+    while True:
+        try:
+            held = os.open(path, os.O_WRONLY | os.O_CREAT | os.O_EXCL | os.O_CLOEXEC, mode)
+        except FileExistsError:
+            _remove_left_over(path)
+            continue
+        fcntl.flock(held, fcntl.LOCK_EX)
+        if _names(path, held):
+            return held
+        os.close(held)
+
+
+def _remove_left_over(path: str) -> None:
+    try:
+        left = os.open(path, os.O_RDWR | os.O_NOFOLLOW | os.O_CLOEXEC)
+    except FileNotFoundError:
+        return
+    try:
+        if not stat.S_ISREG(os.fstat(left).st_mode):
+            raise FileExistsError(path)
+        fcntl.flock(left, fcntl.LOCK_EX)
+        if _names(path, left):
+            os.unlink(path)
+    finally:
+        os.close(left)
+
+
+def _names(path: str, opened: int) -> bool:
+    """Whether a path, with no link followed, names an open file."""
+    try:
+        named = os.lstat(path)
+    except FileNotFoundError:
+        return False
+    found = os.fstat(opened)
+    return (named.st_dev, named.st_ino) == (found.st_dev, found.st_ino)
+
+
+def _give_rights(held: int, found: os.stat_result) -> None:
+    """The new file gets the group and the permissions of the one that it replaces, as far as that may be done."""
+    mode = stat.S_IMODE(found.st_mode)
+    if found.st_uid != os.fstat(held).st_uid or found.st_gid != os.fstat(held).st_gid:
+        try:
+            os.fchown(held, found.st_uid, found.st_gid)
+        except PermissionError:
+            mode &= ~0o070
+    os.fchmod(held, mode)
+
+
+def _write(held: int, text: bytes) -> None:
+    with os.fdopen(os.dup(held), "wb") as file:
+        file.write(text)
+        file.flush()
+        os.fsync(file.fileno())
+
+
+def _sync_folder(path: str) -> None:
+    folder = os.open(path, os.O_RDONLY | os.O_DIRECTORY)
+    try:
+        os.fsync(folder)
+    finally:
+        os.close(folder)

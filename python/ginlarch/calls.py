@@ -1,0 +1,131 @@
+"""The calls of libginlarch, by ctypes. include/ginlarch.h tells what each does."""
+import ctypes
+import ctypes.util
+import os
+import threading
+from typing import List, NamedTuple, Union
+
+from .faults import Closed, refusal
+
+#: The kinds of objects by their numbers.
+KINDS = {1: "commit", 2: "tree", 3: "blob", 4: "tag"}
+
+_DONE, _REFUSED, _CLOSED, _IN_USE, _OUT_OF_MEMORY = range(5)
+
+
+class _Store(ctypes.Structure):
+    _fields_ = [("is_open", ctypes.c_bool), ("held", ctypes.c_void_p)]
+
+
+def _load() -> ctypes.CDLL:
+    beside = os.path.join(os.path.dirname(os.path.abspath(__file__)), "libginlarch.so")
+    places = [beside, os.environ.get("GINLARCH_LIBRARY"), ctypes.util.find_library("ginlarch"), "libginlarch.so"]
+    for place in places:
+        if place and (not os.path.isabs(place) or os.path.exists(place)):
+            try:
+                return ctypes.CDLL(place)
+            except OSError:
+                continue
+    raise ImportError("libginlarch.so isn't there; scripts/install.sh installs it, or GINLARCH_LIBRARY names it")
+
+
+_library = _load()
+
+_store = ctypes.POINTER(_Store)
+_text = [ctypes.c_char_p, ctypes.c_size_t]
+_flag = [ctypes.c_bool]
+
+_ARGUMENTS = {
+    "open": _text,
+    "load": _text,
+    "text": [],
+    "import": _text + _flag + _flag,
+    "refs": [],
+    "file": _text + _text,
+    "object": _text,
+    "name": _text,
+    "word": _text,
+    "walk": [],
+    "ls": _text,
+    "commit": _text + [ctypes.c_uint32],
+    "archive": _text + _text,
+    "export": [],
+    "changes": _flag,
+    "range": _flag,
+}
+
+
+def _call(name: str, result: object, arguments: List[object]) -> object:
+    call = getattr(_library, "ginlarch_" + name)
+    call.restype = result
+    call.argtypes = [_store] + arguments
+    return call
+
+
+_CALLS = {name: _call(name, ctypes.c_uint32, arguments) for name, arguments in _ARGUMENTS.items()}
+_close = _call("close", None, [])
+_length = _call("length", ctypes.c_size_t, [])
+_read = _call("read", ctypes.c_size_t, [ctypes.c_size_t, ctypes.c_char_p, ctypes.c_size_t])
+_number = _call("number", ctypes.c_uint64, [])
+_count = _call("count", ctypes.c_uint64, [])
+_why = _call("why", ctypes.c_size_t, [ctypes.c_char_p, ctypes.c_size_t])
+
+
+class Answer(NamedTuple):
+    """What a call answered."""
+
+    data: bytes
+    number: int
+    count: int
+
+
+class Handle:
+    """A handle on a repository, which stays on the thread that made it."""
+
+    def __init__(self) -> None:
+        self._store = _Store()
+        self._thread = threading.get_ident()
+        self.ask("open", os.urandom(16))
+
+    def ask(self, name: str, *arguments: Union[bytes, bool, int]) -> Answer:
+        """What a call answers. A refusal is raised."""
+        self._want_own_thread()
+        passed: List[object] = []
+        for argument in arguments:
+            passed += [argument] if isinstance(argument, int) else [argument, len(argument)]
+        status = _CALLS[name](self._pointer(), *passed)
+        if status == _DONE:
+            return Answer(self._data(), _number(self._pointer()), _count(self._pointer()))
+        if status == _REFUSED:
+            raise refusal(self._word(), _number(self._pointer()), _count(self._pointer()))
+        if status == _OUT_OF_MEMORY:
+            raise MemoryError(name)
+        raise Closed(name)
+
+    def close(self) -> None:
+        """Frees what the handle holds."""
+        self._want_own_thread()
+        _close(self._pointer())
+
+    def _pointer(self) -> object:
+        return ctypes.byref(self._store)
+
+    def _data(self) -> bytes:
+        length = _length(self._pointer())
+        if length == 0:
+            return b""
+        room = ctypes.create_string_buffer(length)
+        return ctypes.string_at(room, _read(self._pointer(), 0, room, length))
+
+    def _word(self) -> str:
+        room = ctypes.create_string_buffer(64)
+        return ctypes.string_at(room, _why(self._pointer(), room, 64)).decode("ascii")
+
+    def _want_own_thread(self) -> None:
+        if threading.get_ident() != self._thread:
+            raise RuntimeError("a repository stays on the thread that made it")
+
+    def __del__(self) -> None:
+        # one that is let go elsewhere is not freed, since it may be used on its own thread alone
+        if getattr(self, "_thread", None) == threading.get_ident():
+            _close(self._pointer())

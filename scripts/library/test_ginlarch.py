@@ -215,6 +215,18 @@ class Compared(unittest.TestCase):
         with self.assertRaises(faults.BadMagic):
             Repository.from_bytes(b"no store\n")
 
+    def test_examples_of_the_pages_run(self) -> None:
+        top = Path(__file__).resolve().parents[2]
+        (Path(self.folder) / "more").write_bytes(self.stream)
+        (Path(self.folder) / "hello.gx").write_bytes(self.repository.to_bytes())
+        for page, shown in (("README.md", b"three\\n"), ("docs/LIBRARY.md", b"UnknownRef\n")):
+            example = (top / page).read_text().split("```python\n")[1].split("```")[0].replace('"README.md"', '"doc/README"')
+            environment = {**ENVIRONMENT, "PYTHONPATH": str(top / "python")}
+            done = subprocess.run([sys.executable, "-c", example], cwd=self.folder, env=environment, capture_output=True)
+            self.assertEqual((done.returncode, done.stderr), (0, b""))
+            self.assertIn(shown, done.stdout)
+            (Path(self.folder) / "hello.gx").unlink()
+
     def test_closed_repository_is_refused(self) -> None:
         with Repository() as closed:
             self.assertEqual(closed.refs, {})

@@ -1,6 +1,6 @@
 -- What a call of C does with a handle.
 -- Source: this project's own.
-use Rattle.std.specs.Prelude.{◌≡◌, ℕ, ◌++◌, min, length, take, drop, false, true, [], is_some, Option, Some, None}
+use Rattle.std.specs.Prelude.{◌≡◌, ℕ, ◌++◌, min, length, take, drop, false, true, [], Option, Some, None}
 use Rattle.std.specs.declared.boxed.Box.{Box}
 use Rattle.gx_model.specs.Texts.{Bytes}
 use Rattle.gx_c.specs.Answers.{status_of}

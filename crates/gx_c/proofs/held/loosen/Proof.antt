@@ -1,7 +1,7 @@
 -- `loosen` takes the box apart, and keeps what it owned with its pointer.
-use Rattle.std.proofs.Common.{◌≡◌, List, [], ◌∷◌, ◌++◌, refl, sym, ap, subst}
+use Rattle.std.proofs.Common.{List, [], ◌∷◌, ◌++◌, refl, sym, ap, subst}
 use base.Fraction.{full_share}
-use mir.Syntax.{Fn, Args, Dict, a_type, dcons, dnil, impl, tcons, tnil}
+use mir.Syntax.{Fn, Args, Dict, a_type, dcons, dnil}
 use mir.Val.{Val}
 use mir.MapTy.{inst_fn}
 use base.Logic.{SProp, ent, emp, id⊢}
@@ -20,7 +20,7 @@ use denote.RattleType.{RattleType, owns}
 use denote.RawPtr.{Ptr, RawPtr, ptr_val}
 use denote.Signature.{plain, types_at}
 use denote.Steps.{nothing, only}
-use denote.Param.{param, layout, bounded}
+use denote.Param.{param, bounded}
 use denote.Param.NoDrop.{glues}
 use denote.Triple.Clauses.{Lasts, lasts}
 use denote.Triple.Call.{calls_at}
@@ -39,7 +39,7 @@ use Rattle.std.specs.contracts.alloc.Global.{the_row as Z}
 use Rattle.std.specs.contracts.impls.GlobalAllocator.TheImpl.{ghosts, dict}
 use Rattle.std.proofs.impls.GlobalAllocator.TheImpl.Met.{passed}
 use Rattle.gx_c.specs.contracts.Destruct++none.drop.Key.{symbol as no_drop}
-use Rattle.gx_c.proofs.Pointers.{Heap, heap_laws, heap_drops, Loose, alone, pointer_good, loose_good, loose_in}
+use Rattle.gx_c.proofs.Pointers.{Heap, heap_laws, heap_drops, alone, pointer_good, loose_good, loose_in}
 use Rattle.gx_c.specs.contracts.held.loosen as f
 use Rattle.gx_c.proofs.held.loosen.Statement.{statement}
 use Rattle.gx_c.proofs.held.loosen.Code as code

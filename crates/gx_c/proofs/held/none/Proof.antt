@@ -1,7 +1,7 @@
 -- `none` makes a null pointer, which owns nothing.
 use Rattle.std.proofs.Common.{[], ◌∷◌, refl}
 use base.Fml.{ftrue}
-use types.Kit.{‵, raw, ◌$◌, ◌∵◌, !, qed, keep, suffices, done, by}
+use types.Kit.{‵, raw, ◌$◌, ◌∵◌, !, qed, keep, suffices, done}
 use types.Run.{enter, lit, no_more, and_then, returns}
 use types.ByLocal.{alloc_all, pass_all, free_all, look_at, sets}
 use types.Part.{agg}

@@ -16,10 +16,10 @@ use denote.Signature.{plain, types_at}
 use denote.Steps.{nothing, heard}
 use denote.Triple.Entry.{alive}
 use denote.Triple.Walked.{Stays, stay_dropped, Goes-dropped, walk_of, says, ends_at}
-use Rattle.std.specs.Prelude.{Option, None, Some, IsSome}
+use Rattle.std.specs.Prelude.{Option, Some, IsSome}
 use Rattle.std.proofs.raw_atomic.Walks.{proved_at}
 use Rattle.gx_c.specs.Owned.{is_held}
-use Rattle.gx_c.proofs.Pointers.{Held, Loose, alone, held_good, held_out, pointer_good, loose_good, loose_in, some_of}
+use Rattle.gx_c.proofs.Pointers.{Held, alone, held_good, held_out, pointer_good, loose_good, loose_in, some_of}
 use Rattle.gx_c.specs.contracts.opened.Opened.{the_row as R}
 use Rattle.gx_c.specs.contracts.held.release as f
 use Rattle.gx_c.proofs.held.release.Statement.{statement}

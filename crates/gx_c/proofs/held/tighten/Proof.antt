@@ -1,7 +1,7 @@
 -- `tighten` makes the box again.
 use Rattle.std.proofs.Common.{◌≡◌, List, [], ◌∷◌, ◌++◌, refl, sym, ap, subst}
 use base.Fraction.{full_share}
-use mir.Syntax.{Fn, Args, Dict, a_type, dcons, dnil, impl, tcons, tnil}
+use mir.Syntax.{Fn, Args, a_type}
 use mir.Val.{Val}
 use mir.MapTy.{inst_fn}
 use base.Logic.{SProp, ent, emp, id⊢}
@@ -27,7 +27,7 @@ use denote.Triple.Call.{calls_at_last}
 use denote.Triple.Spec.{triple_of}
 use denote.Triple.Table.{framed}
 use denote.Triple.Walked.{Stays, stay_dropped, walk_of, Goes-dropped, says, ends_at}
-use Rattle.std.proofs.alloc.Calls.{Goes-blank, handle_tells}
+use Rattle.std.proofs.alloc.Calls.{handle_tells}
 use Rattle.std.proofs.alloc.Shapes.{after}
 use Rattle.std.proofs.cell.Inside.{Good}
 use Rattle.std.proofs.raw_atomic.Walks.{proved_at}

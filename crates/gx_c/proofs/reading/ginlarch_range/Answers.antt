@@ -1,4 +1,4 @@
-use Rattle.std.proofs.Common.{ap, subst}
+use Rattle.std.proofs.Common.{subst}
 use Rattle.gx_c.specs.Called as called
 use Rattle.gx_c.proofs.Calling.{goes_over}
 use Rattle.gx_c.proofs.reading.ginlarch_range.Goals as goal

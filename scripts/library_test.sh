@@ -1,6 +1,6 @@
 #!/usr/bin/env bash
 # Tests the built library: the examples in C and Rust, calls at random under a checker of addresses and under valgrind, each allocation failing in
-# turn, and the Python module against git. What isn't installed is said and left out: valgrind, cargo.
+# turn, what install.sh makes of it, and the Python module against git. What isn't installed is said and left out: valgrind, cargo, pkg-config.
 #   scripts/library_test.sh [SEED]
 set -euo pipefail
 root=$(cd "$(dirname "$0")/.." && pwd)
@@ -53,6 +53,20 @@ else
   echo 'cargo: not run, since it is not installed' >&2
 fi
 
+# what is installed is found by pkg-config and by Python, and goes again
+place=$work/place
+PREFIX=$place "$root/scripts/install.sh" --library 2> "$work/installed"
+if command -v pkg-config > /dev/null; then
+  read -r -a flags <<< "$(PKG_CONFIG_PATH=$place/lib/pkgconfig pkg-config --cflags --libs ginlarch)"
+  ${CC:-cc} -std=c99 -o "$work/found" "$root/examples/library.c" "${flags[@]}"
+  [ "$(LD_LIBRARY_PATH=$place/lib "$work/found" main test.txt < "$work/stream")" = 'version 1' ] || fail 'the installed library shows another file'
+else
+  echo 'pkg-config: not run, since it is not installed' >&2
+fi
+(cd / && LD_LIBRARY_PATH=$place/lib PYTHONPATH=$place/lib/python3/dist-packages python3 -c 'from ginlarch import Repository; assert Repository().refs == {}')
+PREFIX=$place "$root/scripts/install.sh" --library --uninstall 2> "$work/removed"
+[ -z "$(find "$place" -type f)" ] || fail 'files stay where the library was installed'
+
 # the Python module
 GINLARCH_LIBRARY=$work/libginlarch.so python3 "$root/scripts/library/test_ginlarch.py" > "$work/tested" 2>&1 || { cat "$work/tested" >&2; exit 1; }
-echo 'the library: examples, calls at random, want of memory and the Python module'
+echo 'the library: examples, calls at random, want of memory, what is installed, and the Python module'

@@ -19,7 +19,7 @@ use Rattle.gx_adapt.specs.declared.marks.Marks.{Marks}
 use Rattle.gx_adapt.specs.declared.fault.AdaptFault.{AdaptFault}
 use Rattle.gx_adapt.specs.declared.fault.AdaptFault.TheVariants as faults
 use Rattle.gx_adapt.specs.declared.report.Report.{Report}
-use Rattle.gx_model.proofs.SentTexts.{took_nothing, took_both, failed_after, failed_longer}
+use Rattle.gx_model.proofs.Texts.SentTexts.{took_nothing, took_both, failed_after, failed_longer}
 use Rattle.gx_adapt.proofs.Marked.{reverse-push, names-same, stands-push, tags-few}
 use Rattle.gx_adapt.proofs.Counts.{after_of, after-push, text_behind, text-push, text-within, many-few, report-push}
 

@@ -7,8 +7,8 @@ use Rattle.std.proofs.lemmas.List.{length-append}
 use Rattle.gx_model.specs.Texts.{Bytes}
 use Rattle.gx_adapt.specs.Paths.{after_quoted, rest_within, seen_char}
 use Rattle.gx_model.specs.Texts.Paths.{char_at, unquote_within, unquote}
-use Rattle.gx_model.proofs.Cuts.{some_is, map_some}
-use Rattle.gx_model.proofs.Quotes.{quoted_text_tells}
+use Rattle.gx_model.proofs.Texts.Cuts.{some_is, map_some}
+use Rattle.gx_model.proofs.Texts.Quotes.{quoted_text_tells}
 
 step_stops : (n : ℕ) (bs : Bytes) → seen_char bs ≡ None → rest_within (suc n) bs ≡ None
 unfolding unquote_within

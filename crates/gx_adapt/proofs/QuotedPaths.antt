@@ -10,9 +10,9 @@ use Rattle.gx_model.specs.Faults.{◌>>=◌}
 use Rattle.gx_model.specs.Texts.{Bytes, is_line, lacks}
 use Rattle.gx_model.specs.Texts.Paths.{Path, named, WritesByte, as_itself, by_letter, WritesText, writes_none, writes_more, path_of, path_at, quoted_of, with_rest}
 use Rattle.gx_model.specs.Streams.Grammar.{last_path, source_path, after_space}
-use Rattle.gx_model.proofs.Cuts.{lacks-cons}
-use Rattle.gx_model.proofs.Idents.{and_one, and_two}
-use Rattle.gx_model.proofs.Quotes.{quoted_text_tells}
+use Rattle.gx_model.proofs.Texts.Cuts.{lacks-cons}
+use Rattle.gx_model.proofs.Texts.Idents.{and_one, and_two}
+use Rattle.gx_model.proofs.Texts.Quotes.{quoted_text_tells}
 use Rattle.gx_adapt.specs.Paths.{escaped, quoted}
 use Rattle.gx_adapt.specs.Laws.{QuotedPathsAreKept, QuotedSourcesAreKept}
 

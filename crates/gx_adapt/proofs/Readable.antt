@@ -12,14 +12,14 @@ use Rattle.gx_model.specs.Texts.{Bytes, is_line, cut_at}
 use Rattle.gx_model.specs.Streams.Items.{Item, Line, Data, End}
 use Rattle.gx_model.specs.Streams.Spelling.{HasNoLf, data_line, comment_line, Spells, IsReading, ended, taken, dropped}
 use Rattle.gx_model.specs.Laws.ExportLaws.{IsItem, IsItemLine}
-use Rattle.gx_model.proofs.Cuts.{some_is, map_some, cut_spelled}
-use Rattle.gx_model.proofs.Found.{has_reading}
-use Rattle.gx_model.proofs.Idents.{and_one, and_two}
-use Rattle.gx_model.proofs.ItemTexts.{items_read}
-use Rattle.gx_model.proofs.LineTexts.{line_append}
-use Rattle.gx_model.proofs.Quotes.{quoted_text_tells}
-use Rattle.gx_model.proofs.Readings.{refuted, finds, spells_shorter}
-use Rattle.gx_model.proofs.SpelledItems.{AreItems, items_append}
+use Rattle.gx_model.proofs.Texts.Cuts.{some_is, map_some, cut_spelled}
+use Rattle.gx_model.proofs.Streams.Found.{has_reading}
+use Rattle.gx_model.proofs.Texts.Idents.{and_one, and_two}
+use Rattle.gx_model.proofs.Streams.ItemTexts.{items_read}
+use Rattle.gx_model.proofs.Texts.LineTexts.{line_append}
+use Rattle.gx_model.proofs.Texts.Quotes.{quoted_text_tells}
+use Rattle.gx_model.proofs.Streams.Readings.{refuted, finds, spells_shorter}
+use Rattle.gx_model.proofs.Streams.SpelledItems.{AreItems, items_append}
 use Rattle.gx_model.specs.Texts.Paths.{unquote}
 use Rattle.gx_text.specs.Devices.{Coming}
 use Rattle.gx_stream.specs.Heard.{heard_upto, heard, items_from}

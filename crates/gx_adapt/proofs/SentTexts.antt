@@ -8,7 +8,7 @@ use Rattle.gx_adapt.specs.Adapting.{Puts, PutsIf}
 use Rattle.gx_adapt.specs.declared.fault.AdaptFault.{AdaptFault}
 use Rattle.gx_adapt.specs.declared.fault.AdaptFault.TheVariants.{OutOfMemory, ReadFailed, WriteFailed, TruncatedData, BadNumber}
 use Rattle.gx_model.specs.Texts.Sinks.{Taken, Took}
-use Rattle.gx_model.proofs.SentTexts.{failed_after, failed_longer, took_both}
+use Rattle.gx_model.proofs.Texts.SentTexts.{failed_after, failed_longer, took_both}
 
 -- what two texts give that are sent one after the other
 pub puts_both : (was mid now : Option Taken) (before text : Bytes) (r : Result (Unit {0}) AdaptFault) → Took was mid before → Puts text mid now r → Puts (before ++ text) was now r

@@ -12,7 +12,7 @@ use Rattle.gx_batch.specs.Batches.{Answered, Answers, Sent}
 use Rattle.gx_batch.specs.declared.ending.LineEnding.{LineEnding}
 use Rattle.gx_batch.specs.declared.fault.BatchFault.{BatchFault}
 use Rattle.gx_batch.specs.declared.fault.BatchFault.TheVariants.{OutOfMemory, ReadFailed, WriteFailed}
-use Rattle.gx_model.proofs.SentTexts.{failed_after, failed_longer, took_both, took_nothing}
+use Rattle.gx_model.proofs.Texts.SentTexts.{failed_after, failed_longer, took_both, took_nothing}
 
 -- these lines were read of those that come, and the others are still to come
 abbrev pub ArePassed : LineEnding → List Bytes → Option Coming → Option Coming → Type 0

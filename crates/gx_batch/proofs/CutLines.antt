@@ -3,7 +3,7 @@ use Rattle.std.proofs.Common.{◌≡◌, ℕ, Bool, true, false, eqb, [], ◌∷
 use Rattle.std.specs.Option.{option_map}
 use Rattle.std.proofs.lemmas.Bool.Decides.{nat_tests}
 use Rattle.gx_model.specs.Texts.{Bytes, cut_at, lacks}
-use Rattle.gx_model.proofs.Cuts.{lacks-cons, map_some, some_is}
+use Rattle.gx_model.proofs.Texts.Cuts.{lacks-cons, map_some, some_is}
 use Rattle.gx_batch.specs.Lines.{begun_with, lines_of}
 
 module _ (e : ℕ) where

@@ -4,7 +4,7 @@ use Rattle.std.specs.Prelude.{◌==◌, ◌&&◌, nat_lt}
 use Rattle.std.specs.Io.BufRead.{strip_last}
 use Rattle.std.proofs.lemmas.Bool.Decides.{nat_tests}
 use Rattle.gx_model.specs.Texts.{Bytes, lacks}
-use Rattle.gx_model.proofs.Cuts.{lacks-cons}
+use Rattle.gx_model.proofs.Texts.Cuts.{lacks-cons}
 use Rattle.gx_batch.specs.Lines.{without_crs}
 
 pull : (t : Bool) (b : ℕ) (xs ys : Bytes) → (if t then b ∷ xs else b ∷ ys) ≡ b ∷ (if t then xs else ys)

@@ -4,7 +4,7 @@ use Rattle.std.specs.List.{flat_map}
 use Rattle.std.specs.Option.{option_map}
 use Rattle.std.proofs.Math.Seq.{drop-cons}
 use Rattle.gx_model.specs.Texts.{Bytes, cut_at, lacks}
-use Rattle.gx_model.proofs.Cuts.{cut_spelled, lacks-cons}
+use Rattle.gx_model.proofs.Texts.Cuts.{cut_spelled, lacks-cons}
 use Rattle.gx_batch.specs.Formats.{GivesFormat, GivesPart, format_of, part_named, parts_behind, with_named, with_part}
 use Rattle.gx_batch.specs.declared.fault.FormatFault.{FormatFault}
 use Rattle.gx_batch.specs.declared.fault.FormatFault.TheVariants.{BadFormat, OutOfMemory}

@@ -26,7 +26,7 @@ use Rattle.gx_blobs.specs.declared.blob_names.Stage.TheVariants.{Expected}
 use Rattle.gx_blobs.specs.declared.blob_names.BlobsKind.{BlobsKind}
 use Rattle.gx_blobs.specs.declared.blob_names.BlobsKind.TheVariants as kinds
 use Rattle.gx_blobs.specs.declared.blob_names.BlobsFault.{BlobsFault}
-use Rattle.gx_model.proofs.SentTexts.{took_nothing}
+use Rattle.gx_model.proofs.Texts.SentTexts.{took_nothing}
 use Rattle.gx_blobs.proofs.Staged.{blobs_of-run}
 
 -- the blobs of items, from a stage on

@@ -16,7 +16,7 @@ use Rattle.gx_cli.specs.Words.{refused_at}
 use Rattle.gx_cli.specs.declared.fault.CliFault.TheVariants as cli
 use Rattle.gx_cli.proofs.RefusedWords.{nothing_in_front}
 use Rattle.gx_cli.proofs.SentLines.{given_text}
-use Rattle.gx_model.proofs.SentTexts.{took_nothing}
+use Rattle.gx_model.proofs.Texts.SentTexts.{took_nothing}
 
 -- what isn't given, and nothing printed
 not_given : (given : Given Bytes) (was : Option Taken) (kind : RevFault) → given ≡ Err (fault_of kind) → Prints (only_word given) was was (Err (refused_at 1 kind))

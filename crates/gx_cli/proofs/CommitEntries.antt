@@ -8,7 +8,7 @@ use Rattle.gx_model.specs.Texts.Sinks.{Taken}
 use Rattle.gx_cli.specs.Logs.{head_text}
 use Rattle.gx_cli.specs.Sending.{PrintsText}
 use Rattle.gx_cli.specs.declared.fault.CliFault.TheVariants.{OutOfMemory}
-use Rattle.gx_model.proofs.SentTexts.{took_nothing}
+use Rattle.gx_model.proofs.Texts.SentTexts.{took_nothing}
 
 -- memory ran out before anything went out
 pub none_printed : (text : Bytes) (was : Option Taken) → PrintsText text was was (Err OutOfMemory)

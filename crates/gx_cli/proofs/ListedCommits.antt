@@ -26,7 +26,7 @@ use Rattle.gx_rev.specs.declared.fault.RevFault.TheVariants.{OutOfMemory}
 use Rattle.gx_rev.specs.Objects.{IsHeldAs, commit_at}
 use Rattle.gx_rev.specs.RevFaults.{fault_of}
 use Rattle.gx_rev.specs.Walking.{IsWordFault, is_included}
-use Rattle.gx_model.proofs.HeldValues.{commit_stands, held_is, kind_held, value_held}
+use Rattle.gx_model.proofs.Records.HeldValues.{commit_stands, held_is, kind_held, value_held}
 use Rattle.gx_cli.specs.Logs.{commits_logged, limited, turned, with_refs, words_of_refs}
 use Rattle.gx_cli.specs.Stored.{all_words, commits_listed}
 use Rattle.gx_cli.specs.Words.{RefusesWord, refused_at}

@@ -15,13 +15,13 @@ use Rattle.gx_model.specs.Histories.{Records}
 use Rattle.gx_model.specs.Records.HistoryOf.{files_of_tree, history_of, value_of_name}
 use Rattle.gx_model.specs.Records.RecordFaults.{is_held}
 use Rattle.gx_model.specs.Records.Sound.{IsSound}
-use Rattle.gx_model.proofs.GrownRecords.{distinct_of}
-use Rattle.gx_model.proofs.HistoriesExist.{stands}
-use Rattle.gx_model.proofs.OneTree.{node_entry, spelling}
-use Rattle.gx_model.proofs.PathTests.{first, is_true, second}
-use Rattle.gx_model.proofs.PathTexts.{path_again}
-use Rattle.gx_model.proofs.TreePaths.{content_in, content_parts}
-use Rattle.gx_model.proofs.HeldValues.{all_whole, tree_stands}
+use Rattle.gx_model.proofs.Records.GrownRecords.{distinct_of}
+use Rattle.gx_model.proofs.Records.HistoriesExist.{stands}
+use Rattle.gx_model.proofs.ObjectTexts.OneTree.{node_entry, spelling}
+use Rattle.gx_model.proofs.Texts.PathTests.{first, is_true, second}
+use Rattle.gx_model.proofs.Texts.PathTexts.{path_again}
+use Rattle.gx_model.proofs.ObjectTexts.TreePaths.{content_in, content_parts}
+use Rattle.gx_model.proofs.Records.HeldValues.{all_whole, tree_stands}
 use Rattle.gx_cli.specs.Listings.{IsListed, entry_line, tree_lines}
 
 -- a component alone is a path

@@ -17,7 +17,7 @@ use Rattle.gx_cli.specs.Logs.{LogsFrom, LogsLines, LogsRead, log_text}
 use Rattle.gx_cli.specs.Stored.{Printed, Refusal, of_store, of_word}
 use Rattle.gx_cli.specs.declared.fault.CliFault.{CliFault}
 use Rattle.gx_cli.specs.declared.fault.CliFault.TheVariants.{OutOfMemory, ReadFailed}
-use Rattle.gx_model.proofs.SentTexts.{took_nothing}
+use Rattle.gx_model.proofs.Texts.SentTexts.{took_nothing}
 use Rattle.gx_cli.proofs.RefusedWords.{nothing_in_front}
 
 -- no text that is given is answered as a failed read

@@ -12,7 +12,7 @@ use Rattle.gx_model.specs.Histories.Marks.{holds, marks_of}
 use Rattle.gx_model.specs.Histories.Values.{Commit, Value, blob_value, commit_value, tag_value, tree_value}
 use Rattle.gx_model.specs.Records.{name_of}
 use Rattle.gx_model.specs.Revisions.Ranges.{commit_of}
-use Rattle.gx_model.proofs.Marking.{mark_tells, marks_are}
+use Rattle.gx_model.proofs.Revisions.Marking.{mark_tells, marks_are}
 use Rattle.gx_model.specs.Histories.{Records}
 use Rattle.gx_model.specs.Laws.RepositoryLaws.{values_of}
 use Rattle.gx_rev.specs.Reached.{is_wanted, reached_marks}

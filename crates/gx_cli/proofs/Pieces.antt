@@ -8,7 +8,7 @@ use Rattle.gx_cli.specs.Sending.{PrintsText, Sent}
 use Rattle.gx_cli.specs.Trying.{Shows}
 use Rattle.gx_cli.specs.declared.fault.CliFault.{CliFault}
 use Rattle.gx_cli.specs.declared.fault.CliFault.TheVariants.{OutOfMemory, Revision, WriteFailed}
-use Rattle.gx_model.proofs.SentTexts.{IsLeft, less_left, took_nothing}
+use Rattle.gx_model.proofs.Texts.SentTexts.{IsLeft, less_left, took_nothing}
 use Rattle.gx_cli.proofs.SentLines.{cut_short}
 
 -- what was sent is printed

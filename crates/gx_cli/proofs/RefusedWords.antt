@@ -12,7 +12,7 @@ use Rattle.gx_cli.specs.declared.fault.CliFault.TheVariants as cli
 use Rattle.gx_cli.specs.Answers.{IsFrontOf, Prints}
 use Rattle.gx_cli.specs.Stored.{Printed, Refusal, all_words, of_word, only_word}
 use Rattle.gx_cli.specs.Words.{RefusesWord, refused_at}
-use Rattle.gx_model.proofs.SentTexts.{took_nothing}
+use Rattle.gx_model.proofs.Texts.SentTexts.{took_nothing}
 
 -- what is made of what all words give, in two steps
 pub in_two : {A B C : Type 0} (a : Result A WordFault) (f : A → Result B WordFault) (k : B → C) → all_words (and_then a (λ x. and_then (f x) (λ y. Ok (k y)))) ≡ and_then (all_words (and_then a f)) (λ y. Ok (k y))

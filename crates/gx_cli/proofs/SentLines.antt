@@ -9,7 +9,7 @@ use Rattle.gx_cli.specs.declared.fault.CliFault.TheVariants.{OutOfMemory, WriteF
 use Rattle.gx_cli.specs.Answers.{Prints}
 use Rattle.gx_cli.specs.Sending.{PrintsText}
 use Rattle.gx_cli.specs.Stored.{Printed}
-use Rattle.gx_model.proofs.SentTexts.{IsLeft, left_fails, took_both}
+use Rattle.gx_model.proofs.Texts.SentTexts.{IsLeft, left_fails, took_both}
 
 -- what stopped one of the texts stopped the whole
 pub cut_short : (was mid now : Option Taken) (whole text rest : Bytes) (fault : CliFault) → IsLeft whole was mid (text ++ rest) → PrintsText text mid now (Err fault) → PrintsText whole was now (Err fault)

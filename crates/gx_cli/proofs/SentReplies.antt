@@ -3,7 +3,7 @@ use Rattle.std.proofs.Common.{◌≡◌, ◌++◌, Option, Result, Ok, Err}
 use Rattle.std.specs.Prelude.{IfErr}
 use Rattle.gx_model.specs.Texts.{Bytes}
 use Rattle.gx_model.specs.Texts.Sinks.{Taken, Took}
-use Rattle.gx_model.proofs.SentTexts.{failed_after, failed_longer, took_both}
+use Rattle.gx_model.proofs.Texts.SentTexts.{failed_after, failed_longer, took_both}
 use Rattle.gx_batch.specs.Batches.{Sent}
 use Rattle.gx_batch.specs.declared.fault.BatchFault.{BatchFault}
 use Rattle.gx_batch.specs.declared.fault.BatchFault.TheVariants.{OutOfMemory, ReadFailed, WriteFailed}

@@ -4,7 +4,7 @@ use Rattle.std.specs.List.{onto_first}
 use Rattle.std.specs.Option.{option_map}
 use Rattle.gx_model.specs.Texts.{Bytes, cut_at}
 use Rattle.gx_cli.specs.Words.{words_in}
-use Rattle.gx_model.proofs.Cuts.{cut_spelled, map_some}
+use Rattle.gx_model.proofs.Texts.Cuts.{cut_spelled, map_some}
 
 -- what stands before the first space is a word, and the others stand behind it
 pub word_before : (text : Bytes) (p : Bytes × Bytes) → cut_at 32 text ≡ Some p → words_in text ≡ p.0 ∷ words_in p.1

@@ -19,7 +19,7 @@ use Rattle.gx_cli.specs.declared.questions.Question.{Question}
 use Rattle.gx_cli.specs.declared.fault.CliFault.{CliFault}
 use Rattle.gx_cli.specs.declared.fault.CliFault.TheVariants.{OutOfMemory, Revision, Store, WriteFailed}
 use Rattle.gx_cli.specs.declared.serving.Outcome.{Outcome}
-use Rattle.gx_model.proofs.SentTexts.{took_nothing}
+use Rattle.gx_model.proofs.Texts.SentTexts.{took_nothing}
 
 -- nothing is a front of whatever is printed
 pub no_front : (given : Printed) → IsFrontOf given []

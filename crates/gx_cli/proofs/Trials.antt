@@ -20,7 +20,7 @@ use Rattle.gx_cli.specs.Trying.{ImportsAlone, Shows, ShowsReplayed, StandsAlone,
 use Rattle.gx_cli.specs.declared.fault.CliFault.{CliFault}
 use Rattle.gx_cli.specs.declared.fault.CliFault.TheVariants.{Import, OutOfMemory, WriteFailed}
 use Rattle.gx_cli.specs.declared.fault.CliFault.TheVariants as cli
-use Rattle.gx_model.proofs.SentTexts.{failed_after, took_both}
+use Rattle.gx_model.proofs.Texts.SentTexts.{failed_after, took_both}
 
 -- an import into a repository with nothing, where it is refused
 pub refused_alone : {N : Type 0} (asks : Features) (name_of : N → Kind → Bytes → Bytes) (namer : N) (old : N × Records) (new : Records) (coming : Option Coming) (was now : Option Taken) (fault : ImportFault) → old ≡ (namer, nothing)

@@ -19,18 +19,18 @@ use Rattle.gx_model.specs.Records.{content_name, entries, named_map, node, tree_
 use Rattle.gx_model.specs.Records.HistoryOf.{files_of_tree, history_of, placed, value_of_name}
 use Rattle.gx_model.specs.Records.RecordFaults.{is_held}
 use Rattle.gx_model.specs.Records.Sound.{AnyByRecursion, IsSound}
-use Rattle.gx_model.proofs.CanonicalTrees.{no_dir}
-use Rattle.gx_model.proofs.FileMapEdits.{parts_of}
-use Rattle.gx_model.proofs.GrownRecords.{distinct_of}
-use Rattle.gx_model.proofs.HeldTrees.{name_map}
-use Rattle.gx_model.proofs.HeldValues.{all_whole, tree_stands, value_held}
-use Rattle.gx_model.proofs.HistoriesAreSound.{sub_some}
-use Rattle.gx_model.proofs.HistoriesExist.{stands}
-use Rattle.gx_model.proofs.OneTree.{all_left, all_right, firsts_named, leaf_named, node_entry, node_of, only_file, rebuilt, spelling, sub_named}
-use Rattle.gx_model.proofs.PathTests.{first, is_true, second}
-use Rattle.gx_model.proofs.PathTexts.{parts_joined, path_again, path_tells}
-use Rattle.gx_model.proofs.RebuiltValues.{has_some}
-use Rattle.gx_model.proofs.TreePaths.{content_in, content_parts, leaf_at, sub_in}
+use Rattle.gx_model.proofs.ObjectTexts.CanonicalTrees.{no_dir}
+use Rattle.gx_model.proofs.Histories.FileMapEdits.{parts_of}
+use Rattle.gx_model.proofs.Records.GrownRecords.{distinct_of}
+use Rattle.gx_model.proofs.Records.HeldTrees.{name_map}
+use Rattle.gx_model.proofs.Records.HeldValues.{all_whole, tree_stands, value_held}
+use Rattle.gx_model.proofs.Records.HistoriesAreSound.{sub_some}
+use Rattle.gx_model.proofs.Records.HistoriesExist.{stands}
+use Rattle.gx_model.proofs.ObjectTexts.OneTree.{all_left, all_right, firsts_named, leaf_named, node_entry, node_of, only_file, rebuilt, spelling, sub_named}
+use Rattle.gx_model.proofs.Texts.PathTests.{first, is_true, second}
+use Rattle.gx_model.proofs.Texts.PathTexts.{parts_joined, path_again, path_tells}
+use Rattle.gx_model.proofs.ObjectTexts.RebuiltValues.{has_some}
+use Rattle.gx_model.proofs.ObjectTexts.TreePaths.{content_in, content_parts, leaf_at, sub_in}
 use Rattle.gx_cli.specs.Listings.{entry_line}
 use Rattle.gx_cli.specs.Stored.{file_line}
 use Rattle.gx_cli.specs.WalkedFiles.{HavePaths, IsPathText, IsWithin, files_in, files_named, files_of_entry, line_below}

@@ -11,7 +11,7 @@ use Rattle.gx_stream.specs.Heard.{items_from}
 use Rattle.gx_command.specs.Behind.{at_start}
 use Rattle.gx_command.specs.Reading.{before_of, commands_after, commands_asked_from, shown_commands}
 use Rattle.gx_command.specs.declared.reader.Options.{Options}
-use Rattle.gx_model.proofs.AskedFeatures.{same_before}
+use Rattle.gx_model.proofs.Streams.AskedFeatures.{same_before}
 
 abbrev both : Bool → Bool → Features
 both done force = record { done = done; force = force }

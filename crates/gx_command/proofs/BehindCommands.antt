@@ -13,7 +13,7 @@ use Rattle.gx_command.specs.Behind.{AreBehind, commands_behind, from_next, left_
 use Rattle.gx_command.specs.Heads.{first, first_in}
 use Rattle.gx_command.specs.Reading.{commands_after}
 use Rattle.gx_command.proofs.PassedCommands.{left_by, left_next, left_over, left_zero}
-use Rattle.gx_model.proofs.AskedFeatures.{any_more}
+use Rattle.gx_model.proofs.Streams.AskedFeatures.{any_more}
 use Rattle.gx_command.proofs.Steps.{commands_unrolled, led}
 
 first_past : (early : Bool) (items : List Item) (end : End) → first_in early items (record { items = items; end = end }) ≡ first_in early (past_empty items) (record { items = past_empty items; end = end })

@@ -21,7 +21,7 @@ use Rattle.gx_command.specs.declared.fault.CommandFault.{CommandFault}
 use Rattle.gx_command.specs.declared.fault.CommandFault.TheVariants as own
 use Rattle.gx_command.specs.declared.reader.Options.{Options}
 use Rattle.gx_command.specs.declared.reader.State.TheVariants.{Open, Ended}
-use Rattle.gx_model.proofs.AskedFeatures.{all_more, any_more, same_before}
+use Rattle.gx_model.proofs.Streams.AskedFeatures.{all_more, any_more, same_before}
 use Rattle.gx_command.proofs.Steps.{commands_unrolled, led}
 
 -- ---- the commands that stand for those before

@@ -21,7 +21,7 @@ use Rattle.gx_command.specs.declared.fault.CommandFault.TheVariants as faults
 use Rattle.gx_command.specs.declared.reader.Options.{Options}
 use Rattle.gx_command.specs.declared.reader.State.{State}
 use Rattle.gx_command.specs.declared.reader.State.TheVariants.{Open, Ended, Failed}
-use Rattle.gx_model.proofs.AskedFeatures.{all_more, any_more}
+use Rattle.gx_model.proofs.Streams.AskedFeatures.{all_more, any_more}
 
 -- ---- one command more
 

@@ -17,8 +17,8 @@ use Rattle.gx_model.specs.Records.Sound.{IsSound}
 use Rattle.gx_model.specs.Texts.{Bytes}
 use Rattle.gx_model.specs.Texts.Paths.{Path}
 use Rattle.gx_model.specs.Texts.Sinks.{Taken}
-use Rattle.gx_model.proofs.HeldTrees.{files_are_held}
-use Rattle.gx_model.proofs.HeldValues.{no_parent_there, parent_there}
+use Rattle.gx_model.proofs.Records.HeldTrees.{files_are_held}
+use Rattle.gx_model.proofs.Records.HeldValues.{no_parent_there, parent_there}
 use Rattle.gx_object.specs.declared.name.Name.{Name}
 use Rattle.gx_rev.specs.Objects.{IsHeldAs, commit_at}
 use Rattle.gx_tree.specs.Lists.{below}

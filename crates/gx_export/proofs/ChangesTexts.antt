@@ -15,7 +15,7 @@ use Rattle.gx_model.specs.Streams.Commands.{Command, Done}
 use Rattle.gx_model.specs.Streams.Items.{Item}
 use Rattle.gx_model.specs.Texts.{Bytes}
 use Rattle.gx_model.specs.Texts.Sinks.{Taken, Took}
-use Rattle.gx_model.proofs.SentCommits.{sent_are}
+use Rattle.gx_model.proofs.Ranges.SentCommits.{sent_are}
 use Rattle.gx_rev.specs.Walking.{is_included}
 use Rattle.gx_export.specs.Branches.{picked}
 use Rattle.gx_export.specs.ChangedParts.{DeliversRange, ExportsChanges, SendsText, closing, opening, sending_front, sending_rest}

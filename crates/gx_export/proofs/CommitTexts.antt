@@ -18,14 +18,14 @@ use Rattle.gx_model.specs.Records.{name_of, named_map, names_of, parts_of_commit
 use Rattle.gx_model.specs.Laws.RepositoryLaws.{values_of}
 use Rattle.gx_model.specs.Records.Sound.{Holds, IsNamedMap, IsSound}
 use Rattle.gx_model.specs.Histories.Values.{Commit, Commits, CommitText, Value, blobs_of, commit_value, files_of, list_of, more, none, parents_of, sub_maps, text_of, tree_value}
-use Rattle.gx_model.proofs.LinkedValues.{parts_in, proper_in}
-use Rattle.gx_model.proofs.OneTree.{all_left}
-use Rattle.gx_model.proofs.PathTests.{is_true}
+use Rattle.gx_model.proofs.Records.LinkedValues.{parts_in, proper_in}
+use Rattle.gx_model.proofs.ObjectTexts.OneTree.{all_left}
+use Rattle.gx_model.proofs.Texts.PathTests.{is_true}
 use Rattle.gx_model.specs.Texts.Sinks.{Taken}
-use Rattle.gx_model.proofs.HeldValues.{all_whole, commit_stands, names_long, value_held, value_holds}
+use Rattle.gx_model.proofs.Records.HeldValues.{all_whole, commit_stands, names_long, value_held, value_holds}
 use Rattle.gx_model.specs.Records.RecordFaults.{is_held}
 use Rattle.gx_model.specs.Objects.NameMaps.{AreFiles}
-use Rattle.gx_model.proofs.FilesByName.{contents_told, files_named}
+use Rattle.gx_model.proofs.Records.FilesByName.{contents_told, files_named}
 use Rattle.gx_export.specs.Marks.{Adds, HasWritten}
 use Rattle.gx_export.specs.Texts.{author_items, change_lines, commit_lines, items_of, items_text, last_items, parent_items, root_items}
 use Rattle.gx_export.specs.declared.fault.ExportFault.{ExportFault}

@@ -18,7 +18,7 @@ use Rattle.gx_model.specs.Records.HistoryOf.{target_in, value_of_name}
 use Rattle.gx_model.specs.Replay.{peeled_at}
 use Rattle.gx_model.specs.Revisions.Ranges.{reaches}
 use Rattle.gx_model.specs.Texts.{Bytes}
-use Rattle.gx_model.proofs.Standing.{at_within}
+use Rattle.gx_model.proofs.Records.Standing.{at_within}
 use Rattle.gx_object.specs.declared.name.Name.{Name}
 use Rattle.gx_repo.specs.Refs.{shown_lent_ref}
 use Rattle.gx_export.specs.Branches.{AreRanked, candidates, is_below, name_at_rank, name_or_carrier, shown_tips, targets}

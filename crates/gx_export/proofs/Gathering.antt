@@ -19,9 +19,9 @@ use Rattle.gx_model.specs.Records.Sound.{IsHeldAs}
 use Rattle.gx_model.specs.Texts.{Bytes}
 use Rattle.gx_model.specs.Histories.Values.{Commit, Value, blob_value, commit_value, same_value}
 use Rattle.gx_model.specs.Streams.Commands.{Blob}
-use Rattle.gx_model.proofs.SameValues.{same_value_tells}
-use Rattle.gx_model.proofs.FileMapEdits.{parts_of}
-use Rattle.gx_model.proofs.OneTree.{all_left, all_right}
+use Rattle.gx_model.proofs.Histories.SameValues.{same_value_tells}
+use Rattle.gx_model.proofs.Histories.FileMapEdits.{parts_of}
+use Rattle.gx_model.proofs.ObjectTexts.OneTree.{all_left, all_right}
 use Rattle.gx_model.specs.Texts.Sinks.{Taken}
 use Rattle.gx_tree.specs.HeldTrees.{IsHeldEntry, IsHeldWithin}
 use Rattle.gx_tree.specs.Lists.{below}

@@ -15,7 +15,7 @@ use Rattle.gx_model.specs.Records.{tree_body}
 use Rattle.gx_model.specs.Records.Growth.{all_trees_to, record_named, tree_record}
 use Rattle.gx_model.specs.Records.RecordFaults.{is_held, is_of_kind}
 use Rattle.gx_model.specs.Records.Walks.{entries_named}
-use Rattle.gx_model.proofs.OneTree.{all_right}
+use Rattle.gx_model.proofs.ObjectTexts.OneTree.{all_right}
 use Rattle.gx_tree.proofs.HeldLevels.{body_is}
 use Rattle.gx_tree.proofs.LevelsOf.{level_of}
 use Rattle.gx_tree.proofs.TreeRecords.{kept_entry}

@@ -13,7 +13,7 @@ use Rattle.gx_model.specs.Records.{content_name, named_map}
 use Rattle.gx_model.specs.Records.HistoryOf.{Named, content_of, contents_of}
 use Rattle.gx_model.specs.Texts.{Bytes, same_bytes}
 use Rattle.gx_model.specs.Texts.Paths.{Path, same_path}
-use Rattle.gx_model.proofs.SameValues.{mode_is}
+use Rattle.gx_model.proofs.Histories.SameValues.{mode_is}
 use Rattle.gx_tree.proofs.LevelsOf.{at_each}
 use Rattle.gx_tree.proofs.Texts.{bytes_are, same_itself}
 use Rattle.gx_export.specs.Compared.{paths_below}

@@ -16,13 +16,13 @@ use Rattle.gx_model.specs.Records.HistoryOf.{bytes_of_blob, value_of_name}
 use Rattle.gx_model.specs.Objects.{IsNamer}
 use Rattle.gx_model.specs.Records.RecordFaults.{is_held}
 use Rattle.gx_model.specs.Records.Sound.{IsSound}
-use Rattle.gx_model.proofs.HeldValues.{kind_held}
-use Rattle.gx_model.proofs.Standing.{at_within, same_place}
+use Rattle.gx_model.proofs.Records.HeldValues.{kind_held}
+use Rattle.gx_model.proofs.Records.Standing.{at_within, same_place}
 use Rattle.gx_model.specs.Streams.Items.{Item}
 use Rattle.gx_model.specs.Records.{body_of, kind_of}
 use Rattle.gx_model.specs.Laws.RepositoryLaws.{values_of}
 use Rattle.gx_model.specs.Histories.Values.{CommitText, Value, blob_value, commit_value, same_value, tag_value, tree_value}
-use Rattle.gx_model.proofs.SameValues.{same_value_tells}
+use Rattle.gx_model.proofs.Histories.SameValues.{same_value_tells}
 use Rattle.gx_model.specs.Texts.Sinks.{Taken}
 use Rattle.gx_rev.specs.Objects.{body_in_place}
 use Rattle.gx_export.specs.Marks.{Adds, AreNumbers, HasWritten, IsBlobAt}

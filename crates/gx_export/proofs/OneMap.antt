@@ -9,8 +9,8 @@ use Rattle.gx_model.specs.Records.Growth.{record_named}
 use Rattle.gx_model.specs.Histories.{Record, object_of}
 use Rattle.gx_model.specs.Objects.NameMaps.{IsHeldTree}
 use Rattle.gx_model.specs.Objects.{IsNamer}
-use Rattle.gx_model.proofs.BodiesReadBack.{entries_read}
-use Rattle.gx_model.proofs.FileMapEdits.{parts_of}
+use Rattle.gx_model.proofs.ObjectTexts.BodiesReadBack.{entries_read}
+use Rattle.gx_model.proofs.Histories.FileMapEdits.{parts_of}
 use Rattle.gx_store.specs.Stores.{shown_object}
 use Rattle.gx_tree.specs.HeldTrees.{IsHeldEntry, IsHeldWithin}
 use Rattle.gx_tree.specs.Nodes.{Kept, Level, file, files, folder}

@@ -19,10 +19,10 @@ use Rattle.gx_model.specs.Records.HistoryOf.{placed}
 use Rattle.gx_model.specs.Records.Sound.{IsHeldAs}
 use Rattle.gx_model.specs.Texts.{Bytes, same_bytes}
 use Rattle.gx_model.specs.Texts.Paths.{Path, is_component, path_cmp, same_path}
-use Rattle.gx_model.proofs.FileMapEdits.{Parts, parts_of}
-use Rattle.gx_model.proofs.PathRuns.{tail_parts}
-use Rattle.gx_model.proofs.PathTests.{component_free, first, is_true, path_is, path_same}
-use Rattle.gx_model.proofs.SameFileMaps.{none_below}
+use Rattle.gx_model.proofs.Histories.FileMapEdits.{Parts, parts_of}
+use Rattle.gx_model.proofs.Histories.PathRuns.{tail_parts}
+use Rattle.gx_model.proofs.Texts.PathTests.{component_free, first, is_true, path_is, path_same}
+use Rattle.gx_model.proofs.Histories.SameFileMaps.{none_below}
 use Rattle.gx_object.specs.declared.entry.Entry.{Entry}
 use Rattle.gx_object.specs.Entries.{shown}
 use Rattle.gx_tree.specs.HeldTrees.{IsHeldWithin}

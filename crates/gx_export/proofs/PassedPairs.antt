@@ -16,8 +16,8 @@ use Rattle.gx_model.specs.Streams.Commands.{Remove}
 use Rattle.gx_model.specs.Texts.{Bytes}
 use Rattle.gx_model.specs.Texts.Paths.{Path}
 use Rattle.gx_model.specs.Texts.Sinks.{Taken}
-use Rattle.gx_model.proofs.FileMapEdits.{parts_of}
-use Rattle.gx_model.proofs.OneTree.{all_right}
+use Rattle.gx_model.proofs.Histories.FileMapEdits.{parts_of}
+use Rattle.gx_model.proofs.ObjectTexts.OneTree.{all_right}
 use Rattle.gx_object.specs.declared.name.Name.{Name}
 use Rattle.gx_tree.specs.Lists.{below}
 use Rattle.gx_tree.specs.Nodes.{IsLevel, Level, files}

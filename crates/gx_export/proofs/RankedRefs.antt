@@ -17,7 +17,7 @@ use Rattle.gx_model.specs.Records.Sound.{IsSound}
 use Rattle.gx_model.specs.Replay.{peeled_at}
 use Rattle.gx_model.specs.Revisions.Ranges.{reaches}
 use Rattle.gx_model.specs.Texts.{Bytes}
-use Rattle.gx_model.proofs.Marking.{IsBefore, all_parents, mark_there, next_marked, no_next, same_marked}
+use Rattle.gx_model.proofs.Revisions.Marking.{IsBefore, all_parents, mark_there, next_marked, no_next, same_marked}
 use Rattle.gx_rev.specs.Tips.{AreTips}
 use Rattle.gx_rev.proofs.Tips.{AreSpread, commit_more, no_tips, none_spread, or_assoc, passed, same_tips, spread_above, spread_one}
 use Rattle.gx_export.specs.Branches.{AreRanked, HaveTips, IsLowered, at_most}

@@ -20,9 +20,9 @@ use Rattle.gx_model.specs.Records.{kind_of, name_of}
 use Rattle.gx_model.specs.Replay.{peeled_at}
 use Rattle.gx_model.specs.Records.Sound.{IsSound}
 use Rattle.gx_model.specs.Histories.Values.{Commit, Tag, Value, blob_value, commit_value, tag_value, tree_value}
-use Rattle.gx_model.proofs.LinkedValues.{parts_in}
-use Rattle.gx_model.proofs.HeldValues.{all_whole, held_is, kind_held, value_held}
-use Rattle.gx_model.proofs.PeeledRefs.{told}
+use Rattle.gx_model.proofs.Records.LinkedValues.{parts_in}
+use Rattle.gx_model.proofs.Records.HeldValues.{all_whole, held_is, kind_held, value_held}
+use Rattle.gx_model.proofs.Records.PeeledRefs.{told}
 use Rattle.gx_object.specs.declared.name.Name.{Name}
 use Rattle.gx_repo.specs.Refs.{shown_lent_ref}
 use Rattle.gx_rev.specs.Objects.{parts_of_tag_value}

@@ -14,9 +14,9 @@ use Rattle.gx_model.specs.Records.HistoryOf.{target_in, value_of_name}
 use Rattle.gx_model.specs.Replay.{peeled_at}
 use Rattle.gx_model.specs.Revisions.Ranges.{Word, reaches, span}
 use Rattle.gx_model.specs.Texts.{Bytes}
-use Rattle.gx_model.proofs.Marking.{mark_tells, marks_are}
-use Rattle.gx_model.proofs.PathTests.{is_true}
-use Rattle.gx_model.proofs.ReachedCommits.{itself}
+use Rattle.gx_model.proofs.Revisions.Marking.{mark_tells, marks_are}
+use Rattle.gx_model.proofs.Texts.PathTests.{is_true}
+use Rattle.gx_model.proofs.Histories.ReachedCommits.{itself}
 use Rattle.gx_rev.specs.Walking.{AreWithout, is_included}
 use Rattle.gx_export.specs.Branches.{commit_of_ref, targets}
 use Rattle.gx_export.specs.ChangedParts.{AreEither}

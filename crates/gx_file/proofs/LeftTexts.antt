@@ -7,7 +7,7 @@ use Rattle.gx_model.specs.Texts.{Bytes}
 use Rattle.gx_model.specs.Objects.{line}
 use Rattle.gx_model.specs.Stores.StoreText.{version_text}
 use Rattle.gx_model.specs.Stores.StoreReading.{after_magic, stored_body, stored_count, stored_line}
-use Rattle.gx_model.proofs.StoreTexts.{body_of, count_of, line_of, magic_of}
+use Rattle.gx_model.proofs.Stores.StoreTexts.{body_of, count_of, line_of, magic_of}
 use Rattle.gx_file.specs.declared.bodies.Bodies.{Bodies}
 use Rattle.gx_file.specs.declared.bodies.Bodies.TheVariants.{Copied, Within}
 use Rattle.gx_file.specs.TextEnds.{IsEndOfText}

@@ -13,7 +13,7 @@ use Rattle.std.proofs.lemmas.Fmt.{decimal-digits_value, decimal_digit, first_dec
 use Rattle.gx_model.specs.Texts.{Bytes, same_bytes}
 use Rattle.gx_model.specs.Texts.Numbers.{decimal_of, is_number}
 use Rattle.gx_model.specs.Stores.StoreReading.{if_written_so, stored_number}
-use Rattle.gx_model.proofs.Decimals.{numerals}
+use Rattle.gx_model.proofs.Texts.Decimals.{numerals}
 
 -- A text that begins with a zero has it as its first byte.
 zero_is_first : (x : Bytes) → starts_with nat_eq x (48 ∷ []) ≡ true → get_or x 0 0 ≡ 48

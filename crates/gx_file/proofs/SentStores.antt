@@ -12,13 +12,13 @@ use Rattle.gx_model.specs.Histories.{Record, Records}
 use Rattle.gx_model.specs.Records.Sound.{IsSound}
 use Rattle.gx_model.specs.Stores.StoreText.{store_text, stored_record, stored_ref, version_text}
 use Rattle.gx_model.specs.Stores.StoreReading.{Stored, next_records, next_refs, store_of, stored_count, stored_end}
-use Rattle.gx_model.proofs.ReadStores.{text_of}
-use Rattle.gx_model.proofs.StoreTexts.{count_read, end_read, magic_read}
-use Rattle.gx_model.proofs.StoredRecords.{records_read}
-use Rattle.gx_model.proofs.StoredRefs.{refs_read, targets_name, targets_test}
+use Rattle.gx_model.proofs.Stores.ReadStores.{text_of}
+use Rattle.gx_model.proofs.Stores.StoreTexts.{count_read, end_read, magic_read}
+use Rattle.gx_model.proofs.Stores.StoredRecords.{records_read}
+use Rattle.gx_model.proofs.Stores.StoredRefs.{refs_read, targets_name, targets_test}
 use Rattle.gx_model.specs.Texts.Sinks.{Taken}
 use Rattle.gx_file.specs.Sending.{HaveLengths}
-use Rattle.gx_model.proofs.SentTexts.{IsLeft, all_left}
+use Rattle.gx_model.proofs.Texts.SentTexts.{IsLeft, all_left}
 
 -- seven texts in a row, grouped to the right
 grouped : (a b c d e f g : Bytes) → a ++ b ++ c ++ d ++ e ++ f ++ g ≡ a ++ (b ++ (c ++ (d ++ (e ++ (f ++ g)))))

@@ -9,7 +9,7 @@ use Rattle.gx_model.specs.Objects.{hex, line}
 use Rattle.gx_model.specs.Stores.StoreText.{length_text}
 use Rattle.gx_model.specs.Texts.{Bytes}
 use Rattle.gx_model.specs.Texts.Sinks.{Taken, Took}
-use Rattle.gx_model.proofs.SentTexts.{IsLeft, left_fails, none_left, took_both}
+use Rattle.gx_model.proofs.Texts.SentTexts.{IsLeft, left_fails, none_left, took_both}
 use Rattle.gx_text.specs.declared.device.Failed.{Failed}
 use Rattle.gx_file.specs.Sending.{Sent}
 

@@ -29,7 +29,7 @@ use Rattle.gx_repo.specs.declared.fault.PublishFault.{PublishFault}
 use Rattle.gx_repo.specs.declared.fault.PublishFault.TheVariants as publish
 use Rattle.gx_model.specs.Records.Publishing.{Ref, change_fault, changes_fault, first_fault, published, unless as unless_fault, with_changes}
 use Rattle.gx_repo.specs.Publishing.{fault_of as published_fault}
-use Rattle.gx_model.proofs.SortedRefs.{order}
+use Rattle.gx_model.proofs.Records.SortedRefs.{order}
 use Rattle.gx_model.specs.declared.store_faults.FileFault.{FileFault}
 use Rattle.gx_model.specs.declared.store_faults.FileFault.TheVariants.{OutOfMemory}
 use Rattle.gx_repo.specs.FileFaults.{of_publish}

@@ -31,7 +31,7 @@ use Rattle.gx_import.specs.Objects.{IsCommitOf}
 use Rattle.gx_import.specs.Rows.{AreAll, AreBoth}
 use Rattle.gx_import.specs.Standing.{Follows, Stands}
 use Rattle.gx_model.specs.Objects.NameMaps.{AreFiles}
-use Rattle.gx_model.proofs.FilesByName.{files_named}
+use Rattle.gx_model.proofs.Records.FilesByName.{files_named}
 use Rattle.gx_import.proofs.AskedReferences.{adds_free, none_vain}
 use Rattle.gx_import.proofs.HeldParts.{commits_hold}
 use Rattle.gx_import.proofs.MadeCommits.{changes_refused, made_refused, parents_after, parents_known, step_made, stepped}

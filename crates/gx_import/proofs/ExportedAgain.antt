@@ -10,7 +10,7 @@ use Rattle.gx_model.specs.Texts.{Bytes}
 use Rattle.gx_model.specs.Streams.Commands.{Command, no_features}
 use Rattle.gx_model.specs.Streams.Grammar.{commands_asked, commands_of}
 use Rattle.gx_model.specs.Streams.Items.{items_of}
-use Rattle.gx_model.proofs.OneTree.{all_left}
+use Rattle.gx_model.proofs.ObjectTexts.OneTree.{all_left}
 use Rattle.gx_model.specs.Histories.Values.{Commit, Value}
 use Rattle.gx_model.specs.Records.{name_of}
 use Rattle.gx_model.specs.Histories.{History, IsIn, Records, StandsFor, Target, record_of, value_at}

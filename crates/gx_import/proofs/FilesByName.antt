@@ -12,10 +12,10 @@ use Rattle.gx_model.specs.Records.{named_map}
 use Rattle.gx_model.specs.Histories.{IsIn, Records}
 use Rattle.gx_model.specs.Records.HistoryOf.{history_of}
 use Rattle.gx_model.specs.Records.Sound.{IsSound}
-use Rattle.gx_model.proofs.PathTests.{is_true}
-use Rattle.gx_model.proofs.OneTree.{all_left}
-use Rattle.gx_model.proofs.LinkedValues.{parts_in, proper_in}
-use Rattle.gx_model.proofs.HeldValues.{all_whole}
+use Rattle.gx_model.proofs.Texts.PathTests.{is_true}
+use Rattle.gx_model.proofs.ObjectTexts.OneTree.{all_left}
+use Rattle.gx_model.proofs.Records.LinkedValues.{parts_in, proper_in}
+use Rattle.gx_model.proofs.Records.HeldValues.{all_whole}
 use Rattle.gx_model.specs.Replay.{State, starting_files}
 use Rattle.gx_object.specs.declared.name.Name.{Name}
 use Rattle.gx_import.specs.Objects.{IsCommitOf}

@@ -19,9 +19,9 @@ use Rattle.gx_model.specs.Records.Lookups.{commit_named}
 use Rattle.gx_model.specs.Revisions.Denotation.{ref_at}
 use Rattle.gx_model.specs.Revisions.Ranges.{reaches}
 use Rattle.gx_model.specs.Replay.{State, is_fast_forward, is_forward, peeled_at}
-use Rattle.gx_model.proofs.PathTests.{is_true, same_is}
-use Rattle.gx_model.proofs.PeeledRefs.{held_holds, old_is, told}
-use Rattle.gx_model.proofs.ReachedCommits.{itself}
+use Rattle.gx_model.proofs.Texts.PathTests.{is_true, same_is}
+use Rattle.gx_model.proofs.Records.PeeledRefs.{held_holds, old_is, told}
+use Rattle.gx_model.proofs.Histories.ReachedCommits.{itself}
 use Rattle.gx_object.specs.declared.name.Name.{Name}
 use Rattle.gx_import.specs.declared.branches.Tip.{Tip}
 use Rattle.gx_import.specs.declared.tables.Tables.{Tables}
@@ -30,7 +30,7 @@ use Rattle.gx_import.specs.RefChanges.{IsHeldByRef, is_at}
 use Rattle.gx_import.specs.Rows.{AreBoth, AreRows, rows_of}
 use Rattle.gx_import.specs.Standing.{IsTip, Stands}
 use Rattle.gx_import.proofs.Parents.{commit_by_name}
-use Rattle.gx_model.proofs.HeldValues.{value_held}
+use Rattle.gx_model.proofs.Records.HeldValues.{value_held}
 
 -- what one of two tests tells, with a further one
 or_then : (a b c : Bool) → (a || b) ≡ true → (a || (b && c)) ≡ (a || c)

@@ -12,10 +12,10 @@ use Rattle.std.specs.declared.vec.Vec.{Vec}
 use Rattle.std.proofs.lemmas.Map.Text.{is_eq-slice_cmp}
 use Rattle.gx_model.specs.Texts.{Bytes, same_bytes}
 use Rattle.gx_model.specs.Replay.{byte_cmp}
-use Rattle.gx_model.proofs.PathRuns.{less_is}
-use Rattle.gx_model.proofs.PathTests.{first, second, is_same, is_true}
+use Rattle.gx_model.proofs.Histories.PathRuns.{less_is}
+use Rattle.gx_model.proofs.Texts.PathTests.{first, second, is_same, is_true}
 use Rattle.gx_import.specs.Rows.{AreFound, IsFound, row_of}
-use Rattle.gx_model.proofs.SortedRefs.{order}
+use Rattle.gx_model.proofs.Records.SortedRefs.{order}
 
 -- a name behind another is not the same
 pub name_apart : (n m : Bytes) → T (is_lt (byte_cmp n m)) → is_eq (byte_cmp m n) ≡ false

@@ -19,7 +19,7 @@ use Rattle.gx_model.specs.Records.Sound.{IsNamedMap, IsSound}
 use Rattle.gx_model.specs.Revisions.Denotation.{base_value, lower}
 use Rattle.gx_model.specs.Streams.Commands.{Change, Clear, Copy, DataRef, Inline, Mark, Modify, Object, Remove, Rename}
 use Rattle.gx_model.specs.Replay.{State, all_changed, at, blob_bytes, changed, content}
-use Rattle.gx_model.proofs.GrownTrees.{trees_fold}
+use Rattle.gx_model.proofs.Records.GrownTrees.{trees_fold}
 use Rattle.gx_object.specs.declared.name.Name.{Name}
 use Rattle.gx_repo.specs.Additions.{HasValues}
 use Rattle.gx_import.specs.declared.tables.Tables.{Tables}

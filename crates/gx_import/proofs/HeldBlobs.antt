@@ -4,7 +4,7 @@ use Rattle.std.specs.Prelude.{T, IsTrue, is_some, nat_eq, ◌&&◌}
 use Rattle.std.specs.Bool.{passes}
 use Rattle.std.proofs.lemmas.Grind.{common_steps}
 use Rattle.std.proofs.lemmas.List.{length-map}
-use Rattle.gx_model.proofs.PathTests.{both, first, is_true, second}
+use Rattle.gx_model.proofs.Texts.PathTests.{both, first, is_true, second}
 use Rattle.std.specs.List.{list_all}
 use Rattle.std.specs.Option.{option_map}
 use Rattle.gx_model.specs.declared.faults.Fault.TheVariants as fault
@@ -25,8 +25,8 @@ use Rattle.gx_model.specs.Revisions.Denotation.{base_value, begun_by, full_name,
 use Rattle.gx_model.specs.Streams.Commands.{Object}
 use Rattle.gx_model.specs.Replay.{State, blob_bytes, content}
 use Rattle.gx_object.specs.declared.name.Name.{Name}
-use Rattle.gx_model.proofs.Bases.{full_found, full_none, none_got, some_got, whole_digits}
-use Rattle.gx_model.proofs.HeldValues.{got, held_is}
+use Rattle.gx_model.proofs.Revisions.Bases.{full_found, full_none, none_got, some_got, whole_digits}
+use Rattle.gx_model.proofs.Records.HeldValues.{got, held_is}
 use Rattle.gx_model.specs.declared.faults.Fault.{Fault}
 use Rattle.gx_import.specs.Answers.{GivesAs}
 use Rattle.gx_import.specs.Objects.{IsBlobOf, name_of_kind}

@@ -12,7 +12,7 @@ use Rattle.gx_model.specs.Records.Lookups.{commit_named}
 use Rattle.gx_model.specs.Records.Sound.{IsSound}
 use Rattle.gx_model.specs.Revisions.Denotation.{commit_in}
 use Rattle.gx_object.specs.declared.name.Name.{Name}
-use Rattle.gx_model.proofs.HeldValues.{commit_held, commit_stands, held_is, kind_held, peeled_none, peeled_to, value_held}
+use Rattle.gx_model.proofs.Records.HeldValues.{commit_held, commit_stands, held_is, kind_held, peeled_none, peeled_to, value_held}
 use Rattle.gx_import.specs.declared.object.Object.{Object}
 use Rattle.gx_import.specs.Objects.{IsCommitOf, IsOf}
 

@@ -24,11 +24,11 @@ use Rattle.gx_model.specs.Records.HistoryOf.{commit_of_value, files_of_tree, his
 use Rattle.gx_model.specs.Records.Growth.{AreReady, put, with_values}
 use Rattle.gx_model.specs.Laws.RepositoryLaws.{PutsGrow, values_of}
 use Rattle.gx_model.specs.Records.Sound.{Holds, IsSound, Keeps}
-use Rattle.gx_model.proofs.PathTests.{both, is_true}
-use Rattle.gx_model.proofs.LinkedValues.{proper_in}
+use Rattle.gx_model.proofs.Texts.PathTests.{both, is_true}
+use Rattle.gx_model.proofs.Records.LinkedValues.{proper_in}
 use Rattle.gx_object.specs.declared.name.Name.{Name}
 use Rattle.gx_repo.specs.Additions.{commit_among, commit_record, tag_among, tag_record}
-use Rattle.gx_model.proofs.HeldValues.{all_whole, value_held, value_holds}
+use Rattle.gx_model.proofs.Records.HeldValues.{all_whole, value_held, value_holds}
 use Rattle.gx_import.specs.Objects.{IsCommitOf, IsTreeOf}
 use Rattle.gx_import.specs.Rows.{AreAll}
 use Rattle.gx_import.proofs.Blobs.{name_held}

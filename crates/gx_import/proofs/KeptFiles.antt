@@ -15,7 +15,7 @@ use Rattle.gx_model.specs.Histories.Edits.{copied, copy_fault, modified, moved, 
 use Rattle.gx_model.specs.Histories.Values.{Value, blob_of, blobs_of, is_leaf}
 use Rattle.gx_model.specs.Records.{content_name, named_map}
 use Rattle.gx_model.specs.Histories.{IsIn}
-use Rattle.gx_model.proofs.PathTests.{both, first, second, is_true}
+use Rattle.gx_model.proofs.Texts.PathTests.{both, first, second, is_true}
 use Rattle.gx_model.specs.Objects.NameMaps.{AreFiles, IsNameMap}
 use Rattle.gx_import.proofs.NamedEdits.{leafed}
 

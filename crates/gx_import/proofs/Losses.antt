@@ -18,8 +18,8 @@ use Rattle.gx_model.specs.Laws.RepositoryLaws.{values_of}
 use Rattle.gx_model.specs.Revisions.Denotation.{ref_at}
 use Rattle.gx_model.specs.Streams.Commands.{Checkpoint, Command}
 use Rattle.gx_model.specs.Replay.{State, is_forward}
-use Rattle.gx_model.proofs.HeldValues.{commit_held, commit_stands, held_is, holds_held}
-use Rattle.gx_model.proofs.PeeledRefs.{old_holds, old_is}
+use Rattle.gx_model.proofs.Records.HeldValues.{commit_held, commit_stands, held_is, holds_held}
+use Rattle.gx_model.proofs.Records.PeeledRefs.{old_holds, old_is}
 use Rattle.gx_object.specs.declared.name.Name.{Name}
 use Rattle.gx_command.specs.CommandFaults.{fault_of as of_command}
 use Rattle.gx_command.specs.declared.fault.CommandFault.{CommandFault}

@@ -13,7 +13,7 @@ use Rattle.gx_model.specs.Histories.Values.{Commit, Tag, Value, commit_value, ta
 use Rattle.gx_model.specs.Records.{name_of}
 use Rattle.gx_model.specs.Histories.{IsIn, Records}
 use Rattle.gx_model.specs.Replay.{State, byte_cmp, marked, on_branch}
-use Rattle.gx_model.proofs.PathTests.{is_true}
+use Rattle.gx_model.proofs.Texts.PathTests.{is_true}
 use Rattle.gx_object.specs.declared.name.Name.{Name}
 use Rattle.gx_import.specs.declared.object.Object.{Object}
 use Rattle.gx_import.specs.declared.marks.Marks.{Marks}
@@ -24,7 +24,7 @@ use Rattle.gx_import.specs.Objects.{IsCommitOf, IsOf, IsTagOf}
 use Rattle.gx_import.specs.Rows.{AreBoth, AreRows, rows_of}
 use Rattle.gx_import.specs.Standing.{AreMarks, AreTipFiles, Follows, IsTip, Stands}
 use Rattle.gx_import.proofs.RelatedRows.{related_put}
-use Rattle.gx_model.proofs.SortedRefs.{order, same_text}
+use Rattle.gx_model.proofs.Records.SortedRefs.{order, same_text}
 use Rattle.gx_import.proofs.Standings.{marked_one, moved_branch}
 
 pub marked_history : (mark : Option ℕ) (v : Value) (s : State) → (marked mark v s).history ≡ s.history

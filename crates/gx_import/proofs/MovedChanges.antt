@@ -14,7 +14,7 @@ use Rattle.gx_model.specs.Texts.{Bytes, same_bytes}
 use Rattle.gx_model.specs.Histories.{Record}
 use Rattle.gx_model.specs.Records.Publishing.{Change, Ref, change_fault, changes_fault, first_fault, with_change, with_changes}
 use Rattle.gx_model.specs.Replay.{byte_cmp}
-use Rattle.gx_model.proofs.PathTests.{both, first, second, same_is}
+use Rattle.gx_model.proofs.Texts.PathTests.{both, first, second, same_is}
 use Rattle.gx_object.specs.declared.name.Name.{Name}
 use Rattle.gx_import.specs.declared.branches.Tip.{Tip}
 use Rattle.gx_import.specs.declared.tables.Tables.{Tables}
@@ -22,7 +22,7 @@ use Rattle.gx_import.specs.RefChanges.{branch_changes, branch_then, changes_of, 
 use Rattle.gx_import.specs.Rows.{IsSorted, rows_of}
 use Rattle.gx_import.proofs.FoundRows.{name_apart}
 use Rattle.gx_import.proofs.PublishedNames.{found, put_there}
-use Rattle.gx_model.proofs.SortedRefs.{order}
+use Rattle.gx_model.proofs.Records.SortedRefs.{order}
 
 -- ---- one branch after the other
 

@@ -17,9 +17,9 @@ use Rattle.gx_model.specs.Records.Growth.{all_trees, clashes, with_values}
 use Rattle.gx_model.specs.Streams.Commands as command
 use Rattle.gx_model.specs.Streams.Commands.{Asks, Blob, Checkpoint, Command, CommitIsh, CommitParts, Done, OptionLine, Progress, Reset, TagParts}
 use Rattle.gx_model.specs.Replay.{Outcome, Report, State, added, all_changed, all_committed, commit_alone, committed, committed_for, ended, final, finished, first_parent, is_fast_forward, marked, on_branch, refused, replayed, report, starting_files, step, step_commit, step_reset, step_tag}
-use Rattle.gx_model.proofs.GrownRecords.{is_is_in}
-use Rattle.gx_model.proofs.GrownTrees.{trees_fold}
-use Rattle.gx_model.proofs.PathTests.{same_is}
+use Rattle.gx_model.proofs.Records.GrownRecords.{is_is_in}
+use Rattle.gx_model.proofs.Records.GrownTrees.{trees_fold}
+use Rattle.gx_model.proofs.Texts.PathTests.{same_is}
 use Rattle.gx_import.specs.Additions.{Clash, ClashesAt, added_by_commit, added_by_tag, blobs_added, commit_made, tag_made, unless_refused, values_added}
 use Rattle.gx_import.proofs.AddedAnswers.{both_given}
 use Rattle.gx_import.proofs.KeptCheckpoints.{given_checkpoint}

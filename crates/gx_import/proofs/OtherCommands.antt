@@ -13,10 +13,10 @@ use Rattle.gx_model.specs.Streams.Items.{items_of}
 use Rattle.gx_model.specs.Replay.{Kept, Outcome, State, refused, replayed, step}
 use Rattle.gx_model.specs.Export.{export_items, export_text, inner_commands, reached_commits}
 use Rattle.gx_model.specs.Laws.ExportLaws.{IsReadable, IsSpelled}
-use Rattle.gx_model.proofs.CommandItems.{commands_read}
-use Rattle.gx_model.proofs.ItemTexts.{items_read}
-use Rattle.gx_model.proofs.SpelledExports.{export_spelled}
-use Rattle.gx_model.proofs.SpelledItems.{between_spelled}
+use Rattle.gx_model.proofs.Streams.CommandItems.{commands_read}
+use Rattle.gx_model.proofs.Streams.ItemTexts.{items_read}
+use Rattle.gx_model.proofs.Export.SpelledExports.{export_spelled}
+use Rattle.gx_model.proofs.Streams.SpelledItems.{between_spelled}
 use Rattle.gx_import.proofs.ProgressTexts.{HasKept, IsOther, kept_still}
 
 abbrev pub AreOther : List Command → Type 0

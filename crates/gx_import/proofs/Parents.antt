@@ -15,7 +15,7 @@ use Rattle.gx_model.specs.Records.Sound.{IsSound}
 use Rattle.gx_model.specs.Records.RecordFaults.{is_held}
 use Rattle.gx_model.specs.Replay.{State, byte_cmp, own_commit, starting_files}
 use Rattle.gx_object.specs.declared.name.Name.{Name}
-use Rattle.gx_model.proofs.HeldValues.{value_held}
+use Rattle.gx_model.proofs.Records.HeldValues.{value_held}
 use Rattle.gx_import.specs.declared.branches.Tip.{Tip}
 use Rattle.gx_import.specs.declared.tables.Tables.{Tables}
 use Rattle.gx_import.specs.Objects.{IsCommitOf, IsTagOf}

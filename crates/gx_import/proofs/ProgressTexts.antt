@@ -18,7 +18,7 @@ use Rattle.gx_model.specs.Streams.Commands as command
 use Rattle.gx_model.specs.Streams.Commands.{Asks, Blob, Change, Checkpoint, Clear, Command, CommitIsh, CommitParts, Copy, DataRef, Done, Inline, Mark, Modify, Object, OptionLine, Progress, Remove, Rename, Reset, TagParts}
 use Rattle.gx_model.specs.Replay.{State, added, all_changed, all_committed, at, blob_bytes, changed, checkpointed, commit_alone, committed, committed_for, content, ended, final, finished, first_parent, is_fast_forward, marked, refused, replayed, report, starting_files, step, step_checkpoint, step_commit, step_reset, step_tag, text_made, with_first_parent}
 use Rattle.gx_model.specs.Texts.Sinks.{Taken, Took}
-use Rattle.gx_model.proofs.SentTexts.{failed_after, failed_longer, took_both}
+use Rattle.gx_model.proofs.Texts.SentTexts.{failed_after, failed_longer, took_both}
 use Rattle.gx_import.specs.Additions.{tag_made}
 use Rattle.gx_import.specs.Imports.{last_number, progress_of}
 use Rattle.gx_import.specs.Replaying.{Writes}

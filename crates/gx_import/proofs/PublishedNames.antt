@@ -17,7 +17,7 @@ use Rattle.gx_model.specs.Histories.{Records, value_at}
 use Rattle.gx_model.specs.Records.{name_of}
 use Rattle.gx_model.specs.Records.Publishing.{Change, Ref, with_changes}
 use Rattle.gx_model.specs.Replay.{byte_cmp, overwritten}
-use Rattle.gx_model.proofs.PathTests.{is_true}
+use Rattle.gx_model.proofs.Texts.PathTests.{is_true}
 use Rattle.gx_object.specs.declared.name.Name.{Name}
 use Rattle.gx_import.specs.Keeping.{AreNames, EntersChanges, EntersTables}
 use Rattle.gx_import.specs.RefChanges.{branch_changes, changes_of, is_at, is_due, is_moved, is_new, moved_of, tag_changes}
@@ -25,7 +25,7 @@ use Rattle.gx_import.specs.Rows.{AreBoth, rows_of}
 use Rattle.gx_import.specs.declared.tables.Tables.{Tables}
 use Rattle.gx_import.proofs.RelatedRows.{related_found, related_itself, related_put, related_through, sorted_same}
 use Rattle.gx_import.proofs.SetRefs.{changes_seen, overwritten_is, seen, seen_all, targets_of}
-use Rattle.gx_model.proofs.SortedRefs.{order, same_text}
+use Rattle.gx_model.proofs.Records.SortedRefs.{order, same_text}
 
 tied : (q n : Bytes) → eq_by_cmp byte_cmp q n ≡ true → byte_cmp q n ≡ Equal
 tied q n e = by (byte_cmp q n) e

@@ -17,8 +17,8 @@ use Rattle.gx_model.specs.Streams.Commands.{Command, Commands, Progress}
 use Rattle.gx_model.specs.Replay.{Outcome, State, byte_cmp, begun, imported_asked, refused, replayed, replayed_asked, start, step}
 use Rattle.gx_model.specs.Faults.{and_then}
 use Rattle.gx_model.specs.Laws.ExportLaws.{steps}
-use Rattle.gx_model.proofs.CommitSteps.{steps_after}
-use Rattle.gx_model.proofs.GitlinkSteps.{IsFreeState, start_free, step_free}
+use Rattle.gx_model.proofs.Export.CommitSteps.{steps_after}
+use Rattle.gx_model.proofs.Replay.GitlinkSteps.{IsFreeState, start_free, step_free}
 use Rattle.gx_model.specs.Texts.Sinks.{FailedWithin, Taken, Took, TookFront}
 use Rattle.gx_text.specs.Devices.{Coming}
 use Rattle.gx_stream.specs.Heard.{heard}
@@ -44,7 +44,7 @@ use Rattle.gx_import.specs.Standing.{AreEmpty, Extends, IsTip, Stands}
 use Rattle.gx_import.specs.declared.fault.ImportFault.{ImportFault}
 use Rattle.gx_model.specs.declared.faults.Fault.TheVariants.{OutOfMemory, ReadFailed, WriteFailed, UnknownCommand, BadLine, BadNumber, TruncatedData, BadPath, PathTooLong, BadMode, BadIdent, BadRefName, UnknownMark, WrongKind, UnknownObject, NoSuchPath, RootNotTree, FromItself, EmptyBranch, Unsupported, LateOption, MissingDone, NotFastForward, NameHeld, BadRevision, UnknownRef, Ambiguous, NoParent}
 use Rattle.gx_import.specs.declared.tables.Tables.{Tables}
-use Rattle.gx_model.proofs.SentTexts.{failed_after, failed_longer, took_both, took_nothing}
+use Rattle.gx_model.proofs.Texts.SentTexts.{failed_after, failed_longer, took_both, took_nothing}
 use Rattle.gx_import.proofs.ProgressTexts.{begins_outcome, last_progress, numbers_outcome}
 
 -- numbers of commands are from 1

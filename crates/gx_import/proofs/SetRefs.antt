@@ -23,24 +23,24 @@ use Rattle.gx_model.specs.Records.Sound.{IsSound}
 use Rattle.gx_model.specs.Replay.{State, byte_cmp, final, overwritten, with_branch}
 use Rattle.gx_model.specs.Laws.RepositoryLaws.{HistoriesOf, with_refs}
 use Rattle.gx_model.specs.Stores.StoreReading.{is_target_of_kind}
-use Rattle.gx_model.proofs.BodiesReadBack.{tag_read}
-use Rattle.gx_model.proofs.HeldNames.{value_found}
-use Rattle.gx_model.proofs.HistoriesExist.{stands, tag_text_is}
-use Rattle.gx_model.proofs.LinkedValues.{proper_in}
-use Rattle.gx_model.proofs.PathTests.{both, first, is_same, is_true, second}
+use Rattle.gx_model.proofs.ObjectTexts.BodiesReadBack.{tag_read}
+use Rattle.gx_model.proofs.Records.HeldNames.{value_found}
+use Rattle.gx_model.proofs.Records.HistoriesExist.{stands, tag_text_is}
+use Rattle.gx_model.proofs.Records.LinkedValues.{proper_in}
+use Rattle.gx_model.proofs.Texts.PathTests.{both, first, is_same, is_true, second}
 use Rattle.gx_object.specs.declared.name.Name.{Name}
 use Rattle.gx_repo.specs.Publishing.{fault_of}
 use Rattle.gx_model.specs.Records.Publishing.{Change, change_fault, changes_fault, first_fault, published, unless, with_changes}
 use Rattle.gx_repo.specs.declared.fault.PublishFault.{PublishFault}
 use Rattle.gx_repo.specs.declared.fault.PublishFault.TheVariants as faults
-use Rattle.gx_model.proofs.ChangedRefs.{fault_shown}
+use Rattle.gx_model.proofs.Records.ChangedRefs.{fault_shown}
 use Rattle.gx_import.specs.declared.branches.Tip.{Tip}
 use Rattle.gx_import.specs.declared.tables.Tables.{Tables}
 use Rattle.gx_import.specs.Objects.{IsCommitOf, IsTagOf}
 use Rattle.gx_import.specs.RefChanges.{branch_changes, branch_then, changes_of, tag_changes}
 use Rattle.gx_import.specs.Rows.{AreBoth, AreRows, rows_of}
 use Rattle.gx_import.specs.Standing.{IsTip, Stands}
-use Rattle.gx_model.proofs.SortedRefs.{order, same_text}
+use Rattle.gx_model.proofs.Records.SortedRefs.{order, same_text}
 
 -- ---- changes that are good are not refused
 

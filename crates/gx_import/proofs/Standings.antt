@@ -13,8 +13,8 @@ use Rattle.gx_model.specs.Histories.Values.{Commit, Tag, Value}
 use Rattle.gx_model.specs.Histories.{IsIn, Records, is_in, with_one, with_value}
 use Rattle.gx_model.specs.Laws.RepositoryLaws.{values_of}
 use Rattle.gx_model.specs.Replay.{State, added, byte_cmp, marked, on_branch}
-use Rattle.gx_model.proofs.PathTests.{first, second, is_true}
-use Rattle.gx_model.proofs.AddedValues.{in_left, in_right, is_in_is}
+use Rattle.gx_model.proofs.Texts.PathTests.{first, second, is_true}
+use Rattle.gx_model.proofs.Histories.AddedValues.{in_left, in_right, is_in_is}
 use Rattle.gx_object.specs.declared.name.Name.{Name}
 use Rattle.gx_repo.specs.Additions.{HasValues}
 use Rattle.gx_import.specs.declared.object.Object.{Object}
@@ -26,7 +26,7 @@ use Rattle.gx_import.specs.Objects.{IsCommitOf, IsOf, IsTagOf}
 use Rattle.gx_import.specs.Rows.{AreBoth, AreRows, rows_of}
 use Rattle.gx_import.specs.Standing.{AreMarks, IsTip, Stands}
 use Rattle.gx_import.proofs.RelatedRows.{related_more, related_put}
-use Rattle.gx_model.proofs.SortedRefs.{order}
+use Rattle.gx_model.proofs.Records.SortedRefs.{order}
 
 -- ---- values stay, and the one that is added stands
 

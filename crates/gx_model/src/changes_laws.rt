@@ -3,7 +3,7 @@ ghost use Rattle.gx_model.specs.Laws.ChangesLaws.{ChangesAreImported, ChangesAre
 ghost use Rattle.gx_model.specs.Objects.{ForEachNamer};
 
 /// The items of an export's commands can be spelled and are read as these commands, with and without `feature done` and `done`.
-#[tactic(auto, using(crate::proofs::CommandEnds::closed_spelled, crate::proofs::CommandEnds::closed_read))]
+#[tactic(auto, using(crate::proofs::Streams::CommandEnds::closed_spelled, crate::proofs::Streams::CommandEnds::closed_read))]
 pub fn closed_commands_are_read()
     ensures items { ClosedCommandsAreItems }
     ensures commands { ClosedCommandsAreRead }

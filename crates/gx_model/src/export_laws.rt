@@ -4,13 +4,13 @@ ghost use Rattle.gx_model.specs.Laws.ExportLaws.{CommandsAreItems, CommandsAreRe
 ghost use Rattle.gx_model.specs.declared.objects.Kind.{Kind};
 
 /// The text of some items is read as these items, where each is a line that is no comment and announces no block, or a block.
-#[tactic(auto, using(crate::proofs::ItemTexts::items_read))]
+#[tactic(auto, using(crate::proofs::Streams::ItemTexts::items_read))]
 pub fn items_are_read()
     ensures items { ItemsAreRead }
 {}
 
 /// The items of an export's commands are such items, and they are read as these commands.
-#[tactic(auto, using(crate::proofs::SpelledItems::between_spelled, crate::proofs::CommandItems::commands_read))]
+#[tactic(auto, using(crate::proofs::Streams::SpelledItems::between_spelled, crate::proofs::Streams::CommandItems::commands_read))]
 pub fn commands_are_read()
     ensures items { CommandsAreItems }
     ensures commands { CommandsAreRead }
@@ -18,7 +18,7 @@ pub fn commands_are_read()
 
 /// The commands of one commit, whose parents were written, are replayed without a fault, and write it and the blobs that it lacked.
 /// After them a history holds exactly what the commits so far reach.
-#[tactic(auto, using(crate::proofs::CommitSteps::one_commit_replayed))]
+#[tactic(auto, using(crate::proofs::Export::CommitSteps::one_commit_replayed))]
 pub fn commits_are_replayed()
     ensures replayed { (name : Kind → List ℕ → List ℕ) → CommitIsReplayed name }
     ensures kept { CommitKeeps }
@@ -26,14 +26,14 @@ pub fn commits_are_replayed()
 
 /// The commands of a history's export, replayed from nothing, meet no fault: they give the same refs, exactly what these reach,
 /// and the commits in their order.
-#[tactic(auto, using(crate::proofs::ExportSteps::export_replayed))]
+#[tactic(auto, using(crate::proofs::Export::ExportSteps::export_replayed))]
 pub fn exports_are_replayed()
     ensures replayed { ExportIsReplayed }
 {}
 
 /// A history that has no gitlink of forty zeros has an export of commands that can be spelled, if the text's length is below
 /// 2^64.
-#[tactic(auto, using(crate::proofs::ReadableExports::formed_readable, crate::proofs::SpelledExports::export_spelled))]
+#[tactic(auto, using(crate::proofs::Export::ReadableExports::formed_readable, crate::proofs::Export::SpelledExports::export_spelled))]
 pub fn exports_are_readable()
     ensures readable { FormedIsReadable }
     ensures spelled { ExportIsSpelled }

@@ -3,14 +3,14 @@ ghost use Rattle.gx_model.specs.Laws.ExportLaws.{nothing};
 ghost use Rattle.gx_model.specs.Streams.Gitlinks.{HoldsNoNullGitlink, HoldsTellsHas, NullGitlinksAreRefused, RefusalsKeepNone, ReplaysKeepNone, StreamsBringNone, TextsBringNone, TextsComeBack};
 
 /// No command that a stream has gives a gitlink of forty zeros.
-#[tactic(auto, using(crate::proofs::ReadGitlinks::none_brought))]
+#[tactic(auto, using(crate::proofs::Streams::ReadGitlinks::none_brought))]
 pub fn streams_bring_none()
     ensures { StreamsBringNone }
 {}
 
 /// The empty history holds no gitlink of forty zeros. Where a history holds none, none is left after commands that bring
 /// none, also where they are refused, and so after any text that is replayed; nor do its refs reach one.
-#[tactic(auto, using(crate::proofs::GitlinkSteps::none_kept, crate::proofs::GitlinkSteps::refusals_keep_none, crate::proofs::GitlinkSteps::none_from_text, crate::proofs::GitlinkSteps::none_reached))]
+#[tactic(auto, using(crate::proofs::Replay::GitlinkSteps::none_kept, crate::proofs::Replay::GitlinkSteps::refusals_keep_none, crate::proofs::Replay::GitlinkSteps::none_from_text, crate::proofs::Replay::GitlinkSteps::none_reached))]
 pub fn replays_keep_none()
     ensures empty { HoldsNoNullGitlink nothing }
     ensures kept { ReplaysKeepNone }

@@ -6,14 +6,14 @@ ghost use Rattle.gx_model.specs.Replay.ProperReplays.{RefusalsKeepHistories, Rep
 
 /// The commands that a stream has are proper: their ref names, tag names, identities, encodings, new paths and gitlink digits
 /// have their forms. Source: git-fast-import(1), "Commands".
-#[tactic(auto, using(crate::proofs::ReadCommands::all_proper))]
+#[tactic(auto, using(crate::proofs::Streams::ReadCommands::all_proper))]
 pub fn streams_are_proper()
     ensures { StreamsAreProper }
 {}
 
 /// The empty history is proper. Where a history is, so is what proper commands make of it, and what is kept of it where they
 /// are refused, and so what any text makes. Whatever names objects have, and however revisions are read.
-#[tactic(auto, using(crate::proofs::HistorySteps::nothing_is, crate::proofs::HistorySteps::replays_give, crate::proofs::HistorySteps::refusals_keep, crate::proofs::HistorySteps::texts_give))]
+#[tactic(auto, using(crate::proofs::Replay::HistorySteps::nothing_is, crate::proofs::Replay::HistorySteps::replays_give, crate::proofs::Replay::HistorySteps::refusals_keep, crate::proofs::Replay::HistorySteps::texts_give))]
 pub fn replays_give_histories()
     ensures empty { IsHistory nothing }
     ensures replays { ReplaysGiveHistories }
@@ -25,7 +25,7 @@ pub fn replays_give_histories()
 /// what they make of a history, too. Only the numbers of commands count no such lines. The text of an export asks for `done`
 /// itself, and has the same commands with any features. So has the text of an export of changes that has `done`.
 /// Source: git-fast-import(1), "--done" and "--force".
-#[tactic(auto, using(crate::proofs::AskedFeatures::commands_are_asked, crate::proofs::AskedFeatures::replays_are_asked))]
+#[tactic(auto, using(crate::proofs::Streams::AskedFeatures::commands_are_asked, crate::proofs::Streams::AskedFeatures::replays_are_asked))]
 pub fn features_are_asked()
     ensures commands { CommandsAreAsked }
     ensures replays { ReplaysAreAsked }

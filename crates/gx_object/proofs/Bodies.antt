@@ -7,7 +7,7 @@ use Rattle.std.specs.Cmp.Lexicographic.{bytes_decides}
 use Rattle.std.proofs.lemmas.Bool.{ltb-false, le-ltb, false≢true}
 use Rattle.std.proofs.lemmas.List.{take-append-drop, length-take, take_at, drop_at}
 use Rattle.gx_model.specs.Texts.{cut_at, lacks}
-use Rattle.gx_model.proofs.Cuts.{cut_after, cut_spelled}
+use Rattle.gx_model.proofs.Texts.Cuts.{cut_after, cut_spelled}
 use Rattle.gx_model.specs.declared.objects.Mode.{Mode}
 use Rattle.gx_model.specs.declared.objects.Mode.TheVariants.{File, Exec, Link, Gitlink, Dir}
 use Rattle.std.specs.Iterator.{MakesProgress, item_count}

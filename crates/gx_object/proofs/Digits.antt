@@ -16,7 +16,7 @@ use Rattle.gx_model.specs.Histories.Values.{is_hex_digit as is_lower_digit}
 use Rattle.gx_model.specs.Objects.{hex, hex_digit, digit_value, unhex}
 use Rattle.gx_model.specs.Revisions.Denotation.{is_any_digit, lower}
 use Rattle.gx_model.specs.Objects.Naming.{name_in, lower_name_in}
-use Rattle.gx_model.proofs.NameDigits.{AreBytes}
+use Rattle.gx_model.proofs.ObjectTexts.NameDigits.{AreBytes}
 
 same_digit : (n : ℕ) → n < 16 → hex_digit n ≡ slice_index lower_digits n
 same_digit zero h = refl

@@ -10,10 +10,10 @@ use Rattle.gx_model.specs.Texts.{Bytes, cut_at, is_line, lacks}
 use Rattle.gx_model.specs.Texts.Idents.{is_ident}
 use Rattle.gx_model.specs.Objects.{hex, is_name, line}
 use Rattle.gx_model.specs.Objects.Naming.{lower_name_in}
-use Rattle.gx_model.proofs.Cuts.{cut_after, cut_spelled, map_some}
-use Rattle.gx_model.proofs.LineTexts.{ident_is_line}
+use Rattle.gx_model.proofs.Texts.Cuts.{cut_after, cut_spelled, map_some}
+use Rattle.gx_model.proofs.Texts.LineTexts.{ident_is_line}
 use Rattle.gx_object.specs.Lines.{◌>>=◌, field, ident_field, name_field, stripped}
-use Rattle.gx_model.proofs.NameDigits.{name_found, name_again, name_line}
+use Rattle.gx_model.proofs.ObjectTexts.NameDigits.{name_found, name_again, name_line}
 
 -- the value of a step that did not fail
 pub bind_some : {A B : Type 0} (o : Option A) (f : A → Option B) (y : B) → (o >>= f) ≡ Some y → (x : A) × (o ≡ Some x) × (f x ≡ Some y)

@@ -10,7 +10,7 @@ use Rattle.gx_model.specs.Texts.{Bytes, lacks}
 use Rattle.gx_model.specs.Texts.Paths.{is_component}
 use Rattle.gx_model.specs.Objects.{Entry, IsTreeText, entry_text, is_canonical, is_name, mode_text, tree_text}
 use Rattle.gx_object.specs.Trees.{entry_at, entries_within, entries_of, tree_of}
-use Rattle.gx_model.proofs.NameDigits.{AreBytes, all_bytes}
+use Rattle.gx_model.proofs.ObjectTexts.NameDigits.{AreBytes, all_bytes}
 use Rattle.gx_object.proofs.Orders.{canonical_parts}
 use Rattle.gx_object.proofs.Bodies.{bind_some, some_is, Takes, entry_takes, entry_again, entries_step}
 

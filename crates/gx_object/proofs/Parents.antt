@@ -11,7 +11,7 @@ use Rattle.gx_model.specs.Objects.{hex, is_name, line}
 use Rattle.gx_model.specs.Objects.Naming.{lower_name_in}
 use Rattle.gx_object.specs.Lines.{field, name_field, stripped}
 use Rattle.gx_object.specs.Commits.{AreParents, parent_lines, parents_of, parents_within, with_first}
-use Rattle.gx_model.proofs.NameDigits.{name_again, name_long}
+use Rattle.gx_model.proofs.ObjectTexts.NameDigits.{name_again, name_long}
 use Rattle.gx_object.proofs.Fields.{name_spelled, name_field_again}
 
 abbrev parent : Bytes → Bytes

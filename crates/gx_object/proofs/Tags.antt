@@ -8,8 +8,8 @@ use Rattle.gx_model.specs.Texts.{Bytes, has_pair, same_bytes}
 use Rattle.gx_model.specs.Texts.RefNames.{is_ref_byte, is_ref_component, is_ref_name, is_tag_name, ref_components, tag_ref}
 use Rattle.gx_model.specs.Histories.Values.{is_optional_ident}
 use Rattle.gx_model.specs.Objects.{IsTagText, TagParts, hex, line, optional_line, tag_text}
-use Rattle.gx_model.proofs.BodiesReadBack.{tag_text_flat}
-use Rattle.gx_model.proofs.LineTexts.{tag_is_line}
+use Rattle.gx_model.proofs.ObjectTexts.BodiesReadBack.{tag_text_flat}
+use Rattle.gx_model.proofs.Texts.LineTexts.{tag_is_line}
 use Rattle.gx_object.specs.Lines.{field, ident_field, name_field, or_absent, stripped}
 use Rattle.gx_object.specs.Tags.{tag_field, tag_of}
 use Rattle.gx_object.proofs.Fields.{bind_some, test_some, field_spelled, field_again, ident_spelled, ident_again, name_spelled, name_field_again, stripped_spelled, stripped_again}

@@ -17,7 +17,7 @@ use Rattle.gx_store.specs.Stores.{Puts}
 use Rattle.gx_tree.specs.declared.fault.TreeFault.{TreeFault}
 use Rattle.gx_tree.specs.StoreFaults.{tree_fault}
 use Rattle.gx_tree.specs.Writes.{PutsAll, map_name}
-use Rattle.gx_model.proofs.Puts.{front_put}
+use Rattle.gx_model.proofs.Records.Puts.{front_put}
 use Rattle.gx_repo.specs.Additions.{Adds, AddsAll, HasValues}
 use Rattle.gx_repo.specs.Rooms.{IsFront}
 use Rattle.gx_repo.proofs.RecordRooms.{front_kept}

@@ -13,7 +13,7 @@ use Rattle.gx_model.specs.Records.HistoryOf.{files_at, files_of_tree, named_valu
 use Rattle.gx_model.specs.Records.Sound.{AnyByRecursion, IsHeldAs, IsSound}
 use Rattle.gx_model.specs.Records.Growth.{record_named}
 use Rattle.gx_model.specs.Records.RecordFaults.{is_held, is_of_kind, is_without_entries}
-use Rattle.gx_model.proofs.PathTests.{same_is}
+use Rattle.gx_model.proofs.Texts.PathTests.{same_is}
 use Rattle.gx_store.specs.Stores.{place_named}
 use Rattle.gx_repo.specs.Checking.{entry_room}
 use Rattle.gx_repo.specs.Places.{IsPlace}

@@ -17,7 +17,7 @@ use Rattle.gx_model.specs.Laws.RepositoryLaws.{PartsChange, values_of, with_refs
 use Rattle.gx_model.specs.Records.Publishing.{Ref}
 use Rattle.gx_model.specs.Records.Sound.{IsSound, IsTarget}
 use Rattle.gx_model.specs.Replay.{byte_cmp}
-use Rattle.gx_model.proofs.PathTests.{both, first, second, is_true}
+use Rattle.gx_model.proofs.Texts.PathTests.{both, first, second, is_true}
 use Rattle.gx_repo.specs.Dropping.{AreIn, DropsFrom, EntersNames, dropped, is_among, is_in, lent_names, unknown_behind, unless_unknown, without}
 use Rattle.gx_repo.specs.Refs.{is_held, shown_ref}
 use Rattle.gx_repo.specs.declared.fault.DropFault.{DropFault}

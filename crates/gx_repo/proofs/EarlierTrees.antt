@@ -12,9 +12,9 @@ use Rattle.gx_model.specs.Records.Growth.{same_kind}
 use Rattle.gx_model.specs.Histories.{AreDistinct, Record}
 use Rattle.gx_model.specs.Records.RecordFaults.{is_entry_held, is_held, is_of_kind}
 use Rattle.gx_model.specs.Records.Sound.{AnyByRecursion, IsHeldAs, IsLinked, IsSound}
-use Rattle.gx_model.proofs.GrownRecords.{kind_same}
-use Rattle.gx_model.proofs.PathTests.{is_true}
-use Rattle.gx_model.proofs.TakenRecords.{named_some}
+use Rattle.gx_model.proofs.Records.GrownRecords.{kind_same}
+use Rattle.gx_model.proofs.Texts.PathTests.{is_true}
+use Rattle.gx_model.proofs.Records.TakenRecords.{named_some}
 use Rattle.gx_object.specs.declared.entry.Entry.{Entry as Shown}
 use Rattle.gx_object.specs.Entries.{shown}
 use Rattle.gx_repo.specs.Earlier.{IsHeldTree, IsThere, left}

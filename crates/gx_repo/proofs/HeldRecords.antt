@@ -11,10 +11,10 @@ use Rattle.gx_model.specs.Histories.Values.{sub_maps}
 use Rattle.gx_model.specs.Histories.{Record}
 use Rattle.gx_model.specs.Records.Sound.{AnyByRecursion, Holds, Keeps}
 use Rattle.gx_model.specs.Records.Growth.{all_trees_to, and_some, put, put_all, put_under, record_named, same_kind, same_object, tree_record, tree_records}
-use Rattle.gx_model.proofs.PathTests.{first, is_true}
+use Rattle.gx_model.proofs.Texts.PathTests.{first, is_true}
 use Rattle.gx_tree.specs.Writes.{map_name}
-use Rattle.gx_model.proofs.Puts.{put_all-append}
-use Rattle.gx_model.proofs.HeldObjects.{any_named}
+use Rattle.gx_model.proofs.Records.Puts.{put_all-append}
+use Rattle.gx_model.proofs.Records.HeldObjects.{any_named}
 
 some_left : {X : Type 0} (P : X → Type 0) (xs ys : List X) → AnyByRecursion P xs → AnyByRecursion P (xs ++ ys)
 some_left P [] ys h = absurd h

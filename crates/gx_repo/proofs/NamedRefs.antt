@@ -13,8 +13,8 @@ use Rattle.std.proofs.lemmas.List.{drop_more}
 use Rattle.gx_model.specs.Texts.{Bytes, same_bytes}
 use Rattle.gx_model.specs.Records.Publishing.{Change, with_change, with_changes}
 use Rattle.gx_model.specs.Replay.{byte_cmp}
-use Rattle.gx_model.proofs.PathTests.{both, first, second, is_same, is_true}
-use Rattle.gx_model.proofs.SortedRefs.{answers_rise, found_at, not_parted, order, put_there, same_text}
+use Rattle.gx_model.proofs.Texts.PathTests.{both, first, second, is_same, is_true}
+use Rattle.gx_model.proofs.Records.SortedRefs.{answers_rise, found_at, not_parted, order, put_there, same_text}
 use Rattle.gx_object.specs.declared.name.Name.{Name}
 use Rattle.gx_repo.specs.Refs.{IsNamedAt, are_held, shown_update, is_held, shown_ref}
 use Rattle.gx_repo.specs.declared.refs.Ref.{Ref}

@@ -7,7 +7,7 @@ use Rattle.gx_model.specs.Texts.{Bytes}
 use Rattle.gx_model.specs.Texts.Paths.{Path, is_component, is_file_path, is_short, path_text}
 use Rattle.gx_model.specs.Histories.Files.{FileMap, Leaf, are_file_paths}
 use Rattle.gx_model.specs.Records.HistoryOf.{placed}
-use Rattle.gx_model.proofs.PathTests.{first, is_true, second}
+use Rattle.gx_model.proofs.Texts.PathTests.{first, is_true, second}
 use Rattle.gx_repo.specs.Rooms.{room}
 
 -- the room of two file maps together is the greater of theirs

@@ -10,7 +10,7 @@ use Rattle.gx_model.specs.Texts.{Bytes, same_bytes}
 use Rattle.gx_model.specs.Histories.{Record}
 use Rattle.gx_model.specs.Records.Sound.{AnyByRecursion}
 use Rattle.gx_model.specs.Records.Growth.{record_named}
-use Rattle.gx_model.proofs.PathTests.{is_same, is_true}
+use Rattle.gx_model.proofs.Texts.PathTests.{is_same, is_true}
 use Rattle.gx_store.specs.Stores.{place_named}
 use Rattle.gx_repo.specs.Places.{IsPlace}
 

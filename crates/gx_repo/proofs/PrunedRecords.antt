@@ -19,7 +19,7 @@ use Rattle.gx_model.specs.Objects.{Entry}
 use Rattle.gx_model.specs.Pruning.{is_reachable, is_tip, link_of, links_of, links_to, pruned}
 use Rattle.gx_model.specs.Records.Publishing.{Ref}
 use Rattle.gx_model.specs.Records.Sound.{IsLinked, IsLinkedAfter, IsSound}
-use Rattle.gx_model.proofs.PathTests.{is_same, is_true, same_is}
+use Rattle.gx_model.proofs.Texts.PathTests.{is_same, is_true, same_is}
 use Rattle.gx_store.specs.Marked.{first_mark, marked}
 use Rattle.gx_store.specs.Stores.{place_named}
 use Rattle.gx_repo.specs.Places.{IsPlace}

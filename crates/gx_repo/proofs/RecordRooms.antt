@@ -17,12 +17,12 @@ use Rattle.gx_model.specs.Records.{body_of, kind_of}
 use Rattle.gx_model.specs.Histories.{Record, Records}
 use Rattle.gx_model.specs.Records.HistoryOf.{Named, files_of_tree, history_of, named_from, named_values, value_in, value_named, with_record}
 use Rattle.gx_model.specs.Records.Sound.{AnyByRecursion, IsHeldAs, IsLinked, IsLinkedAfter, IsSound}
-use Rattle.gx_model.proofs.FirstRecords.{kept}
-use Rattle.gx_model.proofs.GrownRecords.{distinct_of}
-use Rattle.gx_model.proofs.HistoriesExist.{named_is, stands}
-use Rattle.gx_model.proofs.LinkedValues.{found, named, proper_in}
-use Rattle.gx_model.proofs.PathTests.{first, second}
-use Rattle.gx_model.proofs.TreePaths.{content_parts}
+use Rattle.gx_model.proofs.Records.FirstRecords.{kept}
+use Rattle.gx_model.proofs.Records.GrownRecords.{distinct_of}
+use Rattle.gx_model.proofs.Records.HistoriesExist.{named_is, stands}
+use Rattle.gx_model.proofs.Records.LinkedValues.{found, named, proper_in}
+use Rattle.gx_model.proofs.Texts.PathTests.{first, second}
+use Rattle.gx_model.proofs.ObjectTexts.TreePaths.{content_parts}
 use Rattle.gx_repo.specs.Places.{IsPlace}
 use Rattle.gx_repo.specs.Rooms.{IsFront, room_of, rooms_of}
 use Rattle.gx_repo.proofs.PathRooms.{room_within}

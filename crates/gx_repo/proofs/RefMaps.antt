@@ -12,8 +12,8 @@ use Rattle.std.proofs.lemmas.List.{drop_more, map-append}
 use Rattle.gx_model.specs.Texts.{Bytes}
 use Rattle.gx_model.specs.Replay.{byte_cmp}
 use Rattle.gx_model.specs.Records.Publishing.{with_changes}
-use Rattle.gx_model.proofs.PathTests.{first, second}
-use Rattle.gx_model.proofs.SortedRefs.{order}
+use Rattle.gx_model.proofs.Texts.PathTests.{first, second}
+use Rattle.gx_model.proofs.Records.SortedRefs.{order}
 use Rattle.gx_object.specs.declared.name.Name.{Name}
 use Rattle.gx_repo.specs.Publishing.{Enters}
 use Rattle.gx_repo.specs.Refs.{shown_update, shown_ref, ref_of}

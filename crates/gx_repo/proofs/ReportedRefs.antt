@@ -14,8 +14,8 @@ use Rattle.std.proofs.lemmas.Bool.{false≢true}
 use Rattle.gx_model.specs.Records.Publishing.{Ref}
 use Rattle.gx_model.specs.Replay.{byte_cmp}
 use Rattle.gx_model.specs.Texts.{Bytes, same_bytes}
-use Rattle.gx_model.proofs.PathTests.{both, first, is_same, is_true, same_is, second}
-use Rattle.gx_model.proofs.TextMaps.{lookup_is, none_below, order, same_text}
+use Rattle.gx_model.proofs.Texts.PathTests.{both, first, is_same, is_true, same_is, second}
+use Rattle.gx_model.proofs.Texts.TextMaps.{lookup_is, none_below, order, same_text}
 use Rattle.gx_repo.specs.Refs.{object_named, shown_ref}
 use Rattle.gx_repo.specs.declared.refs.Ref.{Ref as HeldRef}
 use Rattle.gx_repo.specs.Reporting.{AreChanges, IsFrom, IsNextName, IsReport, Objects, behind, change_line, line_where_they_differ, object_first, where_they_differ}

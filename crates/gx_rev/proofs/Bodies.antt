@@ -17,11 +17,11 @@ use Rattle.gx_model.specs.Records.{body_of, commit_body, kind_of, name_of}
 use Rattle.gx_model.specs.Records.Growth.{record_named}
 use Rattle.gx_model.specs.Records.HistoryOf.{history_of, value_of_name}
 use Rattle.gx_model.specs.Records.Sound.{IsSound}
-use Rattle.gx_model.proofs.HeldValues.{all_whole, held_is}
-use Rattle.gx_model.proofs.HistoriesExist.{stands}
-use Rattle.gx_model.proofs.LinkedValues.{proper_in}
-use Rattle.gx_model.proofs.PathTests.{first, is_true, second}
-use Rattle.gx_model.proofs.TreePaths.{name_is_name}
+use Rattle.gx_model.proofs.Records.HeldValues.{all_whole, held_is}
+use Rattle.gx_model.proofs.Records.HistoriesExist.{stands}
+use Rattle.gx_model.proofs.Records.LinkedValues.{proper_in}
+use Rattle.gx_model.proofs.Texts.PathTests.{first, is_true, second}
+use Rattle.gx_model.proofs.ObjectTexts.TreePaths.{name_is_name}
 use Rattle.gx_rev.specs.Objects.{body_in_place, parts_of_tag_value}
 
 -- an answer that is there, and is this one

@@ -7,7 +7,7 @@ use Rattle.gx_model.specs.Faults.{and_then}
 use Rattle.gx_model.specs.Histories.Values.{Commit}
 use Rattle.gx_model.specs.Histories.{Records}
 use Rattle.gx_model.specs.Revisions.Denotation.{nth_ancestor, nth_parent}
-use Rattle.gx_model.proofs.HeldValues.{next_ancestor}
+use Rattle.gx_model.proofs.Records.HeldValues.{next_ancestor}
 use Rattle.gx_object.specs.declared.name.Name.{Name}
 use Rattle.gx_rev.specs.FirstParents.{IsFirstParentWalk}
 use Rattle.gx_rev.specs.Objects.{IsHeldAs, commit_at}

@@ -16,9 +16,9 @@ use Rattle.gx_model.specs.Histories.Marks.{IsAt, IsMarked}
 use Rattle.gx_model.specs.Laws.RepositoryLaws.{values_of}
 use Rattle.gx_model.specs.Revisions.Ranges.{reaches, some_reaches}
 use Rattle.gx_model.specs.Records.Sound.{IsSound}
-use Rattle.gx_model.proofs.PathTests.{both, is_true}
-use Rattle.gx_model.proofs.ReachedCommits.{itself}
-use Rattle.gx_model.proofs.Standing.{at_within, same_place}
+use Rattle.gx_model.proofs.Texts.PathTests.{both, is_true}
+use Rattle.gx_model.proofs.Histories.ReachedCommits.{itself}
+use Rattle.gx_model.proofs.Records.Standing.{at_within, same_place}
 use Rattle.gx_rev.specs.Ancestors.{AddsParents, AddsParentsAt, IsCommitBefore, ReachesFrom, SomeReaches, behind_last}
 use Rattle.gx_rev.specs.Meetings.{AreMeeting, GoesDown, IsCommonAt, IsCovered, reach_both}
 use Rattle.gx_rev.specs.Parents.{IsCommitPlace}

@@ -10,7 +10,7 @@ use Rattle.gx_model.specs.Histories.{Records}
 use Rattle.gx_model.specs.Objects.{IsNamer}
 use Rattle.gx_model.specs.Records.Sound.{IsSound}
 use Rattle.gx_model.specs.Revisions.Denotation.{files_in, only_blob, only_commit, only_tag}
-use Rattle.gx_model.proofs.HeldValues.{kind_held, tree_stands}
+use Rattle.gx_model.proofs.Records.HeldValues.{kind_held, tree_stands}
 use Rattle.gx_object.specs.declared.name.Name.{Name}
 use Rattle.gx_rev.specs.Calls.{GivesFiles, GivesValue}
 use Rattle.gx_rev.specs.Objects.{IsHeld, IsHeldAs, only}

@@ -18,16 +18,16 @@ use Rattle.gx_model.specs.Records.Growth.{record_named}
 use Rattle.gx_model.specs.Records.RecordFaults.{is_held}
 use Rattle.gx_model.specs.Records.Sound.{IsSound}
 use Rattle.gx_model.specs.Records.Walks.{Place, entries_named, entry_at, entry_for, place_at_end, place_of, walked, walked_from}
-use Rattle.gx_model.proofs.BodiesReadBack.{entries_read}
-use Rattle.gx_model.proofs.GrownRecords.{distinct_of}
-use Rattle.gx_model.proofs.HistoriesExist.{stands}
-use Rattle.gx_model.proofs.RebuiltValues.{has_some}
-use Rattle.gx_model.proofs.TreePaths.{entries_of, leaf_at, sub_in}
-use Rattle.gx_model.proofs.TreeWalks.{entry_of, some_sub}
+use Rattle.gx_model.proofs.ObjectTexts.BodiesReadBack.{entries_read}
+use Rattle.gx_model.proofs.Records.GrownRecords.{distinct_of}
+use Rattle.gx_model.proofs.Records.HistoriesExist.{stands}
+use Rattle.gx_model.proofs.ObjectTexts.RebuiltValues.{has_some}
+use Rattle.gx_model.proofs.ObjectTexts.TreePaths.{entries_of, leaf_at, sub_in}
+use Rattle.gx_model.proofs.Records.TreeWalks.{entry_of, some_sub}
 use Rattle.gx_object.specs.declared.name.Name.{Name}
 use Rattle.gx_rev.specs.Places.{IsHeldPlace, place_of_entry, shown_place}
-use Rattle.gx_model.proofs.HeldValues.{all_whole, tree_stands, value_held}
-use Rattle.gx_model.proofs.HeldTrees.{content}
+use Rattle.gx_model.proofs.Records.HeldValues.{all_whole, tree_stands, value_held}
+use Rattle.gx_model.proofs.Records.HeldTrees.{content}
 
 -- from a place on: down a tree, or the end of the path
 abbrev pub walked_on : List Record → Place → Path → Option Place

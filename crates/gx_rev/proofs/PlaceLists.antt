@@ -17,11 +17,11 @@ use Rattle.gx_model.specs.Laws.HistoryLaws.{IsParent}
 use Rattle.gx_model.specs.Histories.Marks.{IsAt}
 use Rattle.gx_model.specs.Revisions.Ranges.{reaches, some_reaches}
 use Rattle.gx_model.specs.Records.Sound.{AnyByRecursion, IsSound}
-use Rattle.gx_model.proofs.Marking.{IsBefore, least}
-use Rattle.gx_model.proofs.PathTests.{is_true, left_or, one_of, right_or}
-use Rattle.gx_model.proofs.ReachedCommits.{itself}
-use Rattle.gx_model.proofs.SameValues.{commit_is}
-use Rattle.gx_model.proofs.Standing.{parent_before, same_place}
+use Rattle.gx_model.proofs.Revisions.Marking.{IsBefore, least}
+use Rattle.gx_model.proofs.Texts.PathTests.{is_true, left_or, one_of, right_or}
+use Rattle.gx_model.proofs.Histories.ReachedCommits.{itself}
+use Rattle.gx_model.proofs.Histories.SameValues.{commit_is}
+use Rattle.gx_model.proofs.Records.Standing.{parent_before, same_place}
 use Rattle.gx_rev.specs.Parents.{IsCommitPlace}
 use Rattle.gx_rev.specs.Ancestors.{AddsParents, IsCommitBefore, ReachesFrom, SomeReaches, TellsReached, behind_last}
 

@@ -13,8 +13,8 @@ use Rattle.gx_model.specs.Records.Growth.{record_named}
 use Rattle.gx_model.specs.Records.Sound.{IsSound}
 use Rattle.gx_model.specs.Records.Lookups.{records_begun_by}
 use Rattle.gx_model.specs.Revisions.Denotation.{begun_by, the_one}
-use Rattle.gx_model.proofs.Bases.{begun_stands, value_is_held}
-use Rattle.gx_model.proofs.FoundRecords.{digits_find}
+use Rattle.gx_model.proofs.Revisions.Bases.{begun_stands, value_is_held}
+use Rattle.gx_model.proofs.Records.FoundRecords.{digits_find}
 use Rattle.gx_store.specs.declared.prefix.Prefix.TheVariants as prefix
 use Rattle.gx_store.specs.declared.prefix.Prefix.{Prefix}
 use Rattle.gx_store.specs.Prefixes.{prefix_of}

@@ -13,8 +13,8 @@ use Rattle.gx_model.specs.Records.Lookups.{commit_named}
 use Rattle.gx_model.specs.Records.Sound.{IsSound, IsTarget}
 use Rattle.gx_model.specs.Replay.{peeled_at}
 use Rattle.gx_model.specs.Revisions.Ranges.{reaches}
-use Rattle.gx_model.proofs.HeldValues.{peeled_to}
-use Rattle.gx_model.proofs.PeeledRefs.{target_peels, told}
+use Rattle.gx_model.proofs.Records.HeldValues.{peeled_to}
+use Rattle.gx_model.proofs.Records.PeeledRefs.{target_peels, told}
 use Rattle.gx_rev.specs.Tips.{AddsTips, AreTips}
 use Rattle.gx_rev.proofs.Tips.{or_assoc, same_tips}
 

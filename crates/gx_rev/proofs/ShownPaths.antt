@@ -20,18 +20,18 @@ use Rattle.gx_model.specs.Records.RecordFaults.{is_held}
 use Rattle.gx_model.specs.Records.Sound.{IsSound}
 use Rattle.gx_model.specs.Records.Walks.{Place, place_in, place_of, walked}
 use Rattle.gx_model.specs.Revisions.Denotation.{Shown, at_path, file_shown, object, of_file, of_leaf, of_sub_map, submodule}
-use Rattle.gx_model.proofs.OneHistory.{told_by_name}
-use Rattle.gx_model.proofs.OneTree.{all_left, digits_of, forty, found_known, only_file}
-use Rattle.gx_model.proofs.LinkedValues.{parts_in}
-use Rattle.gx_model.proofs.GrownRecords.{distinct_of}
-use Rattle.gx_model.proofs.HistoriesExist.{stands}
-use Rattle.gx_model.proofs.PathTests.{is_true}
-use Rattle.gx_model.proofs.RebuiltValues.{has_some}
-use Rattle.gx_model.proofs.TreePaths.{content_in, content_parts, file_sub, leaf_at, sub_in}
-use Rattle.gx_model.proofs.TreeWalks.{some_sub, sub_sub, walk_sound}
-use Rattle.gx_model.proofs.NameDigits.{hex_unhex, name_found}
+use Rattle.gx_model.proofs.Records.OneHistory.{told_by_name}
+use Rattle.gx_model.proofs.ObjectTexts.OneTree.{all_left, digits_of, forty, found_known, only_file}
+use Rattle.gx_model.proofs.Records.LinkedValues.{parts_in}
+use Rattle.gx_model.proofs.Records.GrownRecords.{distinct_of}
+use Rattle.gx_model.proofs.Records.HistoriesExist.{stands}
+use Rattle.gx_model.proofs.Texts.PathTests.{is_true}
+use Rattle.gx_model.proofs.ObjectTexts.RebuiltValues.{has_some}
+use Rattle.gx_model.proofs.ObjectTexts.TreePaths.{content_in, content_parts, file_sub, leaf_at, sub_in}
+use Rattle.gx_model.proofs.Records.TreeWalks.{some_sub, sub_sub, walk_sound}
+use Rattle.gx_model.proofs.ObjectTexts.NameDigits.{hex_unhex, name_found}
 use Rattle.gx_rev.specs.Answers.{IsNamed, file_of, shown_as, shown_by}
-use Rattle.gx_model.proofs.HeldValues.{all_whole, held_is, kind_held, tree_stands, value_held}
+use Rattle.gx_model.proofs.Records.HeldValues.{all_whole, held_is, kind_held, tree_stands, value_held}
 
 -- a gitlink's digits are those of its name
 hex_again : (x : Bytes) → T (is_name_text x) → hex (unhex x) ≡ x

@@ -15,10 +15,10 @@ use Rattle.gx_model.specs.Histories.Marks.{IsAt, IsMarked, Marks, holds, marks_o
 use Rattle.gx_model.specs.Revisions.Ranges.{nothing, reaches, some_reaches}
 use Rattle.gx_model.specs.Laws.RepositoryLaws.{values_of}
 use Rattle.gx_model.specs.Records.Sound.{IsSound}
-use Rattle.gx_model.proofs.Marking.{least, marks_are}
-use Rattle.gx_model.proofs.PathTests.{is_true, left_or, one_of, right_or}
-use Rattle.gx_model.proofs.ReachedCommits.{closed, itself}
-use Rattle.gx_model.proofs.Standing.{parent_before, same_place}
+use Rattle.gx_model.proofs.Revisions.Marking.{least, marks_are}
+use Rattle.gx_model.proofs.Texts.PathTests.{is_true, left_or, one_of, right_or}
+use Rattle.gx_model.proofs.Histories.ReachedCommits.{closed, itself}
+use Rattle.gx_model.proofs.Records.Standing.{parent_before, same_place}
 use Rattle.gx_rev.specs.Tips.{AddsTips, AreTips}
 
 -- ---- what is reached

@@ -11,7 +11,7 @@ use Rattle.gx_model.specs.Histories.Values.{is_hex_digit}
 use Rattle.gx_model.specs.Objects.{hex, unhex, is_name}
 use Rattle.gx_model.specs.Objects.Naming.{lower_name_in, name_in}
 use Rattle.gx_model.specs.Revisions.Denotation.{begins_with_digits, is_any_digit, lower}
-use Rattle.gx_model.proofs.NameDigits.{hex_lower, name_found, name_long}
+use Rattle.gx_model.proofs.ObjectTexts.NameDigits.{hex_lower, name_found, name_long}
 use Rattle.gx_store.specs.NameOrder.{compare, is_within}
 use Rattle.gx_store.specs.Prefixes.{BeginNone, filled}
 use Rattle.gx_store.proofs.NameOrder.{between, hex_order, within_filled}

@@ -8,7 +8,7 @@ use Rattle.gx_model.specs.Texts.{Bytes}
 use Rattle.gx_model.specs.Texts.Paths.{Path, is_component, path_text, parts_of, path_of}
 use Rattle.gx_model.specs.declared.faults.Fault.TheVariants as faults
 use Rattle.gx_text.specs.TreePaths.{is_path, slashes, component_ends}
-use Rattle.gx_model.proofs.PathTexts.{text_of_parts}
+use Rattle.gx_model.proofs.Texts.PathTexts.{text_of_parts}
 
 -- ---- the ends, by the components
 

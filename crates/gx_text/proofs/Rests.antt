@@ -4,7 +4,7 @@ use Rattle.std.specs.Option.{option_map, option_and_then}
 use Rattle.std.proofs.lemmas.List.{drop_at, length-append}
 use Rattle.gx_model.specs.Texts.{Bytes}
 use Rattle.gx_model.specs.Texts.Paths.{Path, path_of, quoted_of, named, octal_of, escape_at, char_at, with_char, unquote_within, unquote, or_bad_path}
-use Rattle.gx_model.proofs.Cuts.{some_is, map_some}
+use Rattle.gx_model.proofs.Texts.Cuts.{some_is, map_some}
 
 abbrev pub Follows : Bytes → Bytes → Type 0
 Follows rest bs = (front : Bytes) × (bs ≡ front ++ rest)

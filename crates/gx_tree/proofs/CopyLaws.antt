@@ -9,7 +9,7 @@ use Rattle.gx_model.specs.Texts.{Bytes}
 use Rattle.gx_model.specs.Texts.Paths.{Path, begins, is_short, path_cmp}
 use Rattle.gx_model.specs.Histories.Files.{FileMap, Leaf, file_at, sub_map, under}
 use Rattle.gx_model.specs.Histories.Edits.{copied, copy_fault, moved, removed, renamed, with_all, without, without_line, unless}
-use Rattle.gx_model.proofs.FoundFiles.{at_moved}
+use Rattle.gx_model.proofs.Histories.FoundFiles.{at_moved}
 use Rattle.gx_tree.specs.Calls.{Becomes}
 use Rattle.gx_tree.specs.Copies.{graft_fault, is_file}
 use Rattle.gx_tree.specs.Lists.{below}

@@ -14,10 +14,10 @@ use Rattle.gx_model.specs.Objects.{Entry as TreeEntry, IsNamer, IsTreeText, is_n
 use Rattle.gx_model.specs.Records.{entries, tree_body}
 use Rattle.gx_model.specs.Histories.{Record, object_of}
 use Rattle.gx_model.specs.Records.Growth.{record_named, tree_record, tree_records}
-use Rattle.gx_model.proofs.FileMapEdits.{of_parts, parts_of}
-use Rattle.gx_model.proofs.OneTree.{all_left, all_right}
-use Rattle.gx_model.proofs.SubMaps.{sub_parts}
-use Rattle.gx_model.proofs.TreePaths.{name_is_name}
+use Rattle.gx_model.proofs.Histories.FileMapEdits.{of_parts, parts_of}
+use Rattle.gx_model.proofs.ObjectTexts.OneTree.{all_left, all_right}
+use Rattle.gx_model.proofs.Histories.SubMaps.{sub_parts}
+use Rattle.gx_model.proofs.ObjectTexts.TreePaths.{name_is_name}
 use Rattle.gx_store.specs.Stores.{shown_object}
 use Rattle.gx_tree.specs.Rooms.{is_within}
 use Rattle.gx_tree.specs.HeldTrees.{IsHeldEntry, IsHeldWithin}

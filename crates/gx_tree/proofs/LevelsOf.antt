@@ -12,10 +12,10 @@ use Rattle.gx_model.specs.Texts.{Bytes, same_bytes}
 use Rattle.gx_model.specs.Texts.Paths.{Path, begins, is_component, is_file_path, same_path}
 use Rattle.gx_model.specs.Histories.Files.{FileMap, Leaf, are_file_paths, file_at, first_components, sub_map, under, with_first}
 use Rattle.gx_model.specs.Records.HistoryOf.{placed}
-use Rattle.gx_model.proofs.FileMapEdits.{Parts, parts_of}
-use Rattle.gx_model.proofs.OneTree.{firsts_proper, only_file, rebuilt}
-use Rattle.gx_model.proofs.SortedKeys.{key_at, key_of, keys, sorted_keys}
-use Rattle.gx_model.proofs.SubMaps.{sub_parts}
+use Rattle.gx_model.proofs.Histories.FileMapEdits.{Parts, parts_of}
+use Rattle.gx_model.proofs.ObjectTexts.OneTree.{firsts_proper, only_file, rebuilt}
+use Rattle.gx_model.proofs.ObjectTexts.SortedKeys.{key_at, key_of, keys, sorted_keys}
+use Rattle.gx_model.proofs.Histories.SubMaps.{sub_parts}
 use Rattle.gx_model.specs.Objects.NameMaps.{IsNameMap}
 use Rattle.gx_tree.specs.Nodes.{Kept, Level, IsAfter, IsInner, IsKept, IsLevel, comes_before, file, files, folder, is_inner_path, key, kept_map}
 use Rattle.gx_tree.proofs.Texts.{cases_bytes, holds, same_itself}

@@ -16,7 +16,7 @@ use Rattle.gx_text.specs.TextFaults.{fault_of}
 use Rattle.gx_model.specs.Texts.Paths.{Path, is_component, is_file_path, is_short, path_of, path_text}
 use Rattle.gx_model.specs.Histories.Files.{FileMap, are_file_paths, is_file_map}
 use Rattle.gx_model.specs.Records.HistoryOf.{placed}
-use Rattle.gx_model.proofs.PathTexts.{path_again}
+use Rattle.gx_model.proofs.Texts.PathTexts.{path_again}
 use Rattle.gx_tree.specs.Components.{bytes_of}
 use Rattle.gx_tree.specs.Nodes.{Kept, Level, IsKept, IsLevel, file, files, folder, kept_map}
 use Rattle.gx_tree.specs.Views.{shown_item, shown_entry, shown_entries}

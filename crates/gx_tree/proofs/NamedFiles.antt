@@ -12,7 +12,7 @@ use Rattle.gx_model.specs.Texts.Paths.{Path, are_in_line, begins, is_component, 
 use Rattle.gx_model.specs.Histories.Files.{FileMap, Leaf, is_file_map, sub_map, under}
 use Rattle.gx_model.specs.Histories.Edits.{copied, modified, removed, renamed, with_all, without_line}
 use Rattle.gx_model.specs.Objects.{is_name}
-use Rattle.gx_model.proofs.FileMapEdits.{Parts, copied_parts, modified_parts, of_parts, parts_of, removed_parts, renamed_parts}
+use Rattle.gx_model.proofs.Histories.FileMapEdits.{Parts, copied_parts, modified_parts, of_parts, parts_of, removed_parts, renamed_parts}
 use Rattle.gx_model.specs.Objects.NameMaps.{IsNameMap}
 use Rattle.gx_tree.specs.Lists.{below}
 use Rattle.gx_tree.specs.Steps.{grafted}

@@ -10,9 +10,9 @@ use Rattle.gx_model.specs.Histories.{Record}
 use Rattle.gx_model.specs.Objects.{IsNamer, is_name}
 use Rattle.gx_model.specs.Objects.NameMaps.{IsHeldTree}
 use Rattle.gx_model.specs.Records.Growth.{tree_record}
-use Rattle.gx_model.proofs.BodiesReadBack.{long_name}
-use Rattle.gx_model.proofs.EntryTexts.{AreNamed, one_tree_text}
-use Rattle.gx_model.proofs.FileMapEdits.{parts_of}
+use Rattle.gx_model.proofs.ObjectTexts.BodiesReadBack.{long_name}
+use Rattle.gx_model.proofs.ObjectTexts.EntryTexts.{AreNamed, one_tree_text}
+use Rattle.gx_model.proofs.Histories.FileMapEdits.{parts_of}
 use Rattle.gx_tree.specs.HeldTrees.{IsHeldEntry, IsHeldWithin}
 use Rattle.gx_tree.specs.Nodes.{IsLevel, Kept, Level, file, files, folder}
 use Rattle.gx_tree.specs.Writes.{kept_leaf, map_name}

@@ -18,7 +18,7 @@ use Rattle.gx_model.specs.Objects.{Entry, are_different, entry_key, is_canonical
 use Rattle.gx_model.specs.Records.{entries, entry, node}
 use Rattle.gx_model.specs.Histories.Values.{sub_maps}
 use Rattle.gx_model.specs.Records.Growth.{all_trees, all_trees_to, tree_record, tree_records}
-use Rattle.gx_model.proofs.TreeBodies.{depth_sub, unrolled}
+use Rattle.gx_model.proofs.ObjectTexts.TreeBodies.{depth_sub, unrolled}
 use Rattle.gx_tree.specs.Nodes.{Kept, Level, IsAfter, IsKept, IsLevel, file, files, folder, is_inner_path, kept_at, kept_map, key, map_if}
 use Rattle.gx_tree.specs.Writes.{kept_leaf, kept_records, map_name}
 use Rattle.gx_tree.proofs.Texts.{cases_bytes, bytes_same, same_bytes_flip, same_itself}

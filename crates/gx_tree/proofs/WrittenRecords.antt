@@ -26,7 +26,7 @@ use Rattle.gx_tree.specs.declared.fault.TreeFault.{TreeFault}
 use Rattle.gx_tree.specs.declared.fault.TreeFault.TheVariants.{OutOfMemory, NoSuchPath, RootNotTree, PathTooLong, NameHeld}
 use Rattle.gx_tree.proofs.Copies.{seen_more}
 use Rattle.gx_tree.proofs.Levels.{IsInner-files}
-use Rattle.gx_model.proofs.Puts.{front_put, front_same, front_trans, put_all_more, put_all_stops, put_none, put_one}
+use Rattle.gx_model.proofs.Records.Puts.{front_put, front_same, front_trans, put_all_more, put_all_stops, put_none, put_one}
 use Rattle.gx_tree.proofs.WrittenHomes.{own_entries, take_whole}
 use Rattle.gx_tree.proofs.TreeRecords.{entries-files, tree_records-files}
 

@@ -1,4 +1,4 @@
-use Rattle.gx_model.proofs.SentTexts.{failed_within}
+use Rattle.gx_model.proofs.Texts.SentTexts.{failed_within}
 use Rattle.gx_adapt.proofs.adapting.send_all.Goals as goal
 
 pub returns-in-Err : goal.returns-in-Err

@@ -1,4 +1,4 @@
-use Rattle.gx_model.proofs.SentTexts.{failed_within}
+use Rattle.gx_model.proofs.Texts.SentTexts.{failed_within}
 use Rattle.gx_batch.proofs.answers.put.Goals as goal
 
 pub returns-in-Err-clause-sent : goal.returns-in-Err-clause-sent

@@ -1,5 +1,5 @@
 use Rattle.std.proofs.Common.{◌∷◌, ◌++◌, sym, ap, ◌∙◌}
-use Rattle.gx_model.proofs.Cuts.{cut_spelled}
+use Rattle.gx_model.proofs.Texts.Cuts.{cut_spelled}
 use Rattle.gx_batch.proofs.CutLines.{cut_lacks, uncut_lacks}
 use Rattle.gx_batch.proofs.RestParts.{left_behind, none_left}
 use Rattle.gx_batch.proofs.lines.take_part.Goals as goal

@@ -4,7 +4,7 @@ use Rattle.std.proofs.lemmas.Result.{err_from_is_err_and}
 use Rattle.gx_model.specs.Objects.{is_dir}
 use Rattle.gx_model.specs.Records.{entries}
 use Rattle.gx_model.specs.Texts.Sinks.{Took}
-use Rattle.gx_model.proofs.SentTexts.{IsLeft, all_left, less_left}
+use Rattle.gx_model.proofs.Texts.SentTexts.{IsLeft, all_left, less_left}
 use Rattle.gx_object.specs.Entries.{shown}
 use Rattle.gx_cli.specs.Listings.{entry_line}
 use Rattle.gx_cli.specs.Sending.{PrintsText}

@@ -1,6 +1,6 @@
 use Rattle.std.proofs.Common.{◌≡◌, ap, subst, sym, ◌∙◌}
 use Rattle.gx_model.specs.Texts.Paths.{parts_of, path_text}
-use Rattle.gx_model.proofs.PathTexts.{text_of_parts}
+use Rattle.gx_model.proofs.Texts.PathTexts.{text_of_parts}
 use Rattle.gx_cli.specs.Listings.{entry_line}
 use Rattle.gx_cli.specs.Sending.{PrintsText}
 use Rattle.gx_cli.proofs.ls.print_at.Goals as goal

@@ -1,7 +1,7 @@
 use Rattle.std.proofs.Common.{drop}
 use Rattle.std.specs.List.{flat_map}
 use Rattle.gx_cli.specs.Answers.{shown_line}
-use Rattle.gx_model.proofs.SentTexts.{IsLeft}
+use Rattle.gx_model.proofs.Texts.SentTexts.{IsLeft}
 use Rattle.gx_cli.proofs.names.print_lines.Given as goal
 
 abbrev pub invariant-loop-shown : goal.invariant-loop-shown

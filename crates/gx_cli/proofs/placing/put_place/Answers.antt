@@ -1,7 +1,7 @@
 use Rattle.std.proofs.Common.{◌∙◌, subst, Err}
 use Rattle.gx_model.specs.Texts.Sinks.{Sends}
 use Rattle.gx_cli.specs.Placing.{place_line}
-use Rattle.gx_model.proofs.SentTexts.{failed_within}
+use Rattle.gx_model.proofs.Texts.SentTexts.{failed_within}
 use Rattle.gx_cli.proofs.placing.put_place.Goals as goal
 
 pub returns : goal.returns

@@ -3,7 +3,7 @@ use Rattle.std.specs.List.{flat_map}
 use Rattle.std.proofs.lemmas.Result.{err_from_is_err_and}
 use Rattle.gx_model.specs.Stores.StoreText.{stored_ref}
 use Rattle.gx_cli.specs.Stored.{refs_text}
-use Rattle.gx_model.proofs.SentTexts.{IsLeft, all_left}
+use Rattle.gx_model.proofs.Texts.SentTexts.{IsLeft, all_left}
 use Rattle.gx_cli.proofs.SentLines.{given_text}
 use Rattle.gx_cli.proofs.Pieces.{piece_cut, piece_sent}
 use Rattle.gx_cli.proofs.refs.print_refs.Goals as goal

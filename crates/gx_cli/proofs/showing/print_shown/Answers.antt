@@ -1,6 +1,6 @@
 use Rattle.std.proofs.Common.{subst, sym, ◌∙◌}
 use Rattle.gx_model.specs.declared.objects.Kind.TheVariants as kinds
-use Rattle.gx_model.proofs.HeldValues.{held_kind}
+use Rattle.gx_model.proofs.Records.HeldValues.{held_kind}
 use Rattle.gx_rev.specs.Answers.{IsNamed}
 use Rattle.gx_cli.proofs.showing.print_shown.Goals as goal
 

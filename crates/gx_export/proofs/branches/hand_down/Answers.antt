@@ -1,6 +1,6 @@
 use Rattle.std.proofs.Common.{◌≡◌, ◌+◌, ◌-◌, ◌<◌, ◌≤◌, ◌∙◌, subst, arith, length, get_or}
 use Rattle.gx_model.specs.Laws.RepositoryLaws.{values_of}
-use Rattle.gx_model.proofs.Standing.{commit_at_place, commit_name_there}
+use Rattle.gx_model.proofs.Records.Standing.{commit_at_place, commit_name_there}
 use Rattle.gx_rev.specs.Objects.{commit_at}
 use Rattle.gx_export.specs.Branches.{shown_tips, targets}
 use Rattle.gx_export.proofs.FoundBranches.{tips_long}

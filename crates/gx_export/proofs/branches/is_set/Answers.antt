@@ -2,10 +2,10 @@ use Rattle.std.proofs.Common.{◌∙◌, ap, false, arith}
 use Rattle.std.specs.Prelude.{slice_index_or}
 use Rattle.gx_model.specs.Histories.Values.{commit_value}
 use Rattle.gx_model.specs.Laws.RepositoryLaws.{values_of}
-use Rattle.gx_model.proofs.HeldValues.{commit_held, peeled_to}
-use Rattle.gx_model.proofs.Marking.{mark_tells}
-use Rattle.gx_model.proofs.PeeledRefs.{not_unpeeled, target_peels}
-use Rattle.gx_model.proofs.Standing.{at_within, commit_at_place}
+use Rattle.gx_model.proofs.Records.HeldValues.{commit_held, peeled_to}
+use Rattle.gx_model.proofs.Revisions.Marking.{mark_tells}
+use Rattle.gx_model.proofs.Records.PeeledRefs.{not_unpeeled, target_peels}
+use Rattle.gx_model.proofs.Records.Standing.{at_within, commit_at_place}
 use Rattle.gx_rev.specs.Objects.{commit_at, value_at}
 use Rattle.gx_rev.proofs.RefTips.{tip_is}
 use Rattle.gx_export.proofs.branches.is_set.Goals as goal

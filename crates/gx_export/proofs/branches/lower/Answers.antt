@@ -1,6 +1,6 @@
 use Rattle.std.proofs.Common.{◌≡◌, ◌<◌, arith, length}
 use Rattle.gx_model.specs.Laws.RepositoryLaws.{values_of}
-use Rattle.gx_model.proofs.Standing.{at_within, commit_at_place}
+use Rattle.gx_model.proofs.Records.Standing.{at_within, commit_at_place}
 use Rattle.gx_rev.specs.Objects.{commit_at, value_at}
 use Rattle.gx_export.proofs.RankedRefs.{lowered}
 use Rattle.gx_export.proofs.branches.lower.Goals as goal

@@ -1,7 +1,7 @@
 use Rattle.std.proofs.Common.{◌≡◌, ◌≤◌, ◌∙◌, ap, arith, length}
 use Rattle.gx_model.specs.Histories.Values.{list_of, parents_of}
 use Rattle.gx_rev.specs.Objects.{commit_at}
-use Rattle.gx_model.proofs.HeldValues.{names_long, no_parent_there, parent_there}
+use Rattle.gx_model.proofs.Records.HeldValues.{names_long, no_parent_there, parent_there}
 use Rattle.gx_export.proofs.RankedRefs.{lowered_all, lowered_next, lowered_none, lowered_passed}
 use Rattle.gx_export.proofs.branches.lower_parents.Goals as goal
 use Rattle.gx_export.proofs.branches.lower_parents.Goals.{in-Some, in_default}

@@ -1,5 +1,5 @@
 use Rattle.gx_model.specs.Histories.Values.{list_of, parents_of}
-use Rattle.gx_model.proofs.Marking.{IsBefore}
+use Rattle.gx_model.proofs.Revisions.Marking.{IsBefore}
 use Rattle.gx_rev.specs.Objects.{commit_at}
 use Rattle.gx_export.specs.Branches.{IsLowered}
 use Rattle.gx_export.proofs.branches.lower_parents.Given as goal

@@ -4,9 +4,9 @@ use Rattle.gx_model.specs.Laws.RepositoryLaws.{values_of}
 use Rattle.gx_model.specs.Records.HistoryOf.{target_in, value_of_name}
 use Rattle.gx_model.specs.Records.Sound.{IsTarget}
 use Rattle.gx_model.specs.Texts.{Bytes}
-use Rattle.gx_model.proofs.HeldValues.{commit_held, peeled_to}
-use Rattle.gx_model.proofs.PeeledRefs.{not_unpeeled, target_peels}
-use Rattle.gx_model.proofs.Standing.{commit_at_place, stands_at}
+use Rattle.gx_model.proofs.Records.HeldValues.{commit_held, peeled_to}
+use Rattle.gx_model.proofs.Records.PeeledRefs.{not_unpeeled, target_peels}
+use Rattle.gx_model.proofs.Records.Standing.{commit_at_place, stands_at}
 use Rattle.gx_object.specs.declared.name.Name.{Name}
 use Rattle.gx_repo.specs.Refs.{shown_lent_ref}
 use Rattle.gx_rev.specs.Objects.{commit_at}

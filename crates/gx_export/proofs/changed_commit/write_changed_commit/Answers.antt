@@ -5,7 +5,7 @@ use Rattle.gx_model.specs.Export.{contents, with_blobs}
 use Rattle.gx_export.specs.ChangedParts.{one_on}
 use Rattle.gx_model.specs.Laws.RepositoryLaws.{values_of}
 use Rattle.gx_model.specs.Histories.Values.{commit_value}
-use Rattle.gx_model.proofs.Standing.{at_within, commit_name_there}
+use Rattle.gx_model.proofs.Records.Standing.{at_within, commit_name_there}
 use Rattle.gx_export.specs.FileTexts.{AreKept}
 use Rattle.gx_export.specs.Marks.{Adds}
 use Rattle.gx_export.specs.Outputs.{Stops, Writes}

@@ -7,7 +7,7 @@ use Rattle.gx_model.specs.Records.HistoryOf.{commit_of_value, value_of_name}
 use Rattle.gx_model.specs.Records.Sound.{Holds}
 use Rattle.gx_model.specs.Texts.{Bytes}
 use Rattle.gx_rev.specs.Objects.{commit_at}
-use Rattle.gx_model.proofs.HeldValues.{holds_held}
+use Rattle.gx_model.proofs.Records.HeldValues.{holds_held}
 use Rattle.gx_export.specs.Naming.{shown_commit}
 use Rattle.gx_export.specs.Outputs.{Stops, Writes}
 use Rattle.gx_export.specs.Texts.{items_text, parents_by}

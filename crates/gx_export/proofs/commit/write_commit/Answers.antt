@@ -3,7 +3,7 @@ use Rattle.std.proofs.lemmas.Result.{err_from_is_err_and}
 use Rattle.gx_model.specs.Export.{contents, one_commit, with_blobs}
 use Rattle.gx_model.specs.Laws.RepositoryLaws.{values_of}
 use Rattle.gx_model.specs.Histories.Values.{commit_value, files_of}
-use Rattle.gx_model.proofs.Standing.{at_within, commit_name_there}
+use Rattle.gx_model.proofs.Records.Standing.{at_within, commit_name_there}
 use Rattle.gx_export.specs.FileTexts.{AreKept}
 use Rattle.gx_export.specs.Marks.{Adds}
 use Rattle.gx_export.specs.Outputs.{Stops, Writes}

@@ -8,7 +8,7 @@ use Rattle.gx_model.specs.Records.HistoryOf.{commit_of_value, value_of_name}
 use Rattle.gx_model.specs.Records.Sound.{Holds}
 use Rattle.gx_model.specs.Texts.{Bytes}
 use Rattle.gx_rev.specs.Objects.{commit_at}
-use Rattle.gx_model.proofs.HeldValues.{commit_stands, holds_held, kind_held}
+use Rattle.gx_model.proofs.Records.HeldValues.{commit_stands, holds_held, kind_held}
 use Rattle.gx_export.specs.Outputs.{Stops, Writes}
 use Rattle.gx_export.specs.Texts.{items_text, parent_items}
 use Rattle.gx_export.proofs.CommitLines.{by_marks, image_at, line_is, none_at, parent_line, parents_next, parents_parts, passes_at}

@@ -1,7 +1,7 @@
 use Rattle.std.proofs.Common.{◌∙◌, ap, length}
 use Rattle.std.proofs.lemmas.Result.{err_from_is_err_and}
 use Rattle.gx_model.specs.Records.HistoryOf.{history_of}
-use Rattle.gx_model.proofs.Standing.{as_many}
+use Rattle.gx_model.proofs.Records.Standing.{as_many}
 use Rattle.gx_export.specs.Exports.{commits_text}
 use Rattle.gx_export.proofs.Numbering.{none_written}
 use Rattle.gx_export.proofs.Writing.{stops_first}

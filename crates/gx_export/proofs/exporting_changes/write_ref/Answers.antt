@@ -6,8 +6,8 @@ use Rattle.gx_model.specs.Export.{command_items, ref_by}
 use Rattle.gx_model.specs.Records.RecordFaults.{is_held}
 use Rattle.gx_model.specs.Records.{kind_of}
 use Rattle.gx_model.specs.Records.HistoryOf.{commit_of_value, target_in, value_of_name}
-use Rattle.gx_model.proofs.HeldValues.{commit_stands, held_kind}
-use Rattle.gx_model.proofs.PeeledRefs.{target_peels}
+use Rattle.gx_model.proofs.Records.HeldValues.{commit_stands, held_kind}
+use Rattle.gx_model.proofs.Records.PeeledRefs.{target_peels}
 use Rattle.gx_export.specs.Outputs.{Writes}
 use Rattle.gx_export.specs.Texts.{command_text, tag_command, to_commit}
 use Rattle.gx_export.proofs.Numbering.{adds_bytes}

@@ -6,7 +6,7 @@ use Rattle.gx_model.specs.Histories.Marks.{holds}
 use Rattle.gx_model.specs.Laws.RepositoryLaws.{values_of}
 use Rattle.gx_model.specs.Records.HistoryOf.{history_of}
 use Rattle.gx_model.specs.Replay.{peeled_at}
-use Rattle.gx_model.proofs.Standing.{as_many}
+use Rattle.gx_model.proofs.Records.Standing.{as_many}
 use Rattle.gx_export.specs.Branches.{picked, targets}
 use Rattle.gx_export.specs.ChangedParts.{SendsText, sending_front}
 use Rattle.gx_export.specs.Texts.{items_text}

@@ -2,7 +2,7 @@ use Rattle.std.proofs.Common.{◌≡◌, ◌∙◌, ap, sym, arith}
 use Rattle.gx_model.specs.declared.objects.Kind.TheVariants as kind
 use Rattle.gx_model.specs.Export.{number_in}
 use Rattle.gx_model.specs.Records.{name_of}
-use Rattle.gx_model.proofs.HeldValues.{commit_stands, held_is, kind_held}
+use Rattle.gx_model.proofs.Records.HeldValues.{commit_stands, held_is, kind_held}
 use Rattle.gx_rev.specs.Objects.{commit_at}
 use Rattle.gx_export.proofs.CommitNames.{named_digits, named_marked}
 use Rattle.gx_export.proofs.naming.commit_ish.Goals as goal

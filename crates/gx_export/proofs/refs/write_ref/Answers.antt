@@ -5,7 +5,7 @@ use Rattle.gx_model.specs.Export.{command_items, number_in, ref_command}
 use Rattle.gx_model.specs.Records.Growth.{record_named}
 use Rattle.gx_model.specs.Records.HistoryOf.{target_in, value_of_name}
 use Rattle.gx_model.specs.Histories.Values.{commit_value}
-use Rattle.gx_model.proofs.PeeledRefs.{target_peels}
+use Rattle.gx_model.proofs.Records.PeeledRefs.{target_peels}
 use Rattle.gx_export.specs.Outputs.{Writes}
 use Rattle.gx_export.specs.Texts.{command_text, tag_command}
 use Rattle.gx_export.proofs.Numbering.{adds_bytes}

@@ -5,7 +5,7 @@ use Rattle.std.proofs.lemmas.Result.{err_from_is_err_and}
 use Rattle.gx_model.specs.Export.{command_items, ref_command}
 use Rattle.gx_model.specs.Records.Sound.{IsTarget}
 use Rattle.gx_model.specs.Texts.{Bytes}
-use Rattle.gx_model.proofs.PeeledRefs.{told}
+use Rattle.gx_model.proofs.Records.PeeledRefs.{told}
 use Rattle.gx_export.specs.Marks.{Adds}
 use Rattle.gx_export.specs.Outputs.{Stops}
 use Rattle.gx_export.specs.Texts.{items_text}

@@ -10,7 +10,7 @@ use denote.Enum.Bare.{same_true, sameb}
 use Rattle.std.proofs.lemmas.Result.{err_from_is_err_and}
 use Rattle.gx_model.specs.contracts.objects.Mode.{the_type}
 use Rattle.gx_model.specs.declared.objects.Mode.TheVariants.{Dir}
-use Rattle.gx_model.proofs.FileMapEdits.{parts_of}
+use Rattle.gx_model.proofs.Histories.FileMapEdits.{parts_of}
 use Rattle.gx_object.specs.Entries.{shown}
 use Rattle.gx_tree.specs.HeldTrees.{IsHeldEntry}
 use Rattle.gx_tree.specs.Lists.{below}

@@ -7,7 +7,7 @@ use Rattle.gx_model.specs.declared.objects.Mode.TheVariants.{Gitlink}
 use Rattle.gx_model.specs.Export.{blob_commands, with_blobs}
 use Rattle.gx_model.specs.Records.HistoryOf.{bytes_of_blob, named_values}
 use Rattle.gx_rev.specs.Objects.{value_at}
-use Rattle.gx_model.proofs.HeldValues.{holds_held, kind_held}
+use Rattle.gx_model.proofs.Records.HeldValues.{holds_held, kind_held}
 use Rattle.gx_export.specs.declared.fault.ExportFault.TheVariants.{OutOfMemory}
 use Rattle.gx_export.specs.FileTexts.{bytes_in}
 use Rattle.gx_export.specs.Texts.{items_of, items_text}

@@ -2,7 +2,7 @@ use Rattle.std.proofs.Common.{◌∙◌, ap}
 use Rattle.gx_model.specs.Objects.NameMaps.{IsHeldTree}
 use Rattle.gx_model.specs.Records.{named_map}
 use Rattle.gx_model.specs.Histories.Values.{files_of}
-use Rattle.gx_model.proofs.HeldTrees.{files_are_held}
+use Rattle.gx_model.proofs.Records.HeldTrees.{files_are_held}
 use Rattle.gx_rev.specs.Objects.{commit_at}
 use Rattle.gx_export.proofs.CommitTexts.{files_named_so}
 use Rattle.gx_export.proofs.Gathering.{adds_gathered, kept_gathered, text_gathered, whole_tree}

@@ -4,7 +4,7 @@ use Rattle.gx_model.specs.Streams.Commands.{Blob}
 use Rattle.gx_model.specs.Export.{number_in}
 use Rattle.gx_model.specs.Histories.Values.{blob_value}
 use Rattle.gx_model.specs.Laws.RepositoryLaws.{values_of}
-use Rattle.gx_model.proofs.Standing.{at_within}
+use Rattle.gx_model.proofs.Records.Standing.{at_within}
 use Rattle.gx_export.specs.Outputs.{Stops, Writes}
 use Rattle.gx_export.specs.Texts.{command_text}
 use Rattle.gx_export.proofs.Numbering.{adds_new_blob, adds_old_blob, body_here, mark_here, only_place, place_marked, stops_new_blob}

@@ -1,6 +1,6 @@
 use Rattle.std.proofs.Common.{◌<◌, ◌∙◌, length, arith}
 use Rattle.gx_model.specs.Laws.RepositoryLaws.{values_of}
-use Rattle.gx_model.proofs.Standing.{at_within}
+use Rattle.gx_model.proofs.Records.Standing.{at_within}
 use Rattle.gx_rev.specs.Objects.{value_at}
 use Rattle.gx_export.proofs.Numbering.{any_default}
 use Rattle.gx_export.proofs.written.mark_of.Goals as goal

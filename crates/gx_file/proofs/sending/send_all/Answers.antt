@@ -3,7 +3,7 @@ use Rattle.std.specs.List.{flat_map}
 use Rattle.std.proofs.lemmas.List.{drop_more}
 use Rattle.std.proofs.lemmas.Result.{err_from_is_err_and}
 use Rattle.gx_model.specs.Texts.{Bytes}
-use Rattle.gx_model.proofs.SentTexts.{left_fails, less_left}
+use Rattle.gx_model.proofs.Texts.SentTexts.{left_fails, less_left}
 use Rattle.gx_file.proofs.SentTexts.{next_left}
 use Rattle.gx_file.proofs.sending.send_all.Goals as goal
 

@@ -1,6 +1,6 @@
 use Rattle.std.proofs.Common.{drop}
 use Rattle.std.specs.List.{flat_map}
-use Rattle.gx_model.proofs.SentTexts.{IsLeft}
+use Rattle.gx_model.proofs.Texts.SentTexts.{IsLeft}
 use Rattle.gx_file.proofs.sending.send_all.Given as goal
 
 abbrev pub invariant-loop-part : goal.invariant-loop-part

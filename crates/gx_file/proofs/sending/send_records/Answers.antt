@@ -8,7 +8,7 @@ use Rattle.gx_model.specs.Objects.{line}
 use Rattle.gx_model.specs.Stores.StoreText.{stored_record}
 use Rattle.gx_file.specs.Sending.{HaveLengths}
 use Rattle.gx_model.specs.Texts.Sinks.{FailedWithin, Took}
-use Rattle.gx_model.proofs.SentTexts.{all_left, left_fails, less_left}
+use Rattle.gx_model.proofs.Texts.SentTexts.{all_left, left_fails, less_left}
 use Rattle.gx_file.proofs.SentTexts.{all_from, all_of, from_place, is_within, next_left, took_all}
 use Rattle.gx_file.proofs.sending.send_records.Goals as goal
 

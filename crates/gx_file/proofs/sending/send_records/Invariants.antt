@@ -5,7 +5,7 @@ use Rattle.gx_model.specs.Objects.{line}
 use Rattle.gx_model.specs.declared.store_versions.Version.TheVariants.{Two}
 use Rattle.gx_model.specs.Stores.StoreText.{stored_record}
 use Rattle.gx_file.specs.Sending.{HaveLengths}
-use Rattle.gx_model.proofs.SentTexts.{IsLeft}
+use Rattle.gx_model.proofs.Texts.SentTexts.{IsLeft}
 use Rattle.gx_file.proofs.sending.send_records.Given as goal
 
 abbrev pub invariant-loop-place : goal.invariant-loop-place

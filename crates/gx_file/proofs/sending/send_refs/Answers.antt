@@ -7,7 +7,7 @@ use Rattle.gx_model.specs.Objects.{line}
 use Rattle.gx_model.specs.Stores.StoreText.{stored_ref}
 use Rattle.gx_repo.specs.Refs.{shown_lent_ref}
 use Rattle.gx_model.specs.Texts.Sinks.{FailedWithin, Took}
-use Rattle.gx_model.proofs.SentTexts.{IsLeft, all_left, left_fails, less_left, none_left}
+use Rattle.gx_model.proofs.Texts.SentTexts.{IsLeft, all_left, left_fails, less_left, none_left}
 use Rattle.gx_file.proofs.sending.send_refs.Goals as goal
 
 pub returns-in_err-send_count-clause-text : goal.returns-in_err-send_count-clause-text

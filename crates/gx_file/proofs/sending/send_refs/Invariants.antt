@@ -3,7 +3,7 @@ use Rattle.std.specs.List.{flat_map}
 use Rattle.std.specs.Fmt.{decimal}
 use Rattle.gx_model.specs.Objects.{line}
 use Rattle.gx_model.specs.Stores.StoreText.{stored_ref}
-use Rattle.gx_model.proofs.SentTexts.{IsLeft}
+use Rattle.gx_model.proofs.Texts.SentTexts.{IsLeft}
 use Rattle.gx_file.proofs.sending.send_refs.Given as goal
 
 abbrev pub invariant-loop-name : goal.invariant-loop-name

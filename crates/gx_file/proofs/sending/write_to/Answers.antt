@@ -6,7 +6,7 @@ use Rattle.gx_model.specs.declared.store_versions.Version.TheVariants.{Two}
 use Rattle.gx_model.specs.Objects.{line}
 use Rattle.gx_model.specs.Stores.StoreText.{store_text, stored_record, stored_ref, version_text}
 use Rattle.gx_file.proofs.SentStores.{sent_store_read, store_left}
-use Rattle.gx_model.proofs.SentTexts.{left_fails, less_left}
+use Rattle.gx_model.proofs.Texts.SentTexts.{left_fails, less_left}
 use Rattle.gx_file.proofs.SentTexts.{anyway, last_left}
 use Rattle.gx_file.proofs.sending.write_to.Goals as goal
 

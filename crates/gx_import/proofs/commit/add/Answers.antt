@@ -6,7 +6,7 @@ use Rattle.gx_model.specs.Histories.{with_tree}
 use Rattle.gx_model.specs.Replay.{State, added, text_made}
 use Rattle.gx_model.specs.Laws.RepositoryLaws.{values_of}
 use Rattle.gx_model.specs.Histories.Values.{commit, commit_value, commits_of, tree_value}
-use Rattle.gx_model.proofs.GrownTrees.{trees_fold}
+use Rattle.gx_model.proofs.Records.GrownTrees.{trees_fold}
 use Rattle.gx_command.specs.Views.{commit_parts}
 use Rattle.gx_object.specs.declared.name.Name.{Name}
 use Rattle.gx_repo.specs.Additions.{HasValues}
@@ -14,7 +14,7 @@ use Rattle.gx_import.specs.Objects.{IsTreeOf}
 use Rattle.gx_import.specs.Standing.{Follows}
 use Rattle.gx_model.specs.Objects.NameMaps.{AreFiles}
 use Rattle.gx_import.proofs.Extended.{extended_all, extended_more}
-use Rattle.gx_model.proofs.FilesByName.{contents_told}
+use Rattle.gx_model.proofs.Records.FilesByName.{contents_told}
 use Rattle.gx_import.proofs.GrownStates.{clash_after, clash_first, commits_keep, tree_has, tree_keeps, tree_stands, trees_clash, with_files}
 use Rattle.gx_import.proofs.HeldParts.{holds_kept}
 use Rattle.gx_import.proofs.PartAnswers.{adds_more, puts_refused}

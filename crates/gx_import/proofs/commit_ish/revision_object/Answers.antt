@@ -2,7 +2,7 @@ use Rattle.std.proofs.Common.{ap, ◌∙◌}
 use Rattle.gx_model.specs.Faults.{and_then}
 use Rattle.gx_model.specs.Revisions.Denotation.{shown_value, value_denoted}
 use Rattle.gx_model.specs.Records.HistoryOf.{history_of}
-use Rattle.gx_model.proofs.HeldValues.{held_is}
+use Rattle.gx_model.proofs.Records.HeldValues.{held_is}
 use Rattle.gx_import.proofs.commit_ish.revision_object.Goals as goal
 
 pub returns-in-Object-clause-shows : goal.returns-in-Object-clause-shows

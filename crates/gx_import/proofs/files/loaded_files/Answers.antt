@@ -4,7 +4,7 @@ use Rattle.gx_model.specs.Records.{named_map}
 use Rattle.gx_model.specs.Histories.Values.{files_of}
 use Rattle.gx_model.specs.Objects.NameMaps.{IsHeldTree}
 use Rattle.gx_rev.specs.Objects.{commit_at}
-use Rattle.gx_model.proofs.HeldTrees.{files_are_held}
+use Rattle.gx_model.proofs.Records.HeldTrees.{files_are_held}
 use Rattle.gx_import.proofs.LoadFaults.{load_fault}
 use Rattle.gx_import.proofs.files.loaded_files.Goals as goal
 

@@ -2,11 +2,11 @@ use Rattle.std.proofs.Common.{IsTrue, ap, sym, subst, ◌∙◌}
 use Rattle.std.specs.Bool.{passes}
 use Rattle.std.specs.FinMap.Entries.{is_sorted, is_sorted-put, put}
 use Rattle.gx_model.specs.Replay.{byte_cmp}
-use Rattle.gx_model.proofs.PathTests.{is_true}
+use Rattle.gx_model.proofs.Texts.PathTests.{is_true}
 use Rattle.gx_repo.specs.Refs.{shown_update}
 use Rattle.gx_import.specs.Rows.{rows_of}
 use Rattle.gx_import.proofs.PublishedNames.{entered, found_entered}
-use Rattle.gx_model.proofs.SortedRefs.{order}
+use Rattle.gx_model.proofs.Records.SortedRefs.{order}
 use Rattle.gx_import.proofs.publishing.enter.Goals as goal
 
 pub returns-in_ok-set-clause-sorted : goal.returns-in_ok-set-clause-sorted

@@ -1,7 +1,7 @@
 use Rattle.std.proofs.Common.{◌≡◌, IfOk, IfSome, ap, sym, subst, ◌∙◌}
 use Rattle.std.specs.Option.{option_map}
 use Rattle.gx_model.specs.Replay.{is_forward}
-use Rattle.gx_model.proofs.PeeledRefs.{not_unpeeled, old_holds}
+use Rattle.gx_model.proofs.Records.PeeledRefs.{not_unpeeled, old_holds}
 use Rattle.gx_import.specs.RefChanges.{IsHeldByRef}
 use Rattle.gx_import.proofs.ForwardBranches.{forward_new, forward_so, new_holds, target_of}
 use Rattle.gx_import.proofs.publishing.is_forward.Goals as goal

@@ -3,7 +3,7 @@ use Rattle.std.specs.Option.{option_map}
 use Rattle.std.proofs.lemmas.Bool.{true≢false}
 use Rattle.gx_model.specs.Laws.RepositoryLaws.{values_of}
 use Rattle.gx_model.specs.Replay.{is_forward}
-use Rattle.gx_model.proofs.PeeledRefs.{not_unpeeled}
+use Rattle.gx_model.proofs.Records.PeeledRefs.{not_unpeeled}
 use Rattle.gx_import.specs.Objects.{IsCommitOf}
 use Rattle.gx_import.specs.RefChanges.{IsHeldByRef}
 use Rattle.gx_import.specs.Rows.{AreBoth}

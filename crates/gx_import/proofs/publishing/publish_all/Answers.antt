@@ -1,6 +1,6 @@
 use Rattle.std.proofs.Common.{map}
 use Rattle.gx_repo.specs.Refs.{shown_update}
-use Rattle.gx_model.proofs.ChangedRefs.{are_set}
+use Rattle.gx_model.proofs.Records.ChangedRefs.{are_set}
 use Rattle.gx_import.proofs.SetRefs.{never_refused}
 use Rattle.gx_import.proofs.publishing.publish_all.Goals as goal
 

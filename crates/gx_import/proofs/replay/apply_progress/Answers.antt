@@ -1,6 +1,6 @@
 use Rattle.std.proofs.Common.{codes, [], ◌∷◌, ◌++◌, Err}
 use Rattle.std.proofs.lemmas.Result.{err_from_is_err_and}
-use Rattle.gx_model.proofs.SentTexts.{took_both}
+use Rattle.gx_model.proofs.Texts.SentTexts.{took_both}
 use Rattle.gx_import.proofs.ProgressTexts.{writes_later, writes_sooner}
 use Rattle.gx_import.proofs.replay.apply_progress.Goals as goal
 

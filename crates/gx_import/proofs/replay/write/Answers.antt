@@ -1,5 +1,5 @@
 use Rattle.std.proofs.Common.{refl}
-use Rattle.gx_model.proofs.SentTexts.{failed_within}
+use Rattle.gx_model.proofs.Texts.SentTexts.{failed_within}
 use Rattle.gx_import.proofs.replay.write.Goals as goal
 
 pub returns-in-Err : goal.returns-in-Err

@@ -1,5 +1,5 @@
-use Rattle.gx_model.proofs.ReadableChanges.{changes_readable}
-use Rattle.gx_model.proofs.SpelledChanges.{all_changes_spelled}
+use Rattle.gx_model.proofs.Changes.ReadableChanges.{changes_readable}
+use Rattle.gx_model.proofs.Changes.SpelledChanges.{all_changes_spelled}
 use Rattle.gx_model.proofs.changes_laws.changes_are_readable.Goals as goal
 
 pub returns-clause-readable : goal.returns-clause-readable

@@ -1,7 +1,7 @@
 use Rattle.std.proofs.Common.{refl}
 use Rattle.std.specs.Bool.{passes}
-use Rattle.gx_model.proofs.FileMapEdits.{parts_of}
-use Rattle.gx_model.proofs.EditMeanings.{copy_means, copy_refused, modify_means, remove_means, rename_means, rename_refused}
+use Rattle.gx_model.proofs.Histories.FileMapEdits.{parts_of}
+use Rattle.gx_model.proofs.Histories.EditMeanings.{copy_means, copy_refused, modify_means, remove_means, rename_means, rename_refused}
 use Rattle.gx_model.proofs.file_map_laws.edits_are_set_operations.Goals as goal
 
 pub returns : goal.returns

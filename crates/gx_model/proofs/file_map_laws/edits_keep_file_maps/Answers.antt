@@ -1,7 +1,7 @@
 use Rattle.std.specs.Bool.{passes}
 use Rattle.std.proofs.lemmas.Result.{IfOk-weaker}
 use Rattle.gx_model.specs.Histories.Edits.{modified, copied, renamed}
-use Rattle.gx_model.proofs.FileMapEdits.{parts_of, of_parts, modified_parts, removed_parts, copied_parts, renamed_parts}
+use Rattle.gx_model.proofs.Histories.FileMapEdits.{parts_of, of_parts, modified_parts, removed_parts, copied_parts, renamed_parts}
 use Rattle.gx_model.proofs.file_map_laws.edits_keep_file_maps.Goals as goal
 
 pub returns : goal.returns

@@ -1,8 +1,8 @@
 use Rattle.std.proofs.Common.{◌∷◌, ◌++◌}
 use Rattle.std.specs.Bool.{passes}
-use Rattle.gx_model.proofs.PathTests.{left_or}
-use Rattle.gx_model.proofs.FileMapEdits.{parts_of}
-use Rattle.gx_model.proofs.SameFileMaps.{one_in_line, rising, same_maps}
+use Rattle.gx_model.proofs.Texts.PathTests.{left_or}
+use Rattle.gx_model.proofs.Histories.FileMapEdits.{parts_of}
+use Rattle.gx_model.proofs.Histories.SameFileMaps.{one_in_line, rising, same_maps}
 use Rattle.gx_model.proofs.file_map_laws.file_maps_are_maps.Goals as goal
 
 pub returns : goal.returns

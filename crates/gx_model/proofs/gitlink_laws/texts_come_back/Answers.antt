@@ -1,4 +1,4 @@
-use Rattle.gx_model.proofs.ComingBack.{texts_back}
+use Rattle.gx_model.proofs.Headlines.ComingBack.{texts_back}
 use Rattle.gx_model.proofs.gitlink_laws.texts_come_back.Goals as goal
 
 pub returns : goal.returns

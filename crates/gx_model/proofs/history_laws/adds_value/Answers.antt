@@ -1,5 +1,5 @@
 use Rattle.std.specs.Bool.{passes}
-use Rattle.gx_model.proofs.AddedValues.{value_added}
+use Rattle.gx_model.proofs.Histories.AddedValues.{value_added}
 use Rattle.gx_model.proofs.history_laws.adds_value.Goals as goal
 
 pub returns : goal.returns

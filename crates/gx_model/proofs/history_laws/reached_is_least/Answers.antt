@@ -1,6 +1,6 @@
 use Rattle.std.specs.Bool.{passes}
-use Rattle.gx_model.proofs.PathTests.{is_true}
-use Rattle.gx_model.proofs.ReachedCommits.{itself, closed, least}
+use Rattle.gx_model.proofs.Texts.PathTests.{is_true}
+use Rattle.gx_model.proofs.Histories.ReachedCommits.{itself, closed, least}
 use Rattle.gx_model.proofs.history_laws.reached_is_least.Goals as goal
 
 pub returns : goal.returns

@@ -1,5 +1,5 @@
 use Rattle.std.proofs.Common.{◌∙◌, sym}
-use Rattle.gx_model.proofs.BodiesReadBack.{commit_read, entries_read, tag_read}
+use Rattle.gx_model.proofs.ObjectTexts.BodiesReadBack.{commit_read, entries_read, tag_read}
 use Rattle.gx_model.proofs.object_laws.bodies_tell_parts.Goals as goal
 
 pub returns : goal.returns

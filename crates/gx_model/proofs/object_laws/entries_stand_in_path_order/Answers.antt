@@ -1,5 +1,5 @@
 use Rattle.std.specs.Bool.{passes}
-use Rattle.gx_model.proofs.PathOrder.{by_entry}
+use Rattle.gx_model.proofs.Histories.PathOrder.{by_entry}
 use Rattle.gx_model.proofs.object_laws.entries_stand_in_path_order.Goals as goal
 
 pub returns : goal.returns

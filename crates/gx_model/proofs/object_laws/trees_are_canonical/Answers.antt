@@ -1,6 +1,6 @@
 use Rattle.std.specs.Bool.{passes}
-use Rattle.gx_model.proofs.PathTests.{is_true}
-use Rattle.gx_model.proofs.CanonicalTrees.{canonical_entries}
+use Rattle.gx_model.proofs.Texts.PathTests.{is_true}
+use Rattle.gx_model.proofs.ObjectTexts.CanonicalTrees.{canonical_entries}
 use Rattle.gx_model.proofs.object_laws.trees_are_canonical.Goals as goal
 
 pub returns : goal.returns

@@ -1,7 +1,7 @@
 use Rattle.std.specs.Bool.{passes}
 use Rattle.gx_model.specs.Histories.{IsIn}
-use Rattle.gx_model.proofs.OneHistory.{told_by_name}
-use Rattle.gx_model.proofs.OneTree.{one_tree}
+use Rattle.gx_model.proofs.Records.OneHistory.{told_by_name}
+use Rattle.gx_model.proofs.ObjectTexts.OneTree.{one_tree}
 use Rattle.gx_model.proofs.object_laws.trees_tell_maps.Goals as goal
 
 pub returns : goal.returns

@@ -1,4 +1,4 @@
-use Rattle.gx_model.proofs.PrunedAnswers.{by_ref, same_base, same_range, same_ref, same_revision}
+use Rattle.gx_model.proofs.Pruning.PrunedAnswers.{by_ref, same_base, same_range, same_ref, same_revision}
 use Rattle.gx_model.proofs.pruning_laws.pruned_answers.Goals as goal
 
 pub returns : goal.returns

@@ -1,4 +1,4 @@
-use Rattle.gx_model.proofs.PrunedHistories.{pruned_history, pruned_sound, reached_held, reached_is}
+use Rattle.gx_model.proofs.Pruning.PrunedHistories.{pruned_history, pruned_sound, reached_held, reached_is}
 use Rattle.gx_model.proofs.pruning_laws.pruned_stands.Goals as goal
 
 pub returns : goal.returns

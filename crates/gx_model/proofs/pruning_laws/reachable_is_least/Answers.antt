@@ -1,7 +1,7 @@
 use Rattle.std.specs.Bool.{passes}
-use Rattle.gx_model.proofs.PathTests.{is_true}
-use Rattle.gx_model.proofs.PrunedHistories.{links_are_reached}
-use Rattle.gx_model.proofs.ReachableObjects.{least, tips_reached}
+use Rattle.gx_model.proofs.Texts.PathTests.{is_true}
+use Rattle.gx_model.proofs.Pruning.PrunedHistories.{links_are_reached}
+use Rattle.gx_model.proofs.Pruning.ReachableObjects.{least, tips_reached}
 use Rattle.gx_model.proofs.pruning_laws.reachable_is_least.Goals as goal
 
 pub returns : goal.returns

@@ -1,4 +1,4 @@
-use Rattle.gx_model.proofs.SpelledRanges.{range_imported, sound_imported}
+use Rattle.gx_model.proofs.Ranges.SpelledRanges.{range_imported, sound_imported}
 use Rattle.gx_model.proofs.range_laws.ranges_are_imported.Goals as goal
 
 pub returns-clause-imported : goal.returns-clause-imported

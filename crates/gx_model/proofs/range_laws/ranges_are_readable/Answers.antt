@@ -1,5 +1,5 @@
-use Rattle.gx_model.proofs.ReadableRanges.{range_readable}
-use Rattle.gx_model.proofs.SpelledRanges.{range_spelled}
+use Rattle.gx_model.proofs.Ranges.ReadableRanges.{range_readable}
+use Rattle.gx_model.proofs.Ranges.SpelledRanges.{range_spelled}
 use Rattle.gx_model.proofs.range_laws.ranges_are_readable.Goals as goal
 
 pub returns-clause-readable : goal.returns-clause-readable

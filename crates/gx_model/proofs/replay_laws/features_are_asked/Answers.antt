@@ -1,4 +1,4 @@
-use Rattle.gx_model.proofs.AskedFeatures.{changes_ask_once, exports_ask_once}
+use Rattle.gx_model.proofs.Streams.AskedFeatures.{changes_ask_once, exports_ask_once}
 use Rattle.gx_model.proofs.replay_laws.features_are_asked.Goals as goal
 
 pub returns-clause-exports : goal.returns-clause-exports

@@ -1,4 +1,4 @@
-use Rattle.gx_model.proofs.ShownValues.{held_value, one_answer}
+use Rattle.gx_model.proofs.Revisions.ShownValues.{held_value, one_answer}
 use Rattle.gx_model.proofs.repository_laws.answers_tell_values.Goals as goal
 
 pub returns : goal.returns

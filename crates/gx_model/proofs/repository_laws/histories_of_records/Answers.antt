@@ -1,7 +1,7 @@
 use Rattle.gx_model.specs.Records.HistoryOf.{history_of}
-use Rattle.gx_model.proofs.HistoriesAreSound.{sound}
-use Rattle.gx_model.proofs.HistoriesExist.{stands}
-use Rattle.gx_model.proofs.OneHistory.{one_history}
+use Rattle.gx_model.proofs.Records.HistoriesAreSound.{sound}
+use Rattle.gx_model.proofs.Records.HistoriesExist.{stands}
+use Rattle.gx_model.proofs.Records.OneHistory.{one_history}
 use Rattle.gx_model.proofs.repository_laws.histories_of_records.Goals as goal
 
 pub returns : goal.returns

@@ -1,4 +1,4 @@
-use Rattle.gx_model.proofs.HeldNames.{linked_value}
+use Rattle.gx_model.proofs.Records.HeldNames.{linked_value}
 use Rattle.gx_model.proofs.repository_laws.links_tell_values.Goals as goal
 
 pub returns : goal.returns

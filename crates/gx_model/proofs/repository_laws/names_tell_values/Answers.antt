@@ -1,10 +1,10 @@
 use Rattle.std.proofs.Common.{ap}
 use Rattle.gx_model.specs.Records.HistoryOf.{history_of}
 use Rattle.gx_model.specs.Records.{name_of}
-use Rattle.gx_model.proofs.GrownRecords.{distinct_of}
-use Rattle.gx_model.proofs.HeldNames.{finds, value_found}
-use Rattle.gx_model.proofs.HistoriesExist.{stands}
-use Rattle.gx_model.proofs.OneHistory.{told_by_name}
+use Rattle.gx_model.proofs.Records.GrownRecords.{distinct_of}
+use Rattle.gx_model.proofs.Records.HeldNames.{finds, value_found}
+use Rattle.gx_model.proofs.Records.HistoriesExist.{stands}
+use Rattle.gx_model.proofs.Records.OneHistory.{told_by_name}
 use Rattle.gx_model.proofs.repository_laws.names_tell_values.Goals as goal
 
 pub returns : goal.returns

@@ -1,5 +1,5 @@
-use Rattle.gx_model.proofs.FirstRecords.{first_values, kept}
-use Rattle.gx_model.proofs.HeldNames.{published}
+use Rattle.gx_model.proofs.Records.FirstRecords.{first_values, kept}
+use Rattle.gx_model.proofs.Records.HeldNames.{published}
 use Rattle.gx_model.proofs.repository_laws.parts_change.Goals as goal
 
 pub returns : goal.returns

@@ -1,7 +1,7 @@
 use Rattle.gx_model.specs.Records.HistoryOf.{history_of}
-use Rattle.gx_model.proofs.GrownRecords.{no_values, put_grows, puts_add, puts_grow, whole_of}
-use Rattle.gx_model.proofs.GrownTrees.{alone_added}
-use Rattle.gx_model.proofs.HistoriesExist.{stands}
+use Rattle.gx_model.proofs.Records.GrownRecords.{no_values, put_grows, puts_add, puts_grow, whole_of}
+use Rattle.gx_model.proofs.Records.GrownTrees.{alone_added}
+use Rattle.gx_model.proofs.Records.HistoriesExist.{stands}
 use Rattle.gx_model.proofs.repository_laws.puts_add_values.Goals as goal
 
 pub returns : goal.returns

@@ -1,5 +1,5 @@
 use Rattle.gx_model.specs.Revisions.Denotation.{ref_names}
-use Rattle.gx_model.proofs.FoundRecords.{commits_found, digits_find, first_found}
+use Rattle.gx_model.proofs.Records.FoundRecords.{commits_found, digits_find, first_found}
 use Rattle.gx_model.proofs.repository_laws.records_are_found.Goals as goal
 
 pub returns : goal.returns

@@ -2,10 +2,10 @@ use Rattle.std.proofs.Common.{◌∙◌, ap, sym}
 use Rattle.std.specs.Bool.{passes}
 use Rattle.gx_model.specs.Records.Growth.{tree_records}
 use Rattle.gx_model.specs.Records.HistoryOf.{contents_of, history_of, named_values}
-use Rattle.gx_model.proofs.GrownRecords.{whole_of}
-use Rattle.gx_model.proofs.GrownTrees.{trees_fold, trees_named, trees_ready}
-use Rattle.gx_model.proofs.HeldNames.{contents}
-use Rattle.gx_model.proofs.HistoriesExist.{stands}
+use Rattle.gx_model.proofs.Records.GrownRecords.{whole_of}
+use Rattle.gx_model.proofs.Records.GrownTrees.{trees_fold, trees_named, trees_ready}
+use Rattle.gx_model.proofs.Records.HeldNames.{contents}
+use Rattle.gx_model.proofs.Records.HistoriesExist.{stands}
 use Rattle.gx_model.proofs.repository_laws.trees_add_file_maps.Goals as goal
 
 pub returns : goal.returns

@@ -1,4 +1,4 @@
-use Rattle.gx_model.proofs.TreeWalks.{walk_sound}
+use Rattle.gx_model.proofs.Records.TreeWalks.{walk_sound}
 use Rattle.gx_model.proofs.repository_laws.walks_tell_paths.Goals as goal
 
 pub returns : goal.returns

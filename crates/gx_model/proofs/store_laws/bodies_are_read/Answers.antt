@@ -1,5 +1,5 @@
-use Rattle.gx_model.proofs.BodiesReadBack.{commit_read, entries_read, tag_read}
-use Rattle.gx_model.proofs.BodyTests.{body_told}
+use Rattle.gx_model.proofs.ObjectTexts.BodiesReadBack.{commit_read, entries_read, tag_read}
+use Rattle.gx_model.proofs.ObjectTexts.BodyTests.{body_told}
 use Rattle.gx_model.proofs.store_laws.bodies_are_read.Goals as goal
 
 pub returns : goal.returns

@@ -1,4 +1,4 @@
-use Rattle.gx_model.proofs.TakenRecords.{fine, linked, sound_with}
+use Rattle.gx_model.proofs.Records.TakenRecords.{fine, linked, sound_with}
 use Rattle.gx_model.proofs.store_laws.records_are_taken.Goals as goal
 
 pub returns : goal.returns

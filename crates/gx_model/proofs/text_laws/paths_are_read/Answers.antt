@@ -1,4 +1,4 @@
-use Rattle.gx_model.proofs.PathTexts.{path_refused}
+use Rattle.gx_model.proofs.Texts.PathTexts.{path_refused}
 use Rattle.gx_model.proofs.text_laws.paths_are_read.Goals as goal
 
 pub returns-clause-fault : goal.returns-clause-fault

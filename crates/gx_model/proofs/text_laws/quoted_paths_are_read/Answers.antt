@@ -1,4 +1,4 @@
-use Rattle.gx_model.proofs.Quotes.{quoted_text_tells, quoted_path_tells, quoted_path_refused}
+use Rattle.gx_model.proofs.Texts.Quotes.{quoted_text_tells, quoted_path_tells, quoted_path_refused}
 use Rattle.gx_model.proofs.text_laws.quoted_paths_are_read.Goals as goal
 
 pub returns-clause-text : goal.returns-clause-text

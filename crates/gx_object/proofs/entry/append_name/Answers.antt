@@ -1,5 +1,5 @@
 use Rattle.std.proofs.Common.{arith}
-use Rattle.gx_model.proofs.NameDigits.{is_name_from}
+use Rattle.gx_model.proofs.ObjectTexts.NameDigits.{is_name_from}
 use Rattle.gx_object.proofs.entry.append_name.Goals as goal
 
 pub returns-clause-name : goal.returns-clause-name

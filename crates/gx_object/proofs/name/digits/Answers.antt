@@ -1,6 +1,6 @@
 use Rattle.std.proofs.Common.{◌∙◌, arith}
 use Rattle.gx_object.proofs.Digits.{hex_is}
-use Rattle.gx_model.proofs.NameDigits.{is_name_from}
+use Rattle.gx_model.proofs.ObjectTexts.NameDigits.{is_name_from}
 use Rattle.gx_object.proofs.name.digits.Goals as goal
 
 pub returns-clause-digits : goal.returns-clause-digits

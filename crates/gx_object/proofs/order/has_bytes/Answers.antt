@@ -1,5 +1,5 @@
 use Rattle.std.proofs.Common.{arith}
-use Rattle.gx_model.proofs.NameDigits.{all_bytes}
+use Rattle.gx_model.proofs.ObjectTexts.NameDigits.{all_bytes}
 use Rattle.gx_object.proofs.order.has_bytes.Goals as goal
 
 pub returns : goal.returns

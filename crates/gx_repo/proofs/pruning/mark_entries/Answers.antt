@@ -2,7 +2,7 @@ use Rattle.std.proofs.Common.{◌≡◌, ◌∙◌, ap, sym, subst, arith, rules
 use Rattle.std.specs.List.{filter_map}
 use Rattle.gx_model.specs.declared.objects.Kind.TheVariants as kinds
 use Rattle.gx_model.specs.Pruning.{link_of, links_of}
-use Rattle.gx_model.proofs.BodiesReadBack.{entries_read}
+use Rattle.gx_model.proofs.ObjectTexts.BodiesReadBack.{entries_read}
 use Rattle.gx_object.specs.Entries.{shown}
 use Rattle.gx_repo.proofs.PrunedRecords.{MarksSoFar, entry_links, so_far_next, so_far_none}
 use Rattle.gx_repo.proofs.pruning.mark_entries.Goals as goal

@@ -1,5 +1,5 @@
 use Rattle.std.proofs.Common.{[], ◌∷◌, ◌∙◌, ap, sym, subst}
-use Rattle.gx_model.proofs.BodiesReadBack.{tag_read}
+use Rattle.gx_model.proofs.ObjectTexts.BodiesReadBack.{tag_read}
 use Rattle.gx_repo.specs.Pruning.{MarksNames}
 use Rattle.gx_repo.proofs.pruning.mark_tagged.Goals as goal
 

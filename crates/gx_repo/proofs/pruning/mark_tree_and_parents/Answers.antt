@@ -2,7 +2,7 @@ use Rattle.std.proofs.Common.{◌≡◌, ◌+◌, [], ◌∷◌, ◌∙◌, None
 use Rattle.std.proofs.lemmas.Option.{slice_get-get_or}
 use Rattle.gx_model.specs.declared.objects.Kind.TheVariants as kinds
 use Rattle.gx_model.specs.Pruning.{links_of}
-use Rattle.gx_model.proofs.BodiesReadBack.{commit_read}
+use Rattle.gx_model.proofs.ObjectTexts.BodiesReadBack.{commit_read}
 use Rattle.gx_repo.proofs.PrunedRecords.{MarksSoFar, next_parent, so_far_next, so_far_none}
 use Rattle.gx_repo.proofs.pruning.mark_tree_and_parents.Goals as goal
 

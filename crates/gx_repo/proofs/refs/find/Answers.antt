@@ -3,7 +3,7 @@ use Rattle.std.specs.Bool.{passes}
 use Rattle.std.proofs.lemmas.Fn.{always_returns_same}
 use Rattle.gx_model.specs.Replay.{byte_cmp}
 use Rattle.gx_repo.specs.Refs.{shown_ref}
-use Rattle.gx_model.proofs.SortedRefs.{answers_rise, found_at, not_parted}
+use Rattle.gx_model.proofs.Records.SortedRefs.{answers_rise, found_at, not_parted}
 use Rattle.gx_repo.proofs.refs.find.Goals as goal
 
 pub returns-in-Ok : goal.returns-in-Ok

@@ -3,7 +3,7 @@ use Rattle.gx_model.specs.Objects.{TagParts as Parts}
 use Rattle.gx_model.specs.Texts.RefNames.{tag_ref}
 use Rattle.gx_model.specs.Stores.StoreReading.{is_target_of_kind}
 use Rattle.gx_model.specs.Texts.{same_bytes}
-use Rattle.gx_model.proofs.BodiesReadBack.{tag_read}
+use Rattle.gx_model.proofs.ObjectTexts.BodiesReadBack.{tag_read}
 use Rattle.gx_repo.proofs.repo.is_target.Goals as goal
 
 pub returns-in-Tag : goal.returns-in-Tag

@@ -1,6 +1,6 @@
 use Rattle.std.proofs.Common.{◌≡◌, sym, ap, ◌∙◌}
 use Rattle.gx_model.specs.Objects.{TagParts as Parts}
-use Rattle.gx_model.proofs.BodiesReadBack.{tag_read}
+use Rattle.gx_model.proofs.ObjectTexts.BodiesReadBack.{tag_read}
 use Rattle.gx_repo.proofs.repo.tag_object.Goals as goal
 
 pub returns-in-Ok : goal.returns-in-Ok

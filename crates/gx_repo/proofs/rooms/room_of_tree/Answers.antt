@@ -2,7 +2,7 @@ use Rattle.std.proofs.Common.{◌≡◌, length, take, sym, subst, ap, ◌∙◌
 use Rattle.std.specs.List.{AllByRecursion}
 use Rattle.gx_model.specs.Records.HistoryOf.{files_of_entries, named_values}
 use Rattle.gx_model.specs.Records.Sound.{IsHeldAs}
-use Rattle.gx_model.proofs.BodiesReadBack.{entries_read}
+use Rattle.gx_model.proofs.ObjectTexts.BodiesReadBack.{entries_read}
 use Rattle.gx_object.specs.Entries.{shown}
 use Rattle.gx_repo.specs.Rooms.{room}
 use Rattle.gx_repo.proofs.EntryRooms.{room_of_entries}

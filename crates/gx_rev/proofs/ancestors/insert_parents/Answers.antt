@@ -4,8 +4,8 @@ use Rattle.std.specs.Ordering.{nat_cmp}
 use Rattle.std.specs.BTreeSet.{insert_key}
 use Rattle.gx_model.specs.Histories.Values.{Commit, commit_value, list_of, parents_of}
 use Rattle.gx_model.specs.Histories.Marks.{IsAt}
-use Rattle.gx_model.proofs.HeldValues.{commit_held, names_long, no_parent_there, parent_there}
-use Rattle.gx_model.proofs.Standing.{at_within, commit_at_place, commit_name_there}
+use Rattle.gx_model.proofs.Records.HeldValues.{commit_held, names_long, no_parent_there, parent_there}
+use Rattle.gx_model.proofs.Records.Standing.{at_within, commit_at_place, commit_name_there}
 use Rattle.gx_model.specs.Laws.RepositoryLaws.{values_of}
 use Rattle.gx_rev.specs.Objects.{commit_at}
 use Rattle.gx_rev.specs.Ancestors.{IsCommitBefore}

@@ -3,8 +3,8 @@ use Rattle.std.specs.List.{AllByRecursion}
 use Rattle.std.specs.Ordering.{nat_cmp}
 use Rattle.std.specs.BTreeSet.{insert_key}
 use Rattle.gx_model.specs.declared.objects.Kind.TheVariants as kinds
-use Rattle.gx_model.proofs.HeldValues.{commit_held, holds_held}
-use Rattle.gx_model.proofs.Standing.{commit_at_place}
+use Rattle.gx_model.proofs.Records.HeldValues.{commit_held, holds_held}
+use Rattle.gx_model.proofs.Records.Standing.{commit_at_place}
 use Rattle.gx_rev.specs.Objects.{commit_at}
 use Rattle.gx_rev.specs.Parents.{IsCommitPlace}
 use Rattle.gx_rev.proofs.PlaceLists.{one_reaches}

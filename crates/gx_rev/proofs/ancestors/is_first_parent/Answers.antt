@@ -1,7 +1,7 @@
 use Rattle.std.proofs.Common.{◌≡◌, IsTrue, subst, sym, rules}
 use Rattle.gx_model.specs.Records.HistoryOf.{commit_of_value, value_of_name}
 use Rattle.gx_model.specs.Revisions.Ranges.{reaches}
-use Rattle.gx_model.proofs.HeldValues.{parent_there}
+use Rattle.gx_model.proofs.Records.HeldValues.{parent_there}
 use Rattle.gx_rev.specs.Objects.{commit_at}
 use Rattle.gx_rev.proofs.PlaceLists.{parent_reached}
 use Rattle.gx_rev.proofs.ancestors.is_first_parent.Goals as goal

@@ -1,4 +1,4 @@
-use Rattle.gx_model.proofs.Bases.{by_digits, by_none, by_ref, ref_found}
+use Rattle.gx_model.proofs.Revisions.Bases.{by_digits, by_none, by_ref, ref_found}
 use Rattle.gx_rev.proofs.base.eval_base.Goals as goal
 
 pub returns-in-Some-clause-value : goal.returns-in-Some-clause-value

@@ -1,7 +1,7 @@
 use Rattle.std.proofs.Common.{◌≡◌, ◌∷◌, ◌∙◌, [], ap, subst, sym}
 use Rattle.std.specs.BTreeSet.{insert_key}
 use Rattle.std.specs.Ordering.{nat_cmp}
-use Rattle.gx_model.proofs.Standing.{commit_at_place}
+use Rattle.gx_model.proofs.Records.Standing.{commit_at_place}
 use Rattle.gx_rev.specs.Meetings.{AreMeeting}
 use Rattle.gx_rev.specs.Objects.{commit_at}
 use Rattle.gx_rev.proofs.MeetingWalks.{begun, on_ok}

@@ -4,7 +4,7 @@ use Rattle.gx_model.specs.Faults.{and_then}
 use Rattle.gx_model.specs.Revisions.Denotation.{nth_ancestor, nth_parent}
 use Rattle.gx_rev.specs.Objects.{commit_at}
 use Rattle.gx_rev.specs.RevFaults.{fault_of}
-use Rattle.gx_model.proofs.HeldValues.{next_ancestor}
+use Rattle.gx_model.proofs.Records.HeldValues.{next_ancestor}
 use Rattle.gx_rev.proofs.Answers.{fails_first}
 use Rattle.gx_rev.proofs.objects.ancestor_of.Goals as goal
 

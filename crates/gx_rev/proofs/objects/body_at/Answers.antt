@@ -1,4 +1,4 @@
-use Rattle.gx_model.proofs.Standing.{some_there}
+use Rattle.gx_model.proofs.Records.Standing.{some_there}
 use Rattle.gx_store.specs.Stores.{shown_record}
 use Rattle.gx_rev.proofs.Bodies.{body_there}
 use Rattle.gx_rev.proofs.objects.body_at.Goals as goal

@@ -1,4 +1,4 @@
-use Rattle.gx_model.proofs.HeldValues.{peeled_none, peeled_to}
+use Rattle.gx_model.proofs.Records.HeldValues.{peeled_none, peeled_to}
 use Rattle.gx_rev.proofs.objects.commit_of.Goals as goal
 
 pub returns-in-Some-clause-commit : goal.returns-in-Some-clause-commit

@@ -1,9 +1,9 @@
 use Rattle.std.proofs.Common.{sym, ap, ◌∙◌}
 use Rattle.gx_model.specs.declared.objects.Kind.TheVariants as kinds
 use Rattle.gx_model.specs.Records.HistoryOf.{files_of_tree, value_of_name}
-use Rattle.gx_model.proofs.TreePaths as paths
-use Rattle.gx_model.proofs.HeldValues.{got, kind_held}
-use Rattle.gx_model.proofs.HeldTrees.{tree_text_held}
+use Rattle.gx_model.proofs.ObjectTexts.TreePaths as paths
+use Rattle.gx_model.proofs.Records.HeldValues.{got, kind_held}
+use Rattle.gx_model.proofs.Records.HeldTrees.{tree_text_held}
 use Rattle.gx_rev.proofs.PathSteps.{entries_got}
 use Rattle.gx_rev.proofs.objects.entries_of.Goals as goal
 

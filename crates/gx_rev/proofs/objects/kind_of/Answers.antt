@@ -1,5 +1,5 @@
 use Rattle.std.proofs.Common.{ap}
-use Rattle.gx_model.proofs.HeldValues.{got}
+use Rattle.gx_model.proofs.Records.HeldValues.{got}
 use Rattle.gx_rev.proofs.objects.kind_of.Goals as goal
 
 pub returns : goal.returns

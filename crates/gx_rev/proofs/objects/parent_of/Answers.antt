@@ -1,4 +1,4 @@
-use Rattle.gx_model.proofs.HeldValues.{parent_found, parent_none}
+use Rattle.gx_model.proofs.Records.HeldValues.{parent_found, parent_none}
 use Rattle.std.proofs.Common.{◌<◌, arith}
 use Rattle.gx_rev.proofs.objects.parent_of.Goals as goal
 

@@ -1,6 +1,6 @@
 use Rattle.std.proofs.Common.{◌∙◌, sym, ap}
 use Rattle.gx_model.specs.Records.HistoryOf.{value_of_name}
-use Rattle.gx_model.proofs.HeldValues.{got}
+use Rattle.gx_model.proofs.Records.HeldValues.{got}
 use Rattle.gx_rev.proofs.Bodies.{found_is, no_tag, other, tag_text_held}
 use Rattle.gx_rev.proofs.objects.tag_of.Goals as goal
 

@@ -1,5 +1,5 @@
 use Rattle.std.proofs.Common.{sym}
-use Rattle.gx_model.proofs.HeldValues.{held_kind, tree_found}
+use Rattle.gx_model.proofs.Records.HeldValues.{held_kind, tree_found}
 use Rattle.gx_model.specs.declared.objects.Kind.TheVariants as kinds
 use Rattle.gx_rev.proofs.objects.tree_of.Goals as goal
 

@@ -1,4 +1,4 @@
-use Rattle.gx_model.proofs.HeldValues.{commit_text_held, kind_held}
+use Rattle.gx_model.proofs.Records.HeldValues.{commit_text_held, kind_held}
 use Rattle.gx_model.specs.declared.objects.Kind.TheVariants as kinds
 use Rattle.gx_rev.specs.Objects.{commit_at}
 use Rattle.gx_model.specs.Records.{parts_of_commit}

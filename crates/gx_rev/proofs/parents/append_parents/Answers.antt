@@ -2,8 +2,8 @@ use Rattle.std.proofs.Common.{◌≡◌, ◌≤◌, ◌∙◌, [], ◌∷◌, �
 use Rattle.gx_model.specs.Histories.Values.{list_of, parents_of}
 use Rattle.gx_rev.specs.Objects.{commit_at}
 use Rattle.gx_rev.specs.Parents.{StandAt}
-use Rattle.gx_model.proofs.HeldValues.{commit_held, names_long, no_parent_there, parent_there}
-use Rattle.gx_model.proofs.Standing.{commit_at_place}
+use Rattle.gx_model.proofs.Records.HeldValues.{commit_held, names_long, no_parent_there, parent_there}
+use Rattle.gx_model.proofs.Records.Standing.{commit_at_place}
 use Rattle.gx_rev.proofs.ParentPlaces.{no_more, take_all, stand_more}
 use Rattle.gx_rev.proofs.parents.append_parents.Goals as goal
 use Rattle.gx_rev.proofs.parents.append_parents.Goals.{in-Some+in_ok-push, in_default}

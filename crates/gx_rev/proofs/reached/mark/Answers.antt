@@ -1,8 +1,8 @@
 use Rattle.std.proofs.Common.{◌≡◌, ◌<◌, arith, length, length-set, true}
 use Rattle.gx_model.specs.Laws.RepositoryLaws.{values_of}
 use Rattle.gx_rev.specs.Objects.{commit_at, value_at}
-use Rattle.gx_model.proofs.Marking.{mark_there}
-use Rattle.gx_model.proofs.Standing.{at_within, commit_at_place}
+use Rattle.gx_model.proofs.Revisions.Marking.{mark_there}
+use Rattle.gx_model.proofs.Records.Standing.{at_within, commit_at_place}
 use Rattle.gx_rev.proofs.Tips.{commit_more}
 use Rattle.gx_rev.proofs.reached.mark.Goals as goal
 

@@ -1,8 +1,8 @@
 use Rattle.std.proofs.Common.{◌∙◌, arith, get_or, length-set, refl, set, true}
 use Rattle.gx_model.specs.Laws.RepositoryLaws.{values_of}
 use Rattle.gx_model.specs.Histories.Values.{commit_value, list_of}
-use Rattle.gx_model.proofs.Marking.{all_parents, mark_there, next_marked, same_marked}
-use Rattle.gx_model.proofs.Standing.{at_within}
+use Rattle.gx_model.proofs.Revisions.Marking.{all_parents, mark_there, next_marked, same_marked}
+use Rattle.gx_model.proofs.Records.Standing.{at_within}
 use Rattle.gx_rev.proofs.ParentPlaces.{as_many_places, got, is_there, stands_there}
 use Rattle.gx_rev.proofs.reached.mark_at.Goals as goal
 

@@ -1,7 +1,7 @@
 use Rattle.std.proofs.Common.{◌≡◌, length}
 use Rattle.gx_model.specs.Histories.Values.{Commits, list_of}
 use Rattle.gx_model.specs.Histories.Marks.{Marks}
-use Rattle.gx_model.proofs.Marking.{IsBefore}
+use Rattle.gx_model.proofs.Revisions.Marking.{IsBefore}
 use Rattle.gx_rev.specs.Parents.{StandAt}
 use Rattle.gx_rev.proofs.reached.mark_at.Given as goal
 

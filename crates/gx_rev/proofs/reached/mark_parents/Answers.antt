@@ -1,9 +1,9 @@
 use Rattle.std.proofs.Common.{◌≡◌, ◌≤◌, ◌∙◌, ap, sym, arith, length, rules}
 use Rattle.gx_model.specs.Histories.Values.{list_of, parents_of}
 use Rattle.gx_rev.specs.Objects.{commit_at}
-use Rattle.gx_model.proofs.HeldValues.{commit_held, names_long, no_parent_there, parent_there}
-use Rattle.gx_model.proofs.Marking.{all_parents, next_marked, no_next}
-use Rattle.gx_model.proofs.Standing.{commit_at_place, stands_at}
+use Rattle.gx_model.proofs.Records.HeldValues.{commit_held, names_long, no_parent_there, parent_there}
+use Rattle.gx_model.proofs.Revisions.Marking.{all_parents, next_marked, no_next}
+use Rattle.gx_model.proofs.Records.Standing.{commit_at_place, stands_at}
 use Rattle.gx_rev.proofs.Tips.{parents_more}
 use Rattle.gx_rev.proofs.reached.mark_parents.Goals as goal
 use Rattle.gx_rev.proofs.reached.mark_parents.Goals.{in-Some, in_default}

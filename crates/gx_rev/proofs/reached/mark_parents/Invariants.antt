@@ -3,7 +3,7 @@ use Rattle.gx_model.specs.Laws.RepositoryLaws.{values_of}
 use Rattle.gx_model.specs.Histories.Values.{list_of, parents_of}
 use Rattle.gx_model.specs.Histories.Marks.{Marks}
 use Rattle.gx_rev.specs.Objects.{commit_at}
-use Rattle.gx_model.proofs.Marking.{IsBefore}
+use Rattle.gx_model.proofs.Revisions.Marking.{IsBefore}
 use Rattle.gx_rev.proofs.reached.mark_parents.Given as goal
 
 abbrev pub invariant-loop-number : goal.invariant-loop-number

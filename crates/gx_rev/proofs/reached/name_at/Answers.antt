@@ -1,4 +1,4 @@
-use Rattle.gx_model.proofs.Standing.{name_there, some_there}
+use Rattle.gx_model.proofs.Records.Standing.{name_there, some_there}
 use Rattle.gx_store.specs.Stores.{shown_record}
 use Rattle.gx_rev.proofs.reached.name_at.Goals as goal
 

@@ -1,7 +1,7 @@
 use Rattle.std.proofs.Common.{◌≡◌, ◌∙◌, ap, Some, None}
 use Rattle.std.specs.List.{slice_get}
 use Rattle.gx_model.specs.Laws.RepositoryLaws.{values_of}
-use Rattle.gx_model.proofs.HeldPlaces.{held_place}
+use Rattle.gx_model.proofs.Records.HeldPlaces.{held_place}
 use Rattle.gx_rev.proofs.reached.place_of.Goals as goal
 
 pub unreachable-requires : goal.unreachable-requires

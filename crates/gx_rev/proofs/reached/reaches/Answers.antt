@@ -5,9 +5,9 @@ use Rattle.gx_model.specs.Laws.RepositoryLaws.{values_of}
 use Rattle.gx_model.specs.Histories.Values.{commit_value}
 use Rattle.gx_rev.specs.Objects.{commit_at}
 use Rattle.gx_model.specs.declared.objects.Kind.TheVariants as kinds
-use Rattle.gx_model.proofs.HeldValues.{commit_held, holds_held}
-use Rattle.gx_model.proofs.Marking.{mark_tells}
-use Rattle.gx_model.proofs.Standing.{commit_at_place}
+use Rattle.gx_model.proofs.Records.HeldValues.{commit_held, holds_held}
+use Rattle.gx_model.proofs.Revisions.Marking.{mark_tells}
+use Rattle.gx_model.proofs.Records.Standing.{commit_at_place}
 use Rattle.gx_rev.proofs.reached.reaches.Goals as goal
 
 pub reached-requires : goal.reached-requires

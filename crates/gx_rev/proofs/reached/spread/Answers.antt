@@ -1,6 +1,6 @@
 use Rattle.std.proofs.Common.{◌≡◌, ◌+◌, ◌-◌, subst, arith}
 use Rattle.gx_rev.specs.Objects.{commit_at}
-use Rattle.gx_model.proofs.Standing.{commit_at_place, commit_name_there}
+use Rattle.gx_model.proofs.Records.Standing.{commit_at_place, commit_name_there}
 use Rattle.gx_rev.proofs.Tips.{AreSpread, all_spread, none_spread, passed, spread_one}
 use Rattle.gx_rev.proofs.reached.spread.Goals as goal
 

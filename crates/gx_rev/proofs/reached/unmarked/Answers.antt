@@ -1,5 +1,5 @@
 use Rattle.std.proofs.Common.{◌≡◌, ◌∙◌, ap, length, replicate, false}
-use Rattle.gx_model.proofs.Standing.{as_many}
+use Rattle.gx_model.proofs.Records.Standing.{as_many}
 use Rattle.gx_rev.proofs.Tips.{no_tips}
 use Rattle.gx_rev.proofs.reached.unmarked.Goals as goal
 

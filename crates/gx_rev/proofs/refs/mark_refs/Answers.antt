@@ -3,8 +3,8 @@ use Rattle.std.proofs.lemmas.List.{append-nil}
 use Rattle.std.specs.List.{AllByRecursion}
 use Rattle.gx_model.specs.Export.{is_reached}
 use Rattle.gx_model.specs.Records.Sound.{IsTarget}
-use Rattle.gx_model.proofs.HeldValues.{peeled_to}
-use Rattle.gx_model.proofs.PeeledRefs.{not_unpeeled, target_peels, told}
+use Rattle.gx_model.proofs.Records.HeldValues.{peeled_to}
+use Rattle.gx_model.proofs.Records.PeeledRefs.{not_unpeeled, target_peels, told}
 use Rattle.gx_rev.specs.Objects.{commit_at}
 use Rattle.gx_rev.specs.Tips.{AreTips}
 use Rattle.gx_rev.proofs.RefTips.{next_ref, tip_is}

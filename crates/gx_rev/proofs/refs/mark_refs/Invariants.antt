@@ -3,7 +3,7 @@ use Rattle.std.specs.List.{AllByRecursion}
 use Rattle.gx_model.specs.Export.{is_reached}
 use Rattle.gx_model.specs.Records.Sound.{IsTarget}
 use Rattle.gx_model.specs.Texts.{Bytes}
-use Rattle.gx_model.proofs.PeeledRefs.{told}
+use Rattle.gx_model.proofs.Records.PeeledRefs.{told}
 use Rattle.gx_rev.specs.Tips.{AreTips}
 use Rattle.gx_rev.proofs.refs.mark_refs.Given as goal
 

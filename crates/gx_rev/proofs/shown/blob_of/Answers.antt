@@ -1,6 +1,6 @@
 use Rattle.std.proofs.Common.{◌∙◌}
 use Rattle.gx_rev.specs.Objects.{value_at}
-use Rattle.gx_model.proofs.HeldValues.{blob_body}
+use Rattle.gx_model.proofs.Records.HeldValues.{blob_body}
 use Rattle.gx_rev.proofs.shown.blob_of.Goals as goal
 
 pub body_of-requires : goal.body_of-requires

@@ -1,5 +1,5 @@
 use Rattle.std.proofs.Common.{sym}
-use Rattle.gx_model.proofs.HeldValues.{held_is}
+use Rattle.gx_model.proofs.Records.HeldValues.{held_is}
 use Rattle.gx_rev.proofs.shown.show.Goals as goal
 
 pub returns-in-None-clause-named : goal.returns-in-None-clause-named

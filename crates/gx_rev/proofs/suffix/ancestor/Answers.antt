@@ -1,5 +1,5 @@
 use Rattle.std.proofs.Common.{ap, sym, Ok}
-use Rattle.gx_model.proofs.HeldValues.{commit_stands}
+use Rattle.gx_model.proofs.Records.HeldValues.{commit_stands}
 use Rattle.gx_rev.proofs.suffix.ancestor.Goals as goal
 
 pub returns-clause-value : goal.returns-clause-value

@@ -1,4 +1,4 @@
-use Rattle.gx_model.proofs.HeldValues.{commit_held, peeled_to, peeled_value, unpeeled_value}
+use Rattle.gx_model.proofs.Records.HeldValues.{commit_held, peeled_to, peeled_value, unpeeled_value}
 use Rattle.gx_rev.proofs.suffix.peeled.Goals as goal
 
 pub returns-in-Some-clause-value : goal.returns-in-Some-clause-value

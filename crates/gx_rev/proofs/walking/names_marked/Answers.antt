@@ -5,7 +5,7 @@ use Rattle.gx_model.specs.Laws.RepositoryLaws.{values_of}
 use Rattle.gx_object.specs.declared.name.Name.{Name}
 use Rattle.gx_rev.specs.Objects.{value_at}
 use Rattle.gx_rev.specs.Walking.{names_back}
-use Rattle.gx_model.proofs.HeldValues.{held_is}
+use Rattle.gx_model.proofs.Records.HeldValues.{held_is}
 use Rattle.gx_rev.proofs.WordMarks.{names_end, names_step, value_there}
 use Rattle.gx_rev.proofs.walking.names_marked.Goals as goal
 use Rattle.gx_rev.proofs.walking.names_marked.Goals.{else-included-left-via-then-included-left+else-not-excluded-left, else-included-left-via-else-included-left}

@@ -1,5 +1,5 @@
 use Rattle.std.proofs.Common.{arith}
-use Rattle.gx_model.proofs.NameDigits.{is_name_from}
+use Rattle.gx_model.proofs.ObjectTexts.NameDigits.{is_name_from}
 use Rattle.gx_store.specs.Chains.{front}
 use Rattle.gx_store.proofs.fronts.front.Goals as goal
 

@@ -1,5 +1,5 @@
 use Rattle.std.proofs.Common.{rules}
-use Rattle.gx_model.proofs.Quotes.{field_printed}
+use Rattle.gx_model.proofs.Texts.Quotes.{field_printed}
 use Rattle.gx_text.proofs.Printing.{are_bytes}
 use Rattle.gx_text.proofs.printed.put_printed.Goals as goal
 

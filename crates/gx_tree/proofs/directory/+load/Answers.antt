@@ -5,7 +5,7 @@ use Rattle.gx_tree.proofs.Homes.{all_joined, files_same, named_at_home}
 use Rattle.std.proofs.Common.{rules, ◌≡◌, ◌*◌, ◌<◌, map, sym, ap, ◌∙◌, subst, arith}
 use Rattle.std.proofs.lemmas.List.{map-append}
 use Rattle.std.proofs.lemmas.Result.{IfOk-weaker}
-use Rattle.gx_model.proofs.FileMapEdits.{parts_of}
+use Rattle.gx_model.proofs.Histories.FileMapEdits.{parts_of}
 use Rattle.gx_model.specs.declared.objects.Mode.TheVariants.{Dir}
 use Rattle.gx_object.specs.Entries.{shown}
 use Rattle.gx_model.specs.Histories.Files.{FileMap}

@@ -1,5 +1,5 @@
 use Rattle.std.proofs.Common.{arith}
-use Rattle.gx_model.proofs.NameDigits.{is_name_from}
+use Rattle.gx_model.proofs.ObjectTexts.NameDigits.{is_name_from}
 use Rattle.gx_tree.proofs.path_tree.is_name.Goals as goal
 
 pub returns : goal.returns

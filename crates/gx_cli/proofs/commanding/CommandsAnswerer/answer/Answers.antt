@@ -1,5 +1,5 @@
 use Rattle.std.proofs.Common.{Ok}
-use Rattle.gx_model.proofs.SentTexts.{took_nothing}
+use Rattle.gx_model.proofs.Texts.SentTexts.{took_nothing}
 use Rattle.gx_cli.proofs.CommandAnswers.{asked_answered}
 use Rattle.gx_cli.proofs.commanding.CommandsAnswerer.answer.Goals as goal
 

@@ -3,7 +3,7 @@ use Rattle.std.proofs.lemmas.Result.{err_from_is_err_and}
 use Rattle.gx_rev.specs.Objects.{commit_at}
 use Rattle.gx_cli.specs.Logs.{entry_of}
 use Rattle.gx_cli.specs.Sending.{PrintsText}
-use Rattle.gx_model.proofs.SentTexts.{all_left, less_left}
+use Rattle.gx_model.proofs.Texts.SentTexts.{all_left, less_left}
 use Rattle.gx_cli.proofs.Pieces.{sent_prints}
 use Rattle.gx_cli.proofs.SentLines.{cut_short, last_sent}
 use Rattle.gx_cli.proofs.log.formats.print_commit.Goals as goal

@@ -5,7 +5,7 @@ use Rattle.gx_rev.specs.Objects.{commit_at}
 use Rattle.gx_model.specs.Texts.Sinks.{Took}
 use Rattle.gx_cli.specs.Logs.{entry_of, next_entry}
 use Rattle.gx_cli.specs.Sending.{PrintsText}
-use Rattle.gx_model.proofs.SentTexts.{IsLeft, less_left}
+use Rattle.gx_model.proofs.Texts.SentTexts.{IsLeft, less_left}
 use Rattle.gx_cli.proofs.SentLines.{cut_short, lines_at}
 use Rattle.gx_cli.proofs.log.formats.print_others.Goals as goal
 

@@ -2,7 +2,7 @@ use Rattle.std.proofs.Common.{◌≡◌, ◌++◌, ◌∷◌, ◌∙◌, OnOk, c
 use Rattle.gx_model.specs.declared.objects.Kind.TheVariants as kinds
 use Rattle.gx_model.specs.Objects.{hex}
 use Rattle.gx_model.specs.Records.{parts_of_commit}
-use Rattle.gx_model.proofs.HeldValues.{commit_text_held, kind_held}
+use Rattle.gx_model.proofs.Records.HeldValues.{commit_text_held, kind_held}
 use Rattle.gx_rev.specs.Objects.{commit_at}
 use Rattle.gx_cli.specs.Identities.{name_and_email}
 use Rattle.gx_cli.specs.Logs.{both_dates, head_text, named, told}

@@ -3,7 +3,7 @@ use Rattle.gx_model.specs.Histories.{Record, Records, record_for, with_one}
 use Rattle.gx_model.specs.Records.HistoryOf.{named_values, value_in}
 use Rattle.gx_model.specs.Laws.RepositoryLaws.{values_of}
 use Rattle.gx_model.specs.Records.Sound.{Holds, IsSound, Keeps}
-use Rattle.gx_model.proofs.Puts.{front_put}
+use Rattle.gx_model.proofs.Records.Puts.{front_put}
 use Rattle.gx_repo.specs.Additions.{Adds, HasValues}
 use Rattle.gx_repo.specs.GivenBytes.{bytes_given}
 use Rattle.gx_repo.specs.Refs.{shown_ref}

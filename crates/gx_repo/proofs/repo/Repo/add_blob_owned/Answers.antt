@@ -4,7 +4,7 @@ use Rattle.gx_model.specs.Histories.{Records, record_for, with_one}
 use Rattle.gx_model.specs.Histories.Values.{blob_value}
 use Rattle.gx_model.specs.Laws.RepositoryLaws.{values_of}
 use Rattle.gx_model.specs.Records.Sound.{HasShortPaths, Holds, IsSound, Keeps}
-use Rattle.gx_model.proofs.Puts.{front_put}
+use Rattle.gx_model.proofs.Records.Puts.{front_put}
 use Rattle.gx_model.specs.Records.{name_of}
 use Rattle.gx_repo.specs.Additions.{Adds, HasValues}
 use Rattle.gx_repo.specs.Refs.{shown_ref}

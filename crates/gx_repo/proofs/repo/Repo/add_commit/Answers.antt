@@ -7,7 +7,7 @@ use Rattle.gx_model.specs.Objects.{IsCommitText}
 use Rattle.gx_model.specs.Records.{name_of}
 use Rattle.gx_model.specs.Laws.RepositoryLaws.{values_of}
 use Rattle.gx_model.specs.Histories.Values.{commit_value}
-use Rattle.gx_model.proofs.BodiesReadBack.{commit_read}
+use Rattle.gx_model.proofs.ObjectTexts.BodiesReadBack.{commit_read}
 use Rattle.gx_object.specs.Parts.{commit_parts}
 use Rattle.gx_repo.specs.Additions.{Adds, HasValues}
 use Rattle.gx_repo.proofs.repo.Repo.add_commit.Goals as goal

@@ -7,7 +7,7 @@ use Rattle.gx_model.specs.Objects.{IsTagText}
 use Rattle.gx_model.specs.Records.{name_of}
 use Rattle.gx_model.specs.Laws.RepositoryLaws.{values_of}
 use Rattle.gx_model.specs.Histories.Values.{tag_value}
-use Rattle.gx_model.proofs.BodiesReadBack.{tag_read}
+use Rattle.gx_model.proofs.ObjectTexts.BodiesReadBack.{tag_read}
 use Rattle.gx_object.specs.Parts.{tag_parts}
 use Rattle.gx_repo.specs.Additions.{Adds, HasValues}
 use Rattle.gx_repo.proofs.repo.Repo.add_tag.Goals as goal

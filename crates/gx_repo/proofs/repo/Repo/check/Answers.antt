@@ -4,8 +4,8 @@ use Rattle.gx_model.specs.declared.faults.Fault.TheVariants.{WrongKind}
 use Rattle.gx_model.specs.Histories.{Records}
 use Rattle.gx_model.specs.Records.Publishing.{change_fault}
 use Rattle.gx_repo.specs.Refs.{shown_update, shown_ref}
-use Rattle.gx_model.proofs.HeldObjects.{IsShown, is_shown, tag_shown}
-use Rattle.gx_model.proofs.ChangedRefs.{fault_shown}
+use Rattle.gx_model.proofs.Records.HeldObjects.{IsShown, is_shown, tag_shown}
+use Rattle.gx_model.proofs.Records.ChangedRefs.{fault_shown}
 use Rattle.gx_repo.proofs.repo.Repo.check.Goals as goal
 
 pub returns-then-is_target-clause-ok : goal.returns-then-is_target-clause-ok

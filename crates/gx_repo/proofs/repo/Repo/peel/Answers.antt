@@ -3,7 +3,7 @@ use Rattle.std.specs.Option.{option_map}
 use Rattle.gx_model.specs.Histories.{Records}
 use Rattle.gx_model.specs.Records.Lookups.{commit_named}
 use Rattle.gx_repo.specs.Refs.{shown_ref}
-use Rattle.gx_model.proofs.HeldObjects.{IsShown, commit_peeled, is_shown, tag_peeled}
+use Rattle.gx_model.proofs.Records.HeldObjects.{IsShown, commit_peeled, is_shown, tag_peeled}
 use Rattle.gx_repo.proofs.repo.Repo.peel.Goals as goal
 
 pub returns-in-Commit-clause-commit : goal.returns-in-Commit-clause-commit

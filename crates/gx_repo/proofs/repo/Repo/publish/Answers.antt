@@ -4,7 +4,7 @@ use Rattle.gx_model.specs.Records.Publishing.{with_changes}
 use Rattle.gx_model.specs.Records.Sound.{IsSound}
 use Rattle.gx_repo.specs.Refs.{shown_update, shown_ref}
 use Rattle.gx_repo.specs.Repositories.{held_in}
-use Rattle.gx_model.proofs.ChangedRefs.{published_is_sound}
+use Rattle.gx_model.proofs.Records.ChangedRefs.{published_is_sound}
 use Rattle.gx_repo.proofs.PublishedRefs.{if_refused, not_refused}
 use Rattle.gx_repo.proofs.repo.Repo.publish.Goals as goal
 

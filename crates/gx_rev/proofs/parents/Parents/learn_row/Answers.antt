@@ -1,5 +1,5 @@
 use Rattle.std.proofs.Common.{arith}
-use Rattle.gx_model.proofs.Standing.{commit_at_place, commit_name_there}
+use Rattle.gx_model.proofs.Records.Standing.{commit_at_place, commit_name_there}
 use Rattle.gx_rev.specs.Objects.{commit_at}
 use Rattle.gx_rev.specs.declared.parents.Row.{Row}
 use Rattle.gx_rev.proofs.ParentPlaces.{known_there, learned, rows_stay}

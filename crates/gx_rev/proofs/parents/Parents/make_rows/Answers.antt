@@ -1,7 +1,7 @@
 use Rattle.std.proofs.Common.{◌≡◌, ◌∙◌, ap, arith, length}
 use Rattle.gx_model.specs.Laws.RepositoryLaws.{values_of}
 use Rattle.gx_model.specs.Histories.Values.{commit_value}
-use Rattle.gx_model.proofs.Standing.{as_many, at_within}
+use Rattle.gx_model.proofs.Records.Standing.{as_many, at_within}
 use Rattle.std.proofs.lemmas.List.{length-replicate}
 use Rattle.gx_rev.specs.Parents.{no_row}
 use Rattle.gx_rev.proofs.ParentPlaces.{nothing_known}

@@ -10,8 +10,8 @@ use Rattle.gx_store.specs.declared.fault.StoreFault.{StoreFault}
 use Rattle.gx_store.specs.declared.fault.StoreFault.TheVariants.{OutOfMemory, NameHeld}
 use Rattle.gx_tree.specs.Faults.{fault_of}
 use Rattle.gx_tree.specs.Named.{NamedTree, IsAtHome}
-use Rattle.gx_model.proofs.NamedMaps.{named_after, named_kept}
-use Rattle.gx_model.proofs.Puts.{front_put}
+use Rattle.gx_model.proofs.ObjectTexts.NamedMaps.{named_after, named_kept}
+use Rattle.gx_model.proofs.Records.Puts.{front_put}
 use Rattle.gx_repo.specs.Additions.{Adds}
 use Rattle.gx_rev_examples.proofs.repositories.calls.add_file.Goals as goal
 

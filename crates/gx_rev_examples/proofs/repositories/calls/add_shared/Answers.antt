@@ -1,6 +1,6 @@
 use Rattle.std.proofs.Common.{sym, subst}
 use Rattle.gx_model.specs.Records.Sound.{IsNamedMap}
-use Rattle.gx_model.proofs.NamedMaps.{named_kept}
+use Rattle.gx_model.proofs.ObjectTexts.NamedMaps.{named_kept}
 use Rattle.gx_rev_examples.proofs.repositories.calls.add_shared.Goals as goal
 
 pub add_tree_shared-requires-clause-home : goal.add_tree_shared-requires-clause-home

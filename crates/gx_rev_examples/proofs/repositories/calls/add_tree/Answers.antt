@@ -1,6 +1,6 @@
 use Rattle.std.proofs.Common.{sym, subst}
 use Rattle.gx_model.specs.Records.Sound.{IsNamedMap}
-use Rattle.gx_model.proofs.NamedMaps.{named_kept}
+use Rattle.gx_model.proofs.ObjectTexts.NamedMaps.{named_kept}
 use Rattle.gx_rev_examples.proofs.repositories.calls.add_tree.Goals as goal
 
 pub returns-clause-named : goal.returns-clause-named

@@ -1,6 +1,6 @@
 use Rattle.std.proofs.Common.{rules, ◌≡◌, subst}
 use Rattle.gx_model.specs.Records.Sound.{Holds}
-use Rattle.gx_model.proofs.HeldObjects.{held_shown, is_shown}
+use Rattle.gx_model.proofs.Records.HeldObjects.{held_shown, is_shown}
 use Rattle.gx_rev_examples.proofs.repositories.calls.is_held.Goals as goal
 
 pub returns : goal.returns

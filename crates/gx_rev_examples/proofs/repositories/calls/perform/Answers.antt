@@ -1,4 +1,4 @@
-use Rattle.gx_model.proofs.NamedMaps.{named_kept}
+use Rattle.gx_model.proofs.ObjectTexts.NamedMaps.{named_kept}
 use Rattle.gx_rev_examples.proofs.repositories.calls.perform.Goals as goal
 
 pub returns-in_default : goal.returns-in_default

@@ -3,7 +3,7 @@ use Rattle.std.proofs.lemmas.Result.{on_err_weaker}
 use Rattle.gx_model.specs.declared.objects.Mode.TheVariants.{File}
 use Rattle.gx_tree.specs.Faults.{fault_of}
 use Rattle.gx_tree.specs.Named.{NamedTree}
-use Rattle.gx_model.proofs.NamedMaps.{named_after, named_kept}
+use Rattle.gx_model.proofs.ObjectTexts.NamedMaps.{named_after, named_kept}
 use Rattle.gx_rev_examples.proofs.repositories.trees.add_file_to_both.Goals as goal
 
 pub returns-in_default-added-clause-second : goal.returns-in_default-added-clause-second

@@ -1,7 +1,7 @@
 use Rattle.std.proofs.Common.{◌≡◌, map, Some, None, sym, ap, subst, ◌∙◌, refl, option_map, true≢false}
 use Rattle.gx_model.specs.Histories.{Record}
 use Rattle.gx_model.specs.Records.Growth.{put, record_named}
-use Rattle.gx_model.proofs.GrownRecords.{put_held}
+use Rattle.gx_model.proofs.Records.GrownRecords.{put_held}
 use Rattle.gx_store.specs.Objects.{shown_stored}
 use Rattle.gx_store.proofs.Keys.{found, under}
 use Rattle.gx_store.proofs.Putting.{put_other}

@@ -1,6 +1,6 @@
 use Rattle.std.proofs.Common.{Ok, sym, ap, ◌∙◌}
 use Rattle.gx_model.specs.Texts.Paths.{path_of, path_text}
-use Rattle.gx_model.proofs.PathTexts.{text_of_parts}
+use Rattle.gx_model.proofs.Texts.PathTexts.{text_of_parts}
 use Rattle.gx_text.proofs.path.TreePath.joined.Goals as goal
 
 pub returns-clause-text : goal.returns-clause-text

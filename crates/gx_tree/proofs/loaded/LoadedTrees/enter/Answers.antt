@@ -4,7 +4,7 @@ use Rattle.std.specs.Ordering.{is_eq}
 use Rattle.std.specs.declared.cmp.Ordering.TheVariants.{Less, Equal, Greater}
 use Rattle.gx_model.specs.Texts.{Bytes}
 use Rattle.gx_model.specs.Replay.{byte_cmp}
-use Rattle.gx_model.proofs.SortedRefs.{same_text}
+use Rattle.gx_model.proofs.Records.SortedRefs.{same_text}
 use Rattle.gx_tree.specs.Named.{NamedTree}
 use Rattle.gx_tree.specs.Loaded.{IsLoaded}
 use Rattle.gx_tree.proofs.loaded.LoadedTrees.enter.Goals as goal

@@ -1,0 +1,3 @@
+-- What the text of a stream gives comes back, and is shown.
+pub mod ComingBack
+pub mod ShownImports

@@ -1,0 +1,4 @@
+-- The records that refs reach, and their history.
+pub mod ReachableObjects
+pub mod PrunedHistories
+pub mod PrunedAnswers

@@ -1,0 +1,23 @@
+-- Records: the history that they stand for, what is added to them and found in them.
+pub mod OneHistory
+pub mod LinkedValues
+pub mod HistoriesExist
+pub mod HistoriesAreSound
+pub mod GrownRecords
+pub mod GrownTrees
+pub mod TreeWalks
+pub mod HeldNames
+pub mod FirstRecords
+pub mod FoundRecords
+pub mod ShortPaths
+pub mod TakenRecords
+pub mod Puts
+pub mod SortedRefs
+pub mod HeldObjects
+pub mod HeldPlaces
+pub mod HeldValues
+pub mod Standing
+pub mod HeldTrees
+pub mod PeeledRefs
+pub mod FilesByName
+pub mod ChangedRefs

@@ -1,0 +1,522 @@
+-- What each step of a replay makes of a state whose history is proper.
+use Rattle.std.proofs.Common.{◌≡◌, ℕ, suc, ◌+◌, Bool, true, false, cond, List, [], ◌∷◌, map, Option, None, Some, Result, Ok, Err, refl, sym, ap, subst, arith}
+use Rattle.std.specs.Prelude.{IfOk, IfSome, IsTrue, T, ◌&&◌, ◌==◌, nat_eq, length}
+use Rattle.std.specs.Bool.{passes}
+use Rattle.std.proofs.lemmas.Grind.{common_steps}
+use Rattle.std.proofs.lemmas.Bool.Decides.{nat_tests}
+use Rattle.std.specs.List.{AllByRecursion, cons_option, fold, list_all}
+use Rattle.std.specs.Map.{lookup}
+use Rattle.std.specs.FinMap.Entries.{by_order, is_sorted, is_sorted-put, put}
+use Rattle.std.specs.declared.cmp.Ordering.TheVariants.{Less, Equal, Greater}
+use Rattle.gx_model.specs.declared.faults.Fault.{Fault}
+use Rattle.gx_model.specs.declared.faults.Fault.TheVariants as fault
+use Rattle.gx_model.specs.declared.features.Feature.TheVariants as features
+use Rattle.gx_model.specs.declared.objects.Kind.{Kind}
+use Rattle.gx_model.specs.declared.objects.Mode.{Mode}
+use Rattle.gx_model.specs.declared.objects.Mode.TheVariants.{File, Exec, Link, Gitlink, Dir}
+use Rattle.gx_model.specs.Texts.{Bytes}
+use Rattle.gx_model.specs.Texts.RefNames.{is_ref_name, tag_ref}
+use Rattle.gx_model.specs.Texts.Idents.{is_ident}
+use Rattle.gx_model.specs.Faults.{and_then}
+use Rattle.gx_model.specs.Texts.Paths.{Path, is_component, is_short}
+use Rattle.gx_model.specs.Histories.Files.{FileMap, Leaf, is_file_map}
+use Rattle.gx_model.specs.Histories.Edits.{copied, modified, renamed}
+use Rattle.gx_model.specs.Histories.Values.{Commit, Tag, Value, blob_of, blob_value, blobs_of, commit, commit_value, commits_of, files_of, is_content, is_hex_digit, is_leaf, is_name_text, is_optional_ident, is_proper, is_proper_text, list_of, parents_of, sub_maps, tag_value, tree_value}
+use Rattle.gx_model.specs.Histories.{History, IsHistory, IsIn, IsRefOf, IsWhole, Target, at_commit, at_tag, value_at, with_value}
+use Rattle.gx_model.specs.Laws.HistoryLaws.{needs}
+use Rattle.gx_model.specs.Revisions.Denotation.{base_value, lower}
+use Rattle.gx_model.specs.Streams.Items.{items_of}
+use Rattle.gx_model.specs.Streams.Commands as command
+use Rattle.gx_model.specs.Streams.Commands.{Asks, Blob, Change, Checkpoint, Clear, Command, CommitIsh, CommitParts, Copy, DataRef, Done, Inline, Mark, Modify, Object, OptionLine, Progress, Remove, Rename, Reset, TagParts}
+use Rattle.gx_model.specs.Streams.Grammar.{commands_of, is_name}
+use Rattle.gx_model.specs.Streams.Grammar.{is_hex_digit as is_any_digit}
+use Rattle.gx_model.specs.Laws.ExportLaws.{nothing}
+use Rattle.gx_model.specs.Replay.ProperReplays.{IsContent, IsProperChange, IsProperCommand, IsProperCommit, IsProperTag, IsWholePath, RefusalsKeepHistories, ReplaysGiveHistories, TextsGiveHistories}
+use Rattle.gx_model.specs.Replay.{Outcome, State, added, all_changed, all_committed, at, blob_bytes, byte_cmp, changed, checkpointed, commit_alone, committed, committed_for, content, ended, final, final_refs, finished, first_parent, is_fast_forward, marked, ok_or_mark, on_branch, or_else, refused, replayed, report, start, starting_files, step, step_checkpoint, step_commit, step_reset, step_tag, text_made, with_branch, with_first_parent}
+use Rattle.gx_model.proofs.Texts.PathTests.{both, first, is_true, second}
+use Rattle.gx_model.proofs.Histories.FileMapEdits.{Parts, copied_parts, modified_parts, of_parts, parts_of, removed_parts, renamed_parts}
+use Rattle.gx_model.proofs.ObjectTexts.OneTree.{all_left, all_unmap}
+use Rattle.gx_model.proofs.Histories.AddedValues.{all_join, keeps, value_added}
+use Rattle.gx_model.proofs.Records.LinkedValues.{parts_in, proper_in}
+use Rattle.gx_model.proofs.Export.KeptCommits.{each_in}
+use Rattle.gx_model.proofs.Records.SortedRefs.{order, same_text}
+use Rattle.gx_model.proofs.Replay.NullGitlinks.{all_pass, copied_leaves, found, modified_leaves, renamed_leaves, then_if}
+use Rattle.gx_model.proofs.Replay.GivenCommits.{IsStateOf, MayBeOf, OfCommit, all_committed_kept, all_each, alone_kept, base_kept, committed_kept, first_kept, for_branch, with_first_kept}
+use Rattle.gx_model.proofs.Streams.ReadCommands.{all_proper}
+
+-- ---- lists
+
+-- an entry put among others under its name
+put_each : {X : Type 0} (P : Bytes × X → Type 0) (n : Bytes) (x : X) (es : List (Bytes × X)) → P (n, x) → AllByRecursion P es → AllByRecursion P (put byte_cmp n x es)
+put_each P n x [] is h = (is, tt)
+put_each P n x (e ∷ es) is h =
+    elim (byte_cmp n e.0) as (λ o. byte_cmp n e.0 ≡ o → AllByRecursion P (by_order o ((n, x) ∷ e ∷ es) ((e.0, x) ∷ es) (e ∷ put byte_cmp n x es))) [
+      | Less ↦ λ q. (is, h)
+      | Equal ↦ λ q. (subst (λ m. P (m, x)) (same_text n e.0 q) is, h.1)
+      | Greater ↦ λ q. (h.0, put_each P n x es is h.1)
+    ] refl
+
+-- what holds of both
+both_ok : {A E : Type 0} (P Q : A → Type 0) (r : Result A E) → IfOk r P → IfOk r Q → IfOk r (λ x. P x × Q x)
+both_ok P Q (Ok x) h k = (h, k)
+both_ok P Q (Err e) h k = tt
+
+-- ---- values
+
+-- what stands among these stands among those
+abbrev Grows : List Value → List Value → Type 0
+Grows vs ws = (u : Value) → IsIn vs u → IsIn ws u
+
+abbrev IsHeld : List Value → Commit → Type 0
+IsHeld vs c = IsIn vs (commit_value c)
+
+-- a commit's parents are held with it
+elders : (vs : List Value) → IsWhole vs → (c : Commit) → IsHeld vs c → AllByRecursion (IsHeld vs) (list_of (parents_of c))
+elders vs whole c i = all_unmap (IsIn vs) commit_value (list_of (parents_of c)) (parts_in vs (commit_value c) whole i).1
+
+-- the commit of a held value is held
+of_held : (vs : List Value) → IsWhole vs → (v : Value) → IsIn vs v → OfCommit (IsHeld vs) v
+of_held vs whole (blob_value x) i = tt
+of_held vs whole (tree_value f) i = tt
+of_held vs whole (commit_value c) i = i
+of_held vs whole (tag_value t) i = (parts_in vs (tag_value t) whole i).0
+
+whole_of : (h : History) → IsHistory h → IsWhole h.values
+whole_of h is = record { closed = is.closed; proper = is.proper }
+
+-- ---- files
+
+-- a file whose bytes are held, or a gitlink with the digits of a name
+abbrev IsKept : List Value → Leaf Bytes → Type 0
+IsKept vs leaf = T (is_leaf leaf.0 leaf.1) × IfSome (blob_of leaf.0 leaf.1) (IsIn vs)
+
+-- a file map of such files
+record AreFiles (vs : List Value) (f : FileMap Bytes) : Type 0 where
+  pub parts : Parts f
+  pub leaves : AllByRecursion (λ file. IsKept vs file.1) f
+
+grown : (vs ws : List Value) → Grows vs ws → (f : FileMap Bytes) → AreFiles vs f → AreFiles ws f
+grown vs ws g f h = record { parts = h.parts; leaves = all_each (λ file. IsKept vs file.1) (λ file. IsKept ws file.1) (λ file k. (k.0, by (blob_of file.1.0 file.1.1) k.1)) f h.leaves }
+  where
+    by : (o : Option Value) → IfSome o (IsIn vs) → IfSome o (IsIn ws)
+    by None k = tt
+    by (Some v) k = g v k
+
+-- the leaves of a held file map
+leaves_kept : (vs : List Value) (f : FileMap Bytes) → T (list_all (λ entry. is_leaf entry.1.0 entry.1.1) f) → AllByRecursion (IsIn vs) (blobs_of f) → AllByRecursion (λ file. IsKept vs file.1) f
+leaves_kept vs [] t h = tt
+leaves_kept vs (e ∷ es) t h =
+    let both = by (blob_of e.1.0 e.1.1) h in
+    ((first (is_leaf e.1.0 e.1.1) _ t, both.0), leaves_kept vs es (second (is_leaf e.1.0 e.1.1) _ t) both.1)
+  where
+    by : (o : Option Value) → AllByRecursion (IsIn vs) (cons_option o (blobs_of es)) → IfSome o (IsIn vs) × AllByRecursion (IsIn vs) (blobs_of es)
+    by None k = (tt, k)
+    by (Some v) k = k
+
+blobs_kept : (vs : List Value) (f : FileMap Bytes) → AllByRecursion (λ file. IsKept vs file.1) f → AllByRecursion (IsIn vs) (blobs_of f)
+blobs_kept vs [] h = tt
+blobs_kept vs (e ∷ es) h = by (blob_of e.1.0 e.1.1) h.0.1 (blobs_kept vs es h.1)
+  where
+    by : (o : Option Value) → IfSome o (IsIn vs) → AllByRecursion (IsIn vs) (blobs_of es) → AllByRecursion (IsIn vs) (cons_option o (blobs_of es))
+    by None k l = l
+    by (Some v) k l = (k, l)
+
+all_leaves : (vs : List Value) (f : FileMap Bytes) → AllByRecursion (λ file. IsKept vs file.1) f → T (list_all (λ entry. is_leaf entry.1.0 entry.1.1) f)
+all_leaves vs [] h = tt
+all_leaves vs (e ∷ es) h = both (is_leaf e.1.0 e.1.1) _ h.0.0 (all_leaves vs es h.1)
+
+content_of : (vs : List Value) (f : FileMap Bytes) → AreFiles vs f → T (is_content f)
+content_of vs f h = both (is_file_map f) _ (passes _ (of_parts f h.parts)) (all_leaves vs f h.leaves)
+
+files_held : (vs : List Value) → IsWhole vs → (c : Commit) → IsHeld vs c → AreFiles vs (files_of c)
+files_held vs whole c i =
+    let f = files_of c in
+    let t : T (is_content f) = first (is_content f) _ (proper_in vs (commit_value c) (passes _ whole.proper) i) in
+    let tree = (parts_in vs (commit_value c) whole i).0 in
+    record {
+      parts = parts_of f (is_true _ (first (is_file_map f) _ t));
+      leaves = leaves_kept vs f (second (is_file_map f) _ t) (all_left (IsIn vs) (blobs_of f) (map tree_value (sub_maps f)) (parts_in vs (tree_value f) whole tree));
+    }
+
+-- a name's digits, in lower case
+digit_lowered : (d : ℕ) → is_any_digit d ≡ true → is_hex_digit (lower d) ≡ true
+digit_lowered d h = grind (arith, common_steps, nat_tests, h)
+
+digits_lowered : (x : Bytes) → T (list_all is_any_digit x) → T (list_all is_hex_digit (map lower x))
+digits_lowered [] h = tt
+digits_lowered (d ∷ x) h = both _ _ (passes _ (digit_lowered d (is_true _ (first (is_any_digit d) _ h)))) (digits_lowered x (second (is_any_digit d) _ h))
+
+length_lowered : (x : Bytes) → length (map lower x) ≡ length x
+length_lowered [] = refl
+length_lowered (d ∷ x) = ap suc (length_lowered x)
+
+name_lowered : (x : Bytes) → T (is_name x) → T (is_name_text (map lower x))
+name_lowered x h = both _ _ (subst (λ n. T (n == 40)) (sym (length_lowered x)) (second (list_all is_any_digit x) _ h)) (digits_lowered x (first (list_all is_any_digit x) _ h))
+
+-- ---- states
+
+-- a branch has a ref name, and stands at a commit that is held, or at none
+abbrev IsBranch : List Value → Bytes × Option Commit → Type 0
+IsBranch vs branch = T (is_ref_name branch.0) × IfSome branch.1 (IsHeld vs)
+
+-- a tag is held, and its own name makes its ref
+record IsMadeTag (vs : List Value) (made : Bytes × Tag) : Type 0 where
+  pub ref : T (is_ref_name made.0)
+  pub own : made.0 ≡ tag_ref made.1.name
+  pub held : IsIn vs (tag_value made.1)
+
+-- a state whose history is proper, and holds what its marks, branches and tags stand for
+record IsProperState (s : State) : Type 0 where
+  pub history : IsHistory s.history
+  pub kept : IsHistory s.kept.history
+  pub marks : AllByRecursion (λ mark. IsIn s.history.values mark.1) s.marks
+  pub branches : AllByRecursion (IsBranch s.history.values) s.branches
+  pub tags : AllByRecursion (IsMadeTag s.history.values) s.tags
+
+-- the commits that such a state stands for are held
+commits_held : (s : State) → IsProperState s → IsStateOf (IsHeld s.history.values) s
+commits_held s h =
+    let vs = s.history.values in
+    let whole = whole_of s.history h.history in
+    record {
+      values = each_in (OfCommit (IsHeld vs)) vs (of_held vs whole);
+      refs = all_each (λ ref. IsIn vs (value_at ref.1)) (λ ref. OfCommit (IsHeld vs) (value_at ref.1)) (λ ref i. of_held vs whole (value_at ref.1) i) s.history.refs h.history.held;
+      marks = all_each (λ mark. IsIn vs mark.1) (λ mark. OfCommit (IsHeld vs) mark.1) (λ mark i. of_held vs whole mark.1 i) s.marks h.marks;
+      branches = all_each (IsBranch vs) (λ branch. IfSome branch.1 (IsHeld vs)) (λ branch k. k.1) s.branches h.branches;
+    }
+
+start_proper : (h : History) → IsHistory h → IsProperState (start h)
+start_proper h is = record { history = is; kept = is; marks = tt; branches = tt; tags = tt }
+
+-- a value that is added to such a state
+record IsAddedTo (s : State) (v : Value) : Type 0 where
+  pub state : IsProperState (added v s)
+  pub grows : Grows s.history.values (with_value s.history.values v)
+  pub has : IsIn (with_value s.history.values v) v
+
+added_proper : (v : Value) (s : State) → IsProperState s → T (is_proper v) → AllByRecursion (IsIn s.history.values) (needs v) → IsAddedTo s v
+added_proper v s h t n =
+    let vs = s.history.values in
+    let ws = with_value vs v in
+    let a = value_added vs v (whole_of s.history h.history) t n in
+    let g : Grows vs ws = keeps vs v ws a in
+    record {
+      state = record {
+        history = record {
+          proper = a.whole.proper;
+          closed = a.whole.closed;
+          sorted = h.history.sorted;
+          ref_names = h.history.ref_names;
+          held = all_each (λ ref. IsIn vs (value_at ref.1)) (λ ref. IsIn ws (value_at ref.1)) (λ ref i. g (value_at ref.1) i) s.history.refs h.history.held;
+          own = h.history.own;
+        };
+        kept = h.kept;
+        marks = all_each (λ mark. IsIn vs mark.1) (λ mark. IsIn ws mark.1) (λ mark i. g mark.1 i) s.marks h.marks;
+        branches = all_each (IsBranch vs) (IsBranch ws) (λ branch k. (k.0, still vs ws g branch.1 k.1)) s.branches h.branches;
+        tags = all_each (IsMadeTag vs) (IsMadeTag ws) (λ made k. record { ref = k.ref; own = k.own; held = g (tag_value made.1) k.held }) s.tags h.tags;
+      };
+      grows = g;
+      has = a.has;
+    }
+  where
+    still : (vs ws : List Value) → Grows vs ws → (o : Option Commit) → IfSome o (IsHeld vs) → IfSome o (IsHeld ws)
+    still vs ws g None k = tt
+    still vs ws g (Some c) k = g (commit_value c) k
+
+marked_proper : (m : Option ℕ) (v : Value) (s : State) → IsProperState s → IsIn s.history.values v → IsProperState (marked m v s)
+marked_proper None v s h i = h
+marked_proper (Some n) v s h i = record { history = h.history; kept = h.kept; marks = (i, h.marks); branches = h.branches; tags = h.tags }
+
+-- to set a mark leaves the values
+marked_values : (m : Option ℕ) (v : Value) (s : State) → (marked m v s).history.values ≡ s.history.values
+marked_values None v s = refl
+marked_values (Some n) v s = refl
+
+on_branch_proper : (n : Bytes) (o : Option Commit) (s : State) → IsProperState s → T (is_ref_name n) → IfSome o (IsHeld s.history.values) → IsProperState (on_branch n o s)
+on_branch_proper n o s h is k = record { history = h.history; kept = h.kept; marks = h.marks; branches = put_each (IsBranch s.history.values) n o s.branches (is, k) h.branches; tags = h.tags }
+
+-- ---- checkpoints, and the end
+
+-- a ref has a ref name, and stands at a held commit or a held tag of its own
+record IsRef (vs : List Value) (ref : Bytes × Target) : Type 0 where
+  pub named : T (is_ref_name ref.0)
+  pub held : IsIn vs (value_at ref.1)
+  pub own : IsRefOf ref.0 ref.1
+
+record AreRefs (vs : List Value) (refs : List (Bytes × Target)) : Type 0 where
+  pub sorted : T (is_sorted byte_cmp refs)
+  pub each : AllByRecursion (IsRef vs) refs
+
+put_ref : (vs : List Value) (n : Bytes) (t : Target) (refs : List (Bytes × Target)) → AreRefs vs refs → IsRef vs (n, t) → AreRefs vs (put byte_cmp n t refs)
+put_ref vs n t refs h is = record { sorted = is_sorted-put byte_cmp order n t refs h.sorted; each = put_each (IsRef vs) n t refs is h.each }
+
+branches_put : (vs : List Value) (bs : List (Bytes × Option Commit)) (refs : List (Bytes × Target)) → AllByRecursion (IsBranch vs) bs → AreRefs vs refs → AreRefs vs (fold with_branch refs bs)
+branches_put vs [] refs k h = h
+branches_put vs (b ∷ bs) refs k h = branches_put vs bs (with_branch refs b) k.1 (by b.1 k.0.1)
+  where
+    by : (o : Option Commit) → IfSome o (IsHeld vs) → AreRefs vs (elim o [ None ↦ refs | Some c ↦ put byte_cmp b.0 (at_commit c) refs ])
+    by None i = h
+    by (Some c) i = put_ref vs b.0 (at_commit c) refs h (record { named = k.0.0; held = i; own = tt })
+
+abbrev with_tag : List (Bytes × Target) → Bytes × Tag → List (Bytes × Target)
+with_tag refs made = put byte_cmp made.0 (at_tag made.1) refs
+
+tags_put : (vs : List Value) (ts : List (Bytes × Tag)) (refs : List (Bytes × Target)) → AllByRecursion (IsMadeTag vs) ts → AreRefs vs refs → AreRefs vs (fold with_tag refs ts)
+tags_put vs [] refs k h = h
+tags_put vs (t ∷ ts) refs k h = tags_put vs ts (with_tag refs t) k.1 (put_ref vs t.0 (at_tag t.1) refs h (record { named = k.0.ref; held = k.0.held; own = k.0.own }))
+
+refs_of : (vs : List Value) (refs : List (Bytes × Target)) → T (list_all (λ ref. is_ref_name ref.0) refs) → AllByRecursion (λ ref. IsIn vs (value_at ref.1)) refs → AllByRecursion (λ ref. IsRefOf ref.0 ref.1) refs → AllByRecursion (IsRef vs) refs
+refs_of vs [] n h o = tt
+refs_of vs (r ∷ rs) n h o = (record { named = first (is_ref_name r.0) _ n; held = h.0; own = o.0 }, refs_of vs rs (second (is_ref_name r.0) _ n) h.1 o.1)
+
+names_of : (vs : List Value) (refs : List (Bytes × Target)) → AllByRecursion (IsRef vs) refs → T (list_all (λ ref. is_ref_name ref.0) refs)
+names_of vs [] h = tt
+names_of vs (r ∷ rs) h = both (is_ref_name r.0) _ h.0.named (names_of vs rs h.1)
+
+final_proper : (s : State) → IsProperState s → IsHistory (final s)
+final_proper s h =
+    let vs = s.history.values in
+    let is = h.history in
+    let old : AreRefs vs s.history.refs = record { sorted = passes _ is.sorted; each = refs_of vs s.history.refs (passes _ is.ref_names) is.held is.own } in
+    let new : AreRefs vs (final_refs s) = tags_put vs s.tags (fold with_branch s.history.refs s.branches) h.tags (branches_put vs s.branches s.history.refs h.branches old) in
+    record {
+      proper = is.proper;
+      closed = is.closed;
+      sorted = is_true _ new.sorted;
+      ref_names = is_true _ (names_of vs (final_refs s) new.each);
+      held = all_each (IsRef vs) (λ ref. IsIn vs (value_at ref.1)) (λ ref k. k.held) (final_refs s) new.each;
+      own = all_each (IsRef vs) (λ ref. IsRefOf ref.0 ref.1) (λ ref k. k.own) (final_refs s) new.each;
+    }
+
+-- what a checkpoint makes of such a state
+checkpointed_proper : (s : State) → IsProperState s → IsProperState (checkpointed s)
+checkpointed_proper s h = let is = final_proper s h in record { history = is; kept = is; marks = h.marks; branches = h.branches; tags = h.tags }
+
+checkpoint_step : (s : State) → IsProperState s → IfOk (step_checkpoint s) IsProperState
+checkpoint_step s h = by (is_fast_forward s)
+  where
+    by : (b : Bool) → IfOk (cond b (Ok (checkpointed s)) (Err fault.NotFastForward)) IsProperState
+    by true = checkpointed_proper s h
+    by false = tt
+
+-- ---- a commit's files
+
+-- a state that grew, with what was made of a part of it
+record Grew (s : State) (P : List Value → Type 0) (t : State) : Type 0 where
+  pub state : IsProperState t
+  pub grows : Grows s.history.values t.history.values
+  pub made : P t.history.values
+
+module _ (name : Kind → Bytes → Bytes) where
+  abbrev GivesContent : State → Mode → State × Bytes → Type 0
+  GivesContent s m r = Grew s (λ vs. IsKept vs (m, r.1)) r.0
+
+  abbrev GivesFiles : State → State × FileMap Bytes → Type 0
+  GivesFiles s r = Grew s (λ vs. AreFiles vs r.1) r.0
+
+  abbrev given_bytes : State → Bytes → Result (State × Bytes) Fault
+  given_bytes s x = Ok (s, x)
+
+  blob_given : (s : State) (m : Mode) → ((x : Bytes) → IsIn s.history.values (blob_value x) → IsKept s.history.values (m, x)) → IsProperState s
+      → (r : Result Value Fault) → IfOk r (IsIn s.history.values) → IfOk (and_then r (λ v. and_then (blob_bytes v) (given_bytes s))) (GivesContent s m)
+  blob_given s m plain h (Err e) k = tt
+  blob_given s m plain h (Ok (blob_value x)) k = record { state = h; grows = λ u i. i; made = plain x k }
+  blob_given s m plain h (Ok (tree_value f)) k = tt
+  blob_given s m plain h (Ok (commit_value c)) k = tt
+  blob_given s m plain h (Ok (tag_value t)) k = tt
+
+  at_held : (s : State) (n : ℕ) → IsProperState s → IfOk (at s n) (IsIn s.history.values)
+  at_held s n h = by (lookup (nat_eq n) s.marks) (found (IsIn s.history.values) (nat_eq n) s.marks h.marks)
+    where
+      by : (o : Option Value) → IfSome o (IsIn s.history.values) → IfOk (ok_or_mark o) (IsIn s.history.values)
+      by None k = tt
+      by (Some v) k = k
+
+  base_held : (s : State) (x : Bytes) → IsProperState s → IfOk (base_value name s.history x) (IsIn s.history.values)
+  base_held s x h = base_kept (IsIn s.history.values) name s.history (each_in (IsIn s.history.values) s.history.values (λ u i. i)) h.history.held x
+
+  inline_given : (s : State) (m : Mode) (x : Bytes) → ((vs : List Value) → IsIn vs (blob_value x) → IsKept vs (m, x)) → IsProperState s → GivesContent s m (added (blob_value x) s, x)
+  inline_given s m x plain h =
+      let a = added_proper (blob_value x) s h tt tt in
+      record { state = a.state; grows = a.grows; made = plain (with_value s.history.values (blob_value x)) a.has }
+
+  content_given : (s : State) (m : Mode) (d : DataRef) → IsProperState s → IsContent m d → IfOk (content name s m d) (GivesContent s m)
+  content_given s Gitlink (Object x) h k = record { state = h; grows = λ u i. i; made = (name_lowered x (passes _ k), tt) }
+  content_given s Gitlink (Mark n) h k = absurd k
+  content_given s Gitlink (Inline x) h k = absurd k
+  content_given s File (Object x) h k = blob_given s File (λ y i. (tt, i)) h (base_value name s.history x) (base_held s x h)
+  content_given s File (Mark n) h k = blob_given s File (λ y i. (tt, i)) h (at s n) (at_held s n h)
+  content_given s File (Inline x) h k = inline_given s File x (λ vs i. (tt, i)) h
+  content_given s Exec (Object x) h k = blob_given s Exec (λ y i. (tt, i)) h (base_value name s.history x) (base_held s x h)
+  content_given s Exec (Mark n) h k = blob_given s Exec (λ y i. (tt, i)) h (at s n) (at_held s n h)
+  content_given s Exec (Inline x) h k = inline_given s Exec x (λ vs i. (tt, i)) h
+  content_given s Link (Object x) h k = blob_given s Link (λ y i. (tt, i)) h (base_value name s.history x) (base_held s x h)
+  content_given s Link (Mark n) h k = blob_given s Link (λ y i. (tt, i)) h (at s n) (at_held s n h)
+  content_given s Link (Inline x) h k = inline_given s Link x (λ vs i. (tt, i)) h
+  content_given s Dir d h k = absurd k
+
+  abbrev with_files : State → FileMap Bytes → Result (State × FileMap Bytes) Fault
+  with_files s f = Ok (s, f)
+
+  edited : (s t : State) (r : Result (FileMap Bytes) Fault) → IsProperState t → Grows s.history.values t.history.values
+      → IfOk r Parts → IfOk r (AllByRecursion (λ file. IsKept t.history.values file.1)) → IfOk (and_then r (with_files t)) (GivesFiles s)
+  edited s t r h g k l =
+      then_if (λ f. Parts f × AllByRecursion (λ file. IsKept t.history.values file.1) f) (GivesFiles s) r (with_files t) (both_ok Parts (AllByRecursion (λ file. IsKept t.history.values file.1)) r k l)
+      (λ f m. record { state = h; grows = g; made = record { parts = m.0; leaves = m.1 } })
+
+  modified_files : (f : FileMap Bytes) (p : Path) (leaf : Leaf Bytes) → IsWholePath p → Parts f → IfOk (modified f p leaf) Parts
+  modified_files f [] leaf w h = tt
+  modified_files f (c ∷ p) leaf w h = modified_parts f (c ∷ p) leaf (passes _ w) h
+
+  components : (p : Path) → IsWholePath p → T (list_all is_component p)
+  components p w = first (list_all is_component p) (is_short p) (passes _ w)
+
+  changed_proper : (s : State) (f : FileMap Bytes) (c : Change) → IsProperState s → AreFiles s.history.values f → IsProperChange c → IfOk (changed name s f c) (GivesFiles s)
+  changed_proper s f (Modify m d p) h k l =
+      then_if (GivesContent s m) (GivesFiles s) (content name s m d) (λ r. and_then (modified f p (m, r.1)) (with_files r.0)) (content_given s m d h l.0)
+      (λ r given.
+      let files = grown s.history.values r.0.history.values given.grows f k in
+      edited s r.0 (modified f p (m, r.1)) given.state given.grows (modified_files f p (m, r.1) l.1 files.parts)
+      (modified_leaves (IsKept r.0.history.values) f p (m, r.1) given.made files.leaves))
+  changed_proper s f (Remove p) h k l = record { state = h; grows = λ u i. i; made = record { parts = removed_parts f p k.parts; leaves = all_pass (λ file. IsKept s.history.values file.1) _ f k.leaves } }
+  changed_proper s f (Copy p q) h k l = edited s s (copied f p q) h (λ u i. i) (copied_parts f p q (components q l) k.parts) (copied_leaves (IsKept s.history.values) f p q k.leaves)
+  changed_proper s f (Rename p q) h k l = edited s s (renamed f p q) h (λ u i. i) (renamed_parts f p q (components q l) k.parts) (renamed_leaves (IsKept s.history.values) f p q k.leaves)
+  changed_proper s f Clear h k l = record { state = h; grows = λ u i. i; made = no_files s.history.values }
+    where
+      no_files : (vs : List Value) → AreFiles vs []
+      no_files vs = record { parts = record { paths = tt; apart = tt; sorted = tt }; leaves = tt }
+
+  then_grew : (s t u : State) (f : FileMap Bytes) → Grows s.history.values t.history.values → GivesFiles t (u, f) → GivesFiles s (u, f)
+  then_grew s t u f g k = record { state = k.state; grows = λ v i. k.grows v (g v i); made = k.made }
+
+  all_changed_proper : (s : State) (f : FileMap Bytes) (cs : List Change) → IsProperState s → AreFiles s.history.values f → AllByRecursion IsProperChange cs → IfOk (all_changed name s f cs) (GivesFiles s)
+  all_changed_proper s f [] h k l = record { state = h; grows = λ u i. i; made = k }
+  all_changed_proper s f (c ∷ cs) h k l =
+      then_if (GivesFiles s) (GivesFiles s) (changed name s f c) (λ r. all_changed name r.0 r.1 cs) (changed_proper s f c h k l.0)
+      (λ r given. by r given (all_changed name r.0 r.1 cs) (all_changed_proper r.0 r.1 cs given.state given.made l.1))
+    where
+      by : (r : State × FileMap Bytes) → GivesFiles s r → (o : Result (State × FileMap Bytes) Fault) → IfOk o (GivesFiles r.0) → IfOk o (GivesFiles s)
+      by r given (Ok x) q = then_grew s r.0 x.0 x.1 given.grows q
+      by r given (Err e) q = tt
+
+  -- ---- commands
+
+  starting_held : (vs : List Value) → IsWhole vs → (o : Option Commit) → MayBeOf (IsHeld vs) o → AreFiles vs (starting_files o)
+  starting_held vs whole None h = record { parts = record { paths = tt; apart = tt; sorted = tt }; leaves = tt }
+  starting_held vs whole (Some c) h = files_held vs whole c h
+
+  parents_held : (vs ws : List Value) → Grows vs ws → (cs : List Commit) → AllByRecursion (IsHeld vs) cs → AllByRecursion (IsIn ws) (map commit_value (list_of (commits_of cs)))
+  parents_held vs ws g [] h = tt
+  parents_held vs ws g (c ∷ cs) h = (g (commit_value c) h.0, parents_held vs ws g cs h.1)
+
+  text_proper : (c : CommitParts) → IsProperCommit c → T (is_proper_text (text_made c))
+  text_proper c h = both (is_ident (or_else c.author c.committer) && is_ident c.committer) _ (both (is_ident (or_else c.author c.committer)) _ (by c.author h.author) (passes _ h.committer)) (passes _ h.encoding)
+    where
+      by : (o : Option Bytes) → IsTrue (is_optional_ident o) → T (is_ident (or_else o c.committer))
+      by None k = passes _ h.committer
+      by (Some x) k = passes _ k
+
+  commit_step : (s : State) (c : CommitParts) → IsProperState s → IsProperCommit c → IfOk (step_commit name s c) IsProperState
+  commit_step s c h k =
+      let vs = s.history.values in
+      let whole = whole_of s.history h.history in
+      let kept = commits_held s h in
+      let up = elders vs whole in
+      then_if (MayBeOf (IsHeld vs)) IsProperState (first_parent name s c) _ (first_kept (IsHeld vs) up name s c kept)
+      (λ o first. then_if (AllByRecursion (IsHeld vs)) IsProperState (all_committed name c.ref s c.merges) _ (all_committed_kept (IsHeld vs) up name c.ref s c.merges kept)
+      (λ cs others. then_if (GivesFiles s) IsProperState (all_changed name s (starting_files o) c.changes) _ (all_changed_proper s (starting_files o) c.changes h (starting_held vs whole o first) k.changes)
+      (λ r given. made r (with_first_parent o cs) given (with_first_kept (IsHeld vs) up name o cs first others))))
+    where
+      made : (r : State × FileMap Bytes) (ps : List Commit) → GivesFiles s r → AllByRecursion (IsHeld s.history.values) ps
+          → IsProperState (on_branch c.ref (Some (commit r.1 (commits_of ps) (text_made c))) (marked c.mark (commit_value (commit r.1 (commits_of ps) (text_made c))) (added (commit_value (commit r.1 (commits_of ps) (text_made c))) r.0)))
+      made r ps given held =
+          let new = commit r.1 (commits_of ps) (text_made c) in
+          let ws = r.0.history.values in
+          let a = added_proper (commit_value new) r.0 given.state (both (is_content r.1) _ (content_of ws r.1 given.made) (text_proper c k))
+          (all_join (IsIn ws) (blobs_of r.1) (map commit_value (list_of (commits_of ps))) (blobs_kept ws r.1 given.made.leaves) (parents_held s.history.values ws given.grows ps held)) in
+          on_branch_proper c.ref (Some new) (marked c.mark (commit_value new) (added (commit_value new) r.0))
+          (marked_proper c.mark (commit_value new) (added (commit_value new) r.0) a.state a.has) (passes _ k.ref)
+          (subst (λ us. IsIn us (commit_value new)) (sym (marked_values c.mark (commit_value new) (added (commit_value new) r.0))) a.has)
+
+  tag_step : (s : State) (t : TagParts) → IsProperState s → IsProperTag t → IfOk (step_tag name s t) IsProperState
+  tag_step s t h k =
+      let vs = s.history.values in
+      let whole = whole_of s.history h.history in
+      then_if (IsHeld vs) IsProperState (committed name commit_alone s t.target) _
+      (committed_kept (IsHeld vs) (elders vs whole) name commit_alone (alone_kept (IsHeld vs)) s t.target (commits_held s h)) made
+    where
+      made : (c : Commit) → IsHeld s.history.values c → IsProperState (let v : Tag = record { target = c; name = t.name; tagger = t.tagger; message = t.message } in let s' : State = marked t.mark (tag_value v) (added (tag_value v) s) in record s' { tags = put byte_cmp (tag_ref t.name) v s'.tags })
+      made c i =
+          let v : Tag = record { target = c; name = t.name; tagger = t.tagger; message = t.message } in
+          let a = added_proper (tag_value v) s h (both _ _ (passes _ k.name) (passes _ k.tagger)) (i, tt) in
+          let s' : State = marked t.mark (tag_value v) (added (tag_value v) s) in
+          let m = marked_proper t.mark (tag_value v) (added (tag_value v) s) a.state a.has in
+          let has = subst (λ us. IsIn us (tag_value v)) (sym (marked_values t.mark (tag_value v) (added (tag_value v) s))) a.has in
+          record {
+            history = m.history;
+            kept = m.kept;
+            marks = m.marks;
+            branches = m.branches;
+            tags = put_each (IsMadeTag s'.history.values) (tag_ref t.name) v s'.tags (record { ref = passes _ k.name; own = refl; held = has }) m.tags;
+          }
+
+  reset_step : (s : State) (b : Bytes) (o : Option CommitIsh) → IsProperState s → T (is_ref_name b) → IfOk (step_reset name s b o) IsProperState
+  reset_step s b None h is = on_branch_proper b None s h is tt
+  reset_step s b (Some x) h is =
+      let vs = s.history.values in
+      let whole = whole_of s.history h.history in
+      then_if (IsHeld vs) IsProperState (committed_for name b s x) _ (for_branch (IsHeld vs) (elders vs whole) name b s x (commits_held s h)) (λ c i. on_branch_proper b (Some c) s h is i)
+
+  step_proper : (s : State) (c : Command) → IsProperState s → IsProperCommand c → IfOk (step name s c) IsProperState
+  step_proper s (Blob b) h k = let a = added_proper (blob_value b.bytes) s h tt tt in marked_proper b.mark (blob_value b.bytes) (added (blob_value b.bytes) s) a.state a.has
+  step_proper s (command.Commit c) h k = commit_step s c h k
+  step_proper s (command.Tag t) h k = tag_step s t h k
+  step_proper s (Reset r) h k = reset_step s r.ref r.parent h (passes _ k)
+  step_proper s (Progress x) h k = record { history = h.history; kept = h.kept; marks = h.marks; branches = h.branches; tags = h.tags }
+  step_proper s (Asks features.Force) h k = record { history = h.history; kept = h.kept; marks = h.marks; branches = h.branches; tags = h.tags }
+  step_proper s (Asks features.Done) h k = h
+  step_proper s Checkpoint h k = checkpoint_step s h
+  step_proper s (Asks features.RawDates) h k = h
+  step_proper s (OptionLine t) h k = h
+  step_proper s Done h k = h
+
+-- ---- all commands
+
+-- the history that an outcome gives, or keeps
+abbrev IsOutcome : Outcome → Type 0
+IsOutcome (finished h x r) = IsHistory h
+IsOutcome (refused n f x kept) = IsHistory kept.history
+
+module _ (name : Kind → Bytes → Bytes) where
+  end_proper : (n : ℕ) (s : State) (end : Option Fault) → IsProperState s → IsOutcome (ended n s end)
+  end_proper n s (Some e) h = h.kept
+  end_proper n s None h = by (is_fast_forward s)
+    where
+      by : (b : Bool) → IsOutcome (cond b (finished (final s) s.progress (report n s)) (refused (n + 1) fault.NotFastForward s.progress s.kept))
+      by true = final_proper s h
+      by false = h.kept
+
+  replayed_proper : (n : ℕ) (s : State) (cs : List Command) (end : Option Fault) → IsProperState s → AllByRecursion IsProperCommand cs → IsOutcome (replayed name n s cs end)
+  replayed_proper n s [] end h all = end_proper n s end h
+  replayed_proper n s (c ∷ cs) end h all = by (step name s c) (step_proper name s c h all.0) (λ t proper. replayed_proper (n + 1) t cs end proper all.1)
+    where
+      by : (r : Result State Fault) → IfOk r IsProperState → ((t : State) → IsProperState t → IsOutcome (replayed name (n + 1) t cs end))
+          → IsOutcome (elim r as (λ _. Outcome) [ Ok t ↦ replayed name (n + 1) t cs end | Err e ↦ refused (n + 1) e s.progress s.kept ])
+      by (Ok t) proper rest = rest t proper
+      by (Err f) proper rest = h.kept
+
+-- ---- the laws
+
+pub nothing_is : IsHistory nothing
+nothing_is = record { proper = refl; closed = tt; sorted = refl; ref_names = refl; held = tt; own = tt }
+
+pub replays_give : ReplaysGiveHistories
+replays_give name h k commands end n text counts is all e = subst IsOutcome e (replayed_proper name n (start h) commands end (start_proper h is) all)
+
+pub refusals_keep : RefusalsKeepHistories
+refusals_keep name h commands end n number fault text kept is all e = subst IsOutcome e (replayed_proper name n (start h) commands end (start_proper h is) all)
+
+pub texts_give : TextsGiveHistories
+texts_give name h k given fails text counts is e =
+    let commands = commands_of (items_of given fails) in
+    replays_give name h k commands.list commands.fault 0 text counts is (all_proper (items_of given fails)) e

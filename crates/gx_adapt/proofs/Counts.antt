@@ -3,11 +3,11 @@ use Rattle.std.proofs.Common.{◌≡◌, ℕ, suc, ◌≤◌, Bool, true, false,
 use Rattle.std.specs.List.{flat_map, filter}
 use Rattle.std.proofs.lemmas.Grind.{flat_map-append}
 use Rattle.gx_model.specs.Streams.Items.{Item, Line, Data}
-use Rattle.gx_model.specs.Export.{item_text}
+use Rattle.gx_model.specs.Export.{item_text, items_text}
 use Rattle.gx_adapt.specs.Lines as lines
 use Rattle.gx_adapt.specs.Lines.{lines_for, lot_of, behind_line}
 use Rattle.gx_adapt.specs.Laws.{BlocksAreKept, OtherBlocksAreKept, blocks_of, other_blocks}
-use Rattle.gx_adapt.specs.Streams.{Placed, behind_of, placed_from, placed, lot_in, lot_at, items_in, items_at, adapted, stream_text, is_spaced, is_deletion, is_requoted, is_marks, is_asking, on_line, is_done, ends_with_done, how_many, report_of}
+use Rattle.gx_adapt.specs.Streams.{Placed, behind_of, placed_from, placed, lot_in, lot_at, items_in, items_at, adapted, is_spaced, is_deletion, is_requoted, is_marks, is_asking, on_line, is_done, ends_with_done, how_many, report_of}
 use Rattle.gx_adapt.specs.Adapting.{text_for, one_if, counted}
 use Rattle.gx_adapt.specs.Marks.{names_blob_or_tag}
 use Rattle.gx_adapt.proofs.Marked.{tags-push}
@@ -32,18 +32,18 @@ placed-append b (x ∷ xs) ys = ap (λ ps. record { behind = b; item = x } ∷ p
 
 -- what stands in the place of items behind others
 abbrev pub text_behind : Bool → Behind → List Item → List ℕ
-text_behind drops behind is = stream_text (flat_map (items_at drops) (placed_from behind is))
+text_behind drops behind is = items_text (flat_map (items_at drops) (placed_from behind is))
 
 text-append : (drops : Bool) (xs ys : List Item) → text_for drops (xs ++ ys) ≡ text_for drops xs ++ text_behind drops (after_of Other xs) ys
 text-append drops xs ys =
-    ap (λ ps. stream_text (flat_map (items_at drops) ps)) (placed-append Other xs ys)
-    ∙ ap stream_text (flat_map-append (items_at drops) (placed xs) (placed_from (after_of Other xs) ys))
+    ap (λ ps. items_text (flat_map (items_at drops) ps)) (placed-append Other xs ys)
+    ∙ ap items_text (flat_map-append (items_at drops) (placed xs) (placed_from (after_of Other xs) ys))
     ∙ flat_map-append item_text (adapted drops xs) (flat_map (items_at drops) (placed_from (after_of Other xs) ys))
 
-pub text-push : (drops : Bool) (xs : List Item) (i : Item) → text_for drops (xs ++ i ∷ []) ≡ text_for drops xs ++ stream_text (items_in drops (after_of Other xs) i)
-text-push drops xs i = text-append drops xs (i ∷ []) ∙ ap (λ is. text_for drops xs ++ stream_text is) (append-nil (items_in drops (after_of Other xs) i))
+pub text-push : (drops : Bool) (xs : List Item) (i : Item) → text_for drops (xs ++ i ∷ []) ≡ text_for drops xs ++ items_text (items_in drops (after_of Other xs) i)
+text-push drops xs i = text-append drops xs (i ∷ []) ∙ ap (λ is. text_for drops xs ++ items_text is) (append-nil (items_in drops (after_of Other xs) i))
 
-pub text-within : (drops : Bool) (xs : List Item) (i : Item) (ys : List Item) → text_for drops (xs ++ i ∷ ys) ≡ text_for drops xs ++ (stream_text (items_in drops (after_of Other xs) i) ++ text_behind drops (behind_of i) ys)
+pub text-within : (drops : Bool) (xs : List Item) (i : Item) (ys : List Item) → text_for drops (xs ++ i ∷ ys) ≡ text_for drops xs ++ (items_text (items_in drops (after_of Other xs) i) ++ text_behind drops (behind_of i) ys)
 text-within drops xs i ys = text-append drops xs (i ∷ ys) ∙ ap (λ t. text_for drops xs ++ t) (flat_map-append item_text (items_in drops (after_of Other xs) i) (flat_map (items_at drops) (placed_from (behind_of i) ys)))
 
 -- ---- counts

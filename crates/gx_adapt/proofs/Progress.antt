@@ -10,7 +10,8 @@ use Rattle.gx_stream.specs.Faults.{fault_of, ended}
 use Rattle.gx_stream.specs.Reading.{Reads, item_of}
 use Rattle.gx_adapt.specs.Lines as lines
 use Rattle.gx_adapt.specs.Lines.{items_for}
-use Rattle.gx_adapt.specs.Streams.{lot_in, lot_at, behind_of, items_in, stream_text, is_spaced, is_deletion, is_requoted, is_marks, is_asking, on_line, report_of}
+use Rattle.gx_adapt.specs.Streams.{lot_in, lot_at, behind_of, items_in, is_spaced, is_deletion, is_requoted, is_marks, is_asking, on_line, report_of}
+use Rattle.gx_model.specs.Export.{items_text}
 use Rattle.gx_adapt.specs.Adapting.{text_for, Adapts, AdaptsFrom, HasRoom, PutsIf, of_stream, counted, StandsBehind, names_held, Passes}
 use Rattle.gx_adapt.specs.Marks.{names_blob_or_tag}
 use Rattle.gx_adapt.specs.declared.lot.Behind.{Behind}
@@ -57,11 +58,11 @@ Goes-item (Some s) now new front item g r =
 
 pub Progress-item : {A : Type 0} (drops : Bool) (start now new : Option Stream) (behind next : Behind) (marks passed : Marks A) (was is out : Option Taken) (report new_report : Report) (most left : ℕ) (item : Item) (lot : lines.Lot) → next ≡ behind_of (item_of item) → Passes (item_of item) marks passed
     → lot ≡ lot_in drops behind (item_of item) → new_report ≡ counted lot (names_held marks (item_of item)) (item_of item) report → left < most
-    → Took is out (stream_text (items_for (item_of item) lot)) → Progress drops start now behind marks was is report most → Reads now new (Ok (Some item)) → Progress drops start new next passed was out new_report left
+    → Took is out (items_text (items_for (item_of item) lot)) → Progress drops start now behind marks was is report most → Reads now new (Ok (Some item)) → Progress drops start new next passed was out new_report left
 Progress-item drops start now new behind next marks passed was is out report new_report most left item lot e b l c m s p r =
     let i = item_of item in
     let here = l ∙ ap (λ b. lot_in drops b i) p.behind_is in
-    let sent = subst (λ l. Took is out (stream_text (items_for i l))) here s in
+    let sent = subst (λ l. Took is out (items_text (items_for i l))) here s in
     let names = names_blob_or_tag (reverse p.front) i in
     let count = c ∙ ap (λ l. counted l (names_held marks i) i report) here ∙ ap (λ n. counted (lot_in drops (after_of Other p.front) i) n i report) (names-same marks (reverse p.front) i p.stands) ∙ ap (counted (lot_in drops (after_of Other p.front) i) names i) p.counted in
     record {
@@ -69,7 +70,7 @@ Progress-item drops start now new behind next marks passed was is out report new
       goes = Goes-item start now new p.front item p.goes r;
       behind_is = e ∙ sym (after-push Other p.front i);
       stands = subst (λ is. StandsBehind is passed) (sym (reverse-push p.front i)) (stands-push marks passed (reverse p.front) i p.stands b);
-      wrote = subst (Took was out) (sym (text-push drops p.front i)) (took_both was is out (text_for drops p.front) (stream_text (items_in drops (after_of Other p.front) i)) p.wrote sent);
+      wrote = subst (Took was out) (sym (text-push drops p.front i)) (took_both was is out (text_for drops p.front) (items_text (items_in drops (after_of Other p.front) i)) p.wrote sent);
       counted = count ∙ sym (report-push drops p.front i);
       few = omega (arith, m, p.few, length_push p.front i);
     }
@@ -123,26 +124,26 @@ Adapts-fault drops (Some s) now new behind marks was is report most f p r =
 
 -- ---- an item that isn't sent
 
-failed_at : (drops : Bool) (was is out : Option Taken) (front : List ModelItem) (i : ModelItem) (more : List ModelItem) → Took was is (text_for drops front) → FailedWithin is out (stream_text (items_in drops (after_of Other front) i)) → FailedWithin was out (text_for drops (front ++ i ∷ more))
+failed_at : (drops : Bool) (was is out : Option Taken) (front : List ModelItem) (i : ModelItem) (more : List ModelItem) → Took was is (text_for drops front) → FailedWithin is out (items_text (items_in drops (after_of Other front) i)) → FailedWithin was out (text_for drops (front ++ i ∷ more))
 failed_at drops was is out front i more w f =
-    let here = stream_text (items_in drops (after_of Other front) i) in
+    let here = items_text (items_in drops (after_of Other front) i) in
     subst (FailedWithin was out) (sym (text-within drops front i more)) (failed_after was is out (text_for drops front) (here ++ text_behind drops (behind_of i) more) w (failed_longer is out here (text_behind drops (behind_of i) more) f))
 
 -- where the item comes from
-unsent : (drops : Bool) (s left : Stream) (front : List ModelItem) (i : ModelItem) (was is out : Option Taken) (fault : AdaptFault) → s ≡ after front (then_comes i left) → Took was is (text_for drops front) → PutsIf {A = Unit {0}} (stream_text (items_in drops (after_of Other front) i)) is out (Err fault) → Adapts drops s was out (Err fault)
+unsent : (drops : Bool) (s left : Stream) (front : List ModelItem) (i : ModelItem) (was is out : Option Taken) (fault : AdaptFault) → s ≡ after front (then_comes i left) → Took was is (text_for drops front) → PutsIf {A = Unit {0}} (items_text (items_in drops (after_of Other front) i)) is out (Err fault) → Adapts drops s was out (Err fault)
 unsent drops s left front i was is out faults.OutOfMemory g w f = (front, i ∷ left.items, ap (λ (t : Stream). t.items) g, subst (λ o. Took was o (text_for drops front)) (sym f) w)
 unsent drops s left front i was is out faults.WriteFailed g w f = subst (λ is. FailedWithin was out (text_for drops is)) (sym (ap (λ (t : Stream). t.items) g)) (failed_at drops was is out front i left.items w f)
 unsent drops s left front i was is out faults.ReadFailed g w f = absurd f
 unsent drops s left front i was is out faults.TruncatedData g w f = absurd f
 unsent drops s left front i was is out faults.BadNumber g w f = absurd f
 
-pub Adapts-unsent : {A : Type 0} (drops : Bool) (start now new : Option Stream) (behind : Behind) (marks : Marks A) (was is out : Option Taken) (report : Report) (most : ℕ) (item : Item) (lot : lines.Lot) (fault : AdaptFault) → lot ≡ lot_in drops behind (item_of item) → PutsIf {A = Unit {0}} (stream_text (items_for (item_of item) lot)) is out (Err fault) → Progress drops start now behind marks was is report most → Reads now new (Ok (Some item))
+pub Adapts-unsent : {A : Type 0} (drops : Bool) (start now new : Option Stream) (behind : Behind) (marks : Marks A) (was is out : Option Taken) (report : Report) (most : ℕ) (item : Item) (lot : lines.Lot) (fault : AdaptFault) → lot ≡ lot_in drops behind (item_of item) → PutsIf {A = Unit {0}} (items_text (items_for (item_of item) lot)) is out (Err fault) → Progress drops start now behind marks was is report most → Reads now new (Ok (Some item))
     → AdaptsFrom drops start was out (Err fault)
 Adapts-unsent drops None now new behind marks was is out report most item lot fault l f p r =
     let i = item_of item in
     let s = after p.front (then_comes i (ended Finished)) in
-    (s, tt, unsent drops s (ended Finished) p.front i was is out fault refl p.wrote (subst (λ l. PutsIf {A = Unit {0}} (stream_text (items_for i l)) is out (Err fault)) (l ∙ ap (λ b. lot_in drops b i) p.behind_is) f))
+    (s, tt, unsent drops s (ended Finished) p.front i was is out fault refl p.wrote (subst (λ l. PutsIf {A = Unit {0}} (items_text (items_for i l)) is out (Err fault)) (l ∙ ap (λ b. lot_in drops b i) p.behind_is) f))
 Adapts-unsent drops (Some s) now new behind marks was is out report most item lot fault l f p r =
     let i = item_of item in
     let t = rw p.goes.1 at r in
-    unsent drops s t.0 p.front i was is out fault (p.goes.2 ∙ ap (after p.front) t.1) p.wrote (subst (λ l. PutsIf {A = Unit {0}} (stream_text (items_for i l)) is out (Err fault)) (l ∙ ap (λ b. lot_in drops b i) p.behind_is) f)
+    unsent drops s t.0 p.front i was is out fault (p.goes.2 ∙ ap (after p.front) t.1) p.wrote (subst (λ l. PutsIf {A = Unit {0}} (items_text (items_for i l)) is out (Err fault)) (l ∙ ap (λ b. lot_in drops b i) p.behind_is) f)

@@ -1,5 +1,5 @@
 -- What adapting a stream gives, sends and leaves.
-use Rattle.std.specs.Prelude.{◌≡◌, ℕ, ◌+◌, ◌<◌, ◌^◌, Bool, false, ◌&&◌, codes, if◌then◌else◌, List, ◌++◌, Option, Some, None, Result, Ok, Err, OnOk, ⊤}
+use Rattle.std.specs.Prelude.{◌≡◌, ℕ, ◌+◌, ◌<◌, ◌^◌, Bool, false, ◌&&◌, codes, if◌then◌else◌, List, ◌++◌, Option, Some, None, Result, Ok, Err, OnOk}
 use Rattle.std.specs.Ordering.{nat_cmp}
 use Rattle.std.specs.Option.{option_map, option_or, option_map_or}
 use Rattle.std.specs.BTreeSet.{contains}
@@ -8,13 +8,14 @@ use Rattle.gx_model.specs.Texts.{Bytes}
 use Rattle.gx_model.specs.Streams.Items.{Item, Line, Data, End, Finished, Failed, Stream}
 use Rattle.gx_model.specs.Texts.Sinks.{Taken, Took, FailedWithin}
 use Rattle.gx_text.specs.Devices.{Coming}
-use Rattle.gx_stream.specs.Faults.{fault_of}
+use Rattle.gx_stream.specs.Faults.{IsEnd}
 use Rattle.gx_stream.specs.Heard.{items_from}
 use Rattle.gx_stream.specs.declared.fault.StreamFault.{StreamFault}
 use Rattle.gx_stream.specs.declared.fault.StreamFault.TheVariants as stream
 use Rattle.gx_adapt.specs.Lines as lines
 use Rattle.gx_adapt.specs.Marks.{command_begun, command_of, mark_behind, is_blob_or_tag, is_tag, sets_mark, is_of_blob_or_tag}
-use Rattle.gx_adapt.specs.Streams.{adapted, stream_text, is_spaced, is_deletion, is_requoted, is_marks, is_asking, is_done, on_line, report_of}
+use Rattle.gx_adapt.specs.Streams.{adapted, is_spaced, is_deletion, is_requoted, is_marks, is_asking, is_done, on_line, report_of}
+use Rattle.gx_model.specs.Export.{items_text}
 use Rattle.gx_adapt.specs.Laws.{IsReadAdapted}
 use Rattle.gx_adapt.specs.declared.fault.AdaptFault.{AdaptFault}
 use Rattle.gx_adapt.specs.declared.fault.AdaptFault.TheVariants.{OutOfMemory, ReadFailed, WriteFailed, TruncatedData, BadNumber}
@@ -31,14 +32,9 @@ of_stream stream.ReadFailed = ReadFailed
 of_stream stream.TruncatedData = TruncatedData
 of_stream stream.BadNumber = BadNumber
 
--- an end as a reader of items tells it: none, or one of its faults
-abbrev pub IsEnd : End → Type 0
-IsEnd Finished = ⊤
-IsEnd (Failed f) = (why : StreamFault) × (f ≡ fault_of why)
-
 -- the text of what stands in the place of some items, by whether signatures are dropped
 abbrev pub text_for : Bool → List Item → Bytes
-text_for drops is = stream_text (adapted drops is)
+text_for drops is = items_text (adapted drops is)
 
 -- all that came went out adapted, and this is the end
 abbrev pub EndsWith : Bool → Stream → End → Option Taken → Option Taken → Type 0
@@ -181,7 +177,7 @@ PutsIf text was is r = Puts text was is r
 
 -- the same of what stands in an item's place, of which this becomes
 abbrev pub SendsFor : {A : Type 0} → Lot → Item → Option Taken → Option Taken → Result A AdaptFault → Type 0
-SendsFor lot item was is r = PutsIf (stream_text (lines.items_for item (shown_lot lot))) was is r
+SendsFor lot item was is r = PutsIf (items_text (lines.items_for item (shown_lot lot))) was is r
 
 -- the same of a sink, by what it tells
 abbrev pub SendsItem : {A W : Type 0} → (W → Option Taken) → Lot → Item → W → W → Result A AdaptFault → Type 0

@@ -9,14 +9,15 @@ use Rattle.gx_text.specs.Devices.{Coming}
 use Rattle.gx_stream.specs.Heard.{items_from}
 use Rattle.gx_adapt.specs.Paths.{quoted}
 use Rattle.gx_adapt.specs.Lines.{is_signature}
-use Rattle.gx_adapt.specs.Streams.{adapted, behind_of, stream_text}
+use Rattle.gx_adapt.specs.Streams.{adapted, behind_of}
+use Rattle.gx_model.specs.Export.{items_text}
 use Rattle.gx_adapt.specs.declared.lot.Behind.{Behind}
 use Rattle.gx_adapt.specs.declared.lot.Behind.TheVariants.{Other}
 
 -- a text is read as the items that stand in the place of what a source gives
 abbrev pub IsReadAdapted : Bool → Coming → Type 0
 IsReadAdapted drops c =
-    items_of (stream_text (adapted drops (items_from c).items)) false ≡ record { items = adapted drops (items_from c).items; end = Finished }
+    items_of (items_text (adapted drops (items_from c).items)) false ≡ record { items = adapted drops (items_from c).items; end = Finished }
 
 -- the blocks of a stream, in order
 abbrev pub blocks_of : List Item → List Bytes

@@ -4,7 +4,6 @@ use Rattle.std.specs.Prelude.{ℕ, Bool, true, false, List, [], ◌∷◌, lengt
 use Rattle.std.specs.List.{flat_map, filter}
 use Rattle.gx_model.specs.Texts.{Bytes, same_bytes}
 use Rattle.gx_model.specs.Streams.Items.{Item, Line, Data}
-use Rattle.gx_model.specs.Export.{item_text}
 use Rattle.gx_adapt.specs.Lines.{Lot, kept, deletion, marks, feature, signature, spaced, requoted, behind_line, is_signature_line, lot_of, block_lot, items_for, is_refused, is_note, is_early}
 use Rattle.gx_adapt.specs.Marks.{tags_of_blobs_or_tags}
 use Rattle.gx_adapt.specs.declared.lot.Behind.{Behind}
@@ -48,10 +47,6 @@ items_at drops p = items_in drops p.behind p.item
 -- the items that stand in the place of these
 abbrev pub adapted : Bool → List Item → List Item
 adapted drops is = flat_map (items_at drops) (placed is)
-
--- their text: each line with an LF, each block behind its length
-abbrev pub stream_text : List Item → Bytes
-stream_text is = flat_map item_text is
 
 -- ---- counts
 

@@ -5,7 +5,7 @@ ghost use Rattle.std.specs.Fmt.{decimal};
 ghost use Rattle.gx_text.specs.Buffers.{GrowsBy};
 ghost use Rattle.gx_adapt.specs.Paths.{escaped, quoted, anew};
 ghost use Rattle.gx_adapt.specs.Lines.{lines_for, spaced_line, modified_line, quoted_line, moved_line};
-ghost use Rattle.gx_adapt.specs.Streams.{stream_text};
+ghost use Rattle.gx_model.specs.Export.{items_text};
 ghost use Rattle.gx_adapt.specs.Adapting.{shown_lot};
 
 use crate::lot::Lot;
@@ -19,7 +19,7 @@ pub(crate) fn put_line<A: Allocator + Copy>(
     line: &[u8],
     lot: Lot<'_>,
 ) -> Result<(), AllocError>
-    ensures { GrowsBy out.old out.new (stream_text (lines_for line.now (shown_lot lot.entry))) result }
+    ensures { GrowsBy out.old out.new (items_text (lines_for line.now (shown_lot lot.entry))) result }
 {
     match lot {
         Lot::Deletion | Lot::Marks | Lot::Feature | Lot::Signature => return Ok(()),

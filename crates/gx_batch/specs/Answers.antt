@@ -6,7 +6,7 @@ use Rattle.gx_model.specs.declared.objects.Kind.{Kind}
 use Rattle.gx_model.specs.declared.faults.Fault.{Fault}
 use Rattle.gx_model.specs.declared.faults.Fault.TheVariants.{Ambiguous, WrongKind}
 use Rattle.gx_model.specs.Texts.{Bytes, cut_at, same_bytes}
-use Rattle.gx_model.specs.Faults.{Given, and_then}
+use Rattle.gx_model.specs.Faults.{Given, ◌>>=◌}
 use Rattle.gx_model.specs.Histories.Values.{Value, blob_value, commit_value, tag_value, tree_value}
 use Rattle.gx_model.specs.Objects.{line}
 use Rattle.gx_model.specs.Records.{body_of, kind_of, name_of}
@@ -52,12 +52,12 @@ reason fault = codes "missing"
 module _ (name : Kind → Bytes → Bytes) where
   -- what a text gives as a revision in a history
   abbrev pub given_by : History → Bytes → Given Shown
-  given_by h text = and_then (revision_of text) (denoted name h)
+  given_by h text = revision_of text >>= denoted name h
 
   -- what a line asks for: a revision, or the tree of one with a slash behind its path
   abbrev pub asked_by : History → Bytes → Option Bytes → Given Shown
   asked_by h asked None = given_by h asked
-  asked_by h asked (Some front) = and_then (given_by h front) only_tree
+  asked_by h asked (Some front) = given_by h front >>= only_tree
 
   abbrev pub asked_for : History → Bytes → Given Shown
   asked_for h asked = asked_by h asked (directory_of asked)

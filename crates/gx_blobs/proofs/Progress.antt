@@ -20,7 +20,7 @@ use Rattle.gx_stream.specs.Faults.{fault_of, ended as only}
 use Rattle.gx_stream.specs.Reading.{Reads, item_of}
 use Rattle.gx_blobs.specs.Blobs.{BlobRun, refused, blobs_of, behind, first_body}
 use Rattle.gx_blobs.specs.Steps.{Step, stop, go, body, run_of, step_of, stepped, stop_at}
-use Rattle.gx_blobs.specs.Printing.{blob_line, printed, blob_record, stop_of, Clashes, FailsWithin, Prints, PrintsBlobs, PrintsOne, ended_at, kind_of}
+use Rattle.gx_blobs.specs.Printing.{blob_line, printed, blob_record, stop_of, Clashes, FailsWithin, Prints, PrintsBlobs, PrintsOne, ended_at, of_stream}
 use Rattle.gx_blobs.specs.declared.blob_names.Stage.{Stage}
 use Rattle.gx_blobs.specs.declared.blob_names.Stage.TheVariants.{Expected}
 use Rattle.gx_blobs.specs.declared.blob_names.BlobsKind.{BlobsKind}
@@ -176,7 +176,7 @@ Progress-body names start now new stage was is out held kept count item x u e p 
       among = added names p.front x held kept (put-grows held kept (blob_record names x) o.0) p.among;
     }
 
-stop_of-fault : (f : StreamFault) → stop_of (kind_of f) ≡ refused (fault_of f)
+stop_of-fault : (f : StreamFault) → stop_of (of_stream f) ≡ refused (fault_of f)
 stop_of-fault stream.OutOfMemory = refl
 stop_of-fault stream.ReadFailed = refl
 stop_of-fault stream.TruncatedData = refl
@@ -227,21 +227,21 @@ no_memory : (names : Kind → Bytes → Bytes) (run next : BlobRun) (front : Lis
 no_memory names run next front was is count e n w =
     rw e (front, next.bodies, refl, ap (λ k. k + 1) n, inr (inl (refl, w)))
 
-fault_case : (names : Kind → Bytes → Bytes) (r left : Stream) (stage : Stage) (front : List Bytes) (was is : Option Taken) (count : ℕ) (f : StreamFault) → staged Expected r ≡ behind front (staged stage left) → count ≡ length front → Took was is (printed names front) → (f ≡ stream.OutOfMemory) ⊎ (left ≡ only (Failed (fault_of f))) → Prints names (staged Expected r) was is (Err (record { command = count + 1; kind = kind_of f }))
+fault_case : (names : Kind → Bytes → Bytes) (r left : Stream) (stage : Stage) (front : List Bytes) (was is : Option Taken) (count : ℕ) (f : StreamFault) → staged Expected r ≡ behind front (staged stage left) → count ≡ length front → Took was is (printed names front) → (f ≡ stream.OutOfMemory) ⊎ (left ≡ only (Failed (fault_of f))) → Prints names (staged Expected r) was is (Err (record { command = count + 1; kind = of_stream f }))
 fault_case names r left stage front was is count f g n w (inl e) =
     rw e (no_memory names (staged Expected r) (staged stage left) front was is count g n w)
 fault_case names r left stage front was is count f g n w (inr e) =
-    own_fault names (staged Expected r) front was is count (kind_of f) (at_end r left stage front (Failed (fault_of f)) e g ∙ ap (λ k. record { bodies = front; stop = Some k }) (sym (stop_of-fault f))) n w
+    own_fault names (staged Expected r) front was is count (of_stream f) (at_end r left stage front (Failed (fault_of f)) e g ∙ ap (λ k. record { bodies = front; stop = Some k }) (sym (stop_of-fault f))) n w
 
-pub Prints-fault : (names : Kind → Bytes → Bytes) (start : Option Stream) (now new : Option Stream) (stage : Stage) (was is : Option Taken) (held : List Record) (count : ℕ) (f : StreamFault) → Progress names start now stage was is held count → Reads now new (Err f) → PrintsBlobs names start was is (Err (record { command = count + 1; kind = kind_of f }))
+pub Prints-fault : (names : Kind → Bytes → Bytes) (start : Option Stream) (now new : Option Stream) (stage : Stage) (was is : Option Taken) (held : List Record) (count : ℕ) (f : StreamFault) → Progress names start now stage was is held count → Reads now new (Err f) → PrintsBlobs names start was is (Err (record { command = count + 1; kind = of_stream f }))
 Prints-fault names None now new stage was is held count f p r =
     let end = Failed (fault_of f) in
     let s = after p.goes.0 (only end) in
     let run = ends_on p.goes.0 stage p.front end p.goes.1 ∙ ap (λ k. record { bodies = p.front; stop = Some k }) (sym (stop_of-fault f)) in
-    (s, (f, refl), as_blobs names s was is (refused_at count (kind_of f)) (own_fault names (staged Expected s) p.front was is count (kind_of f) run p.counted p.wrote))
+    (s, (f, refl), as_blobs names s was is (refused_at count (of_stream f)) (own_fault names (staged Expected s) p.front was is count (of_stream f) run p.counted p.wrote))
 Prints-fault names (Some c) now new stage was is held count f p r =
     let t = rw p.goes.1 at r in
-    as_blobs names c was is (refused_at count (kind_of f)) (fault_case names c p.goes.0 stage p.front was is count f p.goes.2 p.counted p.wrote t.1)
+    as_blobs names c was is (refused_at count (of_stream f)) (fault_case names c p.goes.0 stage p.front was is count f p.goes.2 p.counted p.wrote t.1)
 
 -- what is left where an item came
 comes : (r : Stream) (now new : Option Stream) (stage : Stage) (front : List Bytes) (item : Item) (s : Step) → step_of stage (item_of item) ≡ s → Goes (Some r) now stage front → Reads now new (Ok (Some item)) → (left : Stream) × (staged Expected r ≡ behind front (stepped s (λ n. staged n left)))

@@ -3,7 +3,8 @@ use Rattle.std.proofs.Common.{◌≡◌, ℕ, zero, suc, ◌≤◌, Bool, true, 
 use Rattle.std.specs.Str.{bytes_eq}
 use Rattle.gx_model.specs.declared.faults.Fault.TheVariants.{BadLine}
 use Rattle.gx_model.specs.Texts.{Bytes}
-use Rattle.gx_model.specs.Faults.{Given, ◌>>=◌, or_fault}
+use Rattle.gx_model.specs.Faults.{Given, ◌>>=◌}
+use Rattle.std.specs.Option.{ok_or}
 use Rattle.gx_model.specs.Streams.Items.{Item, Line, Data, End, Finished, Failed, Stream}
 use Rattle.gx_model.specs.Streams.Grammar.{Read, words_of, is_word, mark_of, blob_at, block, block_in, rest_line_in, optional, any_text, read_some}
 use Rattle.gx_model.specs.Streams.Commands.{Command, Blob}
@@ -23,7 +24,7 @@ after_mark m s = optional (codes "original-oid") any_text s >>= λ oid. after_oi
 
 -- a line with a word that may be the one that is looked for, and its rest
 abbrev line_taken : Bool → Option Bytes → Bytes → List Item → End → Read (Option Bytes)
-line_taken b rest l more end = if b then (or_fault rest BadLine >>= λ r. Ok (Some r, with more end)) else Ok (None, with (Line l ∷ more) end)
+line_taken b rest l more end = if b then (ok_or rest BadLine >>= λ r. Ok (Some r, with more end)) else Ok (None, with (Line l ∷ more) end)
 
 abbrev rest_read : {A : Type 0} → (Bytes → Given A) → Read (Option Bytes) → Read (Option A)
 rest_read read taken = taken >>= λ r. read_some read r.0 >>= λ x. Ok (x, r.1)

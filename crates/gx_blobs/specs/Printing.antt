@@ -6,11 +6,11 @@ use Rattle.gx_model.specs.declared.objects.Kind.TheVariants as kind
 use Rattle.gx_model.specs.declared.faults.Fault.TheVariants as fault
 use Rattle.gx_model.specs.Texts.{Bytes}
 use Rattle.gx_model.specs.Objects.{hex}
-use Rattle.gx_model.specs.Streams.Items.{End, Failed, Finished, Stream}
+use Rattle.gx_model.specs.Streams.Items.{Stream}
 use Rattle.gx_model.specs.Histories.{Record}
 use Rattle.gx_model.specs.Records.Growth.{put}
 use Rattle.gx_model.specs.Texts.Sinks.{Sends, Taken, Took}
-use Rattle.gx_stream.specs.Faults.{fault_of}
+use Rattle.gx_stream.specs.Faults.{IsEnd}
 use Rattle.gx_stream.specs.declared.fault.StreamFault.{StreamFault}
 use Rattle.gx_stream.specs.declared.fault.StreamFault.TheVariants as stream
 use Rattle.gx_blobs.specs.Blobs.{Stop, refused, not_a_blob, BlobRun, blobs_of}
@@ -43,21 +43,16 @@ shown_step (Go stage) = model.go stage
 shown_step (Body x) = model.body x.now
 
 -- a fault of the items, as it is answered
-abbrev pub kind_of : StreamFault → BlobsKind
-kind_of stream.OutOfMemory = kinds.OutOfMemory
-kind_of stream.ReadFailed = kinds.ReadFailed
-kind_of stream.TruncatedData = kinds.TruncatedData
-kind_of stream.BadNumber = kinds.BadNumber
+abbrev pub of_stream : StreamFault → BlobsKind
+of_stream stream.OutOfMemory = kinds.OutOfMemory
+of_stream stream.ReadFailed = kinds.ReadFailed
+of_stream stream.TruncatedData = kinds.TruncatedData
+of_stream stream.BadNumber = kinds.BadNumber
 
 -- how the names end behind so many: with the stream, or for this cause
 abbrev pub ended_at : ℕ → Option BlobsKind → Result ℕ BlobsFault
 ended_at count None = Ok count
 ended_at count (Some kind) = Err (record { command = count + 1; kind = kind })
-
--- an end as a reader of items tells it: none, or one of its faults
-abbrev pub IsEnd : End → Type 0
-IsEnd Finished = ⊤
-IsEnd (Failed f) = (why : StreamFault) × (f ≡ fault_of why)
 
 module _ (name : Kind → Bytes → Bytes) where
   -- a blob's name and LF

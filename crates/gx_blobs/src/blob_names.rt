@@ -7,7 +7,7 @@ ghost use Rattle.gx_model.specs.Streams.Grammar.{mark_of};
 ghost use Rattle.gx_stream.specs.Reading.{item_of};
 ghost use Rattle.gx_blobs.specs.Naming.{AddsBlob, NamesBlobs, NamesItems};
 ghost use Rattle.gx_blobs.specs.Steps.{step_of, stop_at, marked_as, marked_by, named_by, command_line, mark_line, oid_line};
-ghost use Rattle.gx_blobs.specs.Printing.{shown_step, stop_of, kind_of, ended_at, name_line};
+ghost use Rattle.gx_blobs.specs.Printing.{shown_step, stop_of, ended_at, name_line, of_stream};
 
 use gx_object::{Kind, Name, Namer};
 use gx_store::{Store, StoreFault};
@@ -141,7 +141,7 @@ enum Step<'a> {
 }
 
 fn kind_of(fault: StreamFault) -> BlobsKind
-    ensures { result ≡ kind_of fault }
+    ensures { result ≡ of_stream fault }
 {
     match fault {
         StreamFault::OutOfMemory => BlobsKind::OutOfMemory,

@@ -1,6 +1,6 @@
 -- Archives of revisions, as they are printed.
 use Rattle.std.proofs.Common.{◌≡◌, refl, sym, ap, subst, [], Option, Result, Ok, Err}
-use Rattle.gx_model.specs.Faults.{Given, IsFaultOf, and_then}
+use Rattle.gx_model.specs.Faults.{Given, IsFaultOf, ◌>>=◌}
 use Rattle.gx_model.specs.Texts.{Bytes}
 use Rattle.gx_model.specs.Texts.Sinks.{Taken}
 use Rattle.gx_archive.specs.Writing.{Delivers}
@@ -31,6 +31,6 @@ archive_printed given was now (Err archive.OutOfMemory) h = given_text (only_wor
 archive_printed given was now (Err (archive.Revision kind)) h = subst (λ t. Prints (only_word given) was t (Err (refused_at 1 kind))) (sym h.1) (not_given given was kind h.0)
 
 -- the word isn't a revision, and nothing printed
-pub unread_word : {A : Type 0} (read : Given A) (given : A → Given Bytes) (was : Option Taken) (kind : RevFault) → IsFaultOf (fault_of kind) read → Prints (only_word (and_then read given)) was was (Err (refused_at 1 kind))
-unread_word read given was OutOfMemory i = ([], nothing_in_front (only_word (and_then read given)), took_nothing was)
-unread_word read given was kind i = (of_word 1 (fault_of kind), ap (λ r. only_word (and_then r given)) i, (refl, refl), took_nothing was)
+pub unread_word : {A : Type 0} (read : Given A) (given : A → Given Bytes) (was : Option Taken) (kind : RevFault) → IsFaultOf (fault_of kind) read → Prints (only_word (read >>= given)) was was (Err (refused_at 1 kind))
+unread_word read given was OutOfMemory i = ([], nothing_in_front (only_word (read >>= given)), took_nothing was)
+unread_word read given was kind i = (of_word 1 (fault_of kind), ap (λ r. only_word (r >>= given)) i, (refl, refl), took_nothing was)

@@ -4,12 +4,12 @@ use Rattle.gx_model.specs.declared.objects.Kind.{Kind}
 use Rattle.gx_model.specs.Texts.{Bytes}
 use Rattle.gx_model.specs.Texts.Sinks.{Taken}
 use Rattle.gx_model.specs.Changes.{changes_text}
-use Rattle.gx_model.specs.Histories.{Records}
+use Rattle.gx_model.specs.Histories.{Records, empty_repository}
 use Rattle.gx_model.specs.Laws.RepositoryLaws.{HistoriesOf}
 use Rattle.gx_model.specs.Records.Sound.{IsSound}
 use Rattle.gx_model.specs.Streams.Commands.{no_features}
 use Rattle.gx_text.specs.Devices.{Coming}
-use Rattle.gx_import.specs.Exported.{IsExported, nothing}
+use Rattle.gx_import.specs.Exported.{IsExported}
 use Rattle.gx_import.specs.Imports.{Imports}
 use Rattle.gx_import.specs.declared.fault.ImportFault.{ImportFault}
 use Rattle.gx_import.specs.declared.report.Report.{Report}
@@ -29,7 +29,7 @@ is_back name histories first new sound again = record {
 }
 
 -- the trip by changes
-module _ {N : Type 0} (name_of : N → Kind → Bytes → Bytes) (namer : N) (done : Bool) (old : N × Records) (empty : old ≡ (namer, nothing)) (was now : Option Taken) where
+module _ {N : Type 0} (name_of : N → Kind → Bytes → Bytes) (namer : N) (done : Bool) (old : N × Records) (empty : old ≡ (namer, empty_repository)) (was now : Option Taken) where
   -- its import was refused
   pub changes_refused : (A : Type 0) (coming : Option Coming) (new : Records) (fault : ImportFault) → Imports no_features (name_of old.0) old.1 new coming was now (Err fault) → TripsByChanges (name_of namer) done {N = N} {A = A} coming was now (Err (Import fault))
   changes_refused A coming new fault h = refused_first name_of namer old empty was now (λ (trip : ChangesTrip N A). trip.report) (ChangesComeBack (name_of namer) done) (changes_text (name_of namer) done) coming new fault h

@@ -11,7 +11,8 @@ use Rattle.gx_text.specs.Devices.{Coming}
 use Rattle.gx_stream.specs.Heard.{heard}
 use Rattle.gx_batch.specs.Lines.{lines_from}
 use Rattle.gx_batch.specs.declared.ending.LineEnding.TheVariants.{Lf}
-use Rattle.gx_repo.specs.Dropping.{Drops, dropped, lent_names}
+use Rattle.gx_repo.specs.Dropping.{Drops, dropped}
+use Rattle.gx_text.specs.Lent.{lent_texts}
 use Rattle.gx_repo.specs.Repositories.{Repository}
 use Rattle.gx_repo.specs.declared.fault.DropFault.TheVariants as drop
 use Rattle.gx_rev.specs.declared.fault.RevFault.TheVariants.{UnknownRef}
@@ -25,13 +26,13 @@ use Rattle.gx_cli.specs.declared.serving.Outcome.{Outcome}
 left_of : {N : Type 0} (old new : Repository N) → new.0 ≡ old.0 → new.1.records ≡ old.1.records → new ≡ (old.0, with_refs old.1 new.1.refs)
 left_of old new e f = rw (sym e, sym f) refl
 
-module _ {N : Type 0} (old new : Repository N) (all : List Bytes) (names : List (Bor Bytes)) (same : lent_names names ≡ all) where
+module _ {N : Type 0} (old new : Repository N) (all : List Bytes) (names : List (Bor Bytes)) (same : lent_texts names ≡ all) where
   -- the refs with these names are dropped
-  pub names_dropped : new.0 ≡ old.0 → new.1.records ≡ old.1.records → Drops old.1.refs new.1.refs (lent_names names) (Ok tt) → DropsAll old new all (Ok tt)
+  pub names_dropped : new.0 ≡ old.0 → new.1.records ≡ old.1.records → Drops old.1.refs new.1.refs (lent_texts names) (Ok tt) → DropsAll old new all (Ok tt)
   names_dropped e f h = (ap (λ ns. dropped ns old.1.refs) (sym same) ∙ h, left_of old new e f)
 
   -- or one of them is unknown
-  pub name_unknown : (number : ℕ) → Drops old.1.refs new.1.refs (lent_names names) (Err (drop.UnknownRef number)) → DropsAll old new all (Err (fault.Revision number UnknownRef))
+  pub name_unknown : (number : ℕ) → Drops old.1.refs new.1.refs (lent_texts names) (Err (drop.UnknownRef number)) → DropsAll old new all (Err (fault.Revision number UnknownRef))
   name_unknown number h = (number, refl, ap (λ ns. dropped ns old.1.refs) (sym same) ∙ h)
 
 -- where memory runs out, this is no text either

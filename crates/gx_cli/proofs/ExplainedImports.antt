@@ -5,7 +5,7 @@ use Rattle.gx_model.specs.declared.features.Features.{Features}
 use Rattle.gx_model.specs.declared.store_faults.FileFault.{FileFault}
 use Rattle.gx_model.specs.Texts.{Bytes}
 use Rattle.gx_model.specs.Faults.{Given}
-use Rattle.gx_model.specs.Histories.{Records}
+use Rattle.gx_model.specs.Histories.{Records, empty_repository}
 use Rattle.gx_model.specs.Stores.StoreReading.{Stored}
 use Rattle.gx_model.specs.Texts.Sinks.{Taken}
 use Rattle.gx_text.specs.Devices.{Coming}
@@ -40,6 +40,6 @@ kept_told name asks old coming before after was now (inl h) k =
 kept_told name asks old coming before after was now (inr h) k = subst (λ a. ExplainsCommand name asks old coming a now) (sym h.0) h.1
 
 -- an import into a repository with nothing, where it is refused
-pub alone_told : {N A : Type 0} (name_of : N → Kind → Bytes → Bytes) (namer : N) (old : N × Records) (asks : Features) (coming : Option Coming) (fault : ImportFault) (told : Explanation A) → old ≡ (namer, nothing)
-    → ExplainsFault (name_of old.0) asks old.1 coming fault told → ExplainsFault (name_of namer) asks nothing coming fault told
+pub alone_told : {N A : Type 0} (name_of : N → Kind → Bytes → Bytes) (namer : N) (old : N × Records) (asks : Features) (coming : Option Coming) (fault : ImportFault) (told : Explanation A) → old ≡ (namer, empty_repository)
+    → ExplainsFault (name_of old.0) asks old.1 coming fault told → ExplainsFault (name_of namer) asks empty_repository coming fault told
 alone_told name_of namer old asks coming fault told e h = subst (λ o. ExplainsFault (name_of o.0) asks o.1 coming fault told) e h

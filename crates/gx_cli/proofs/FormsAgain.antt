@@ -10,8 +10,8 @@ use Rattle.gx_model.specs.declared.features.Features.{Features}
 use Rattle.gx_model.specs.Changes.{changes_commands, changes_text, closed_by, sending_commands}
 use Rattle.gx_model.specs.Export.{command_items, export_text, inner_commands, is_reached, item_text, reached_commits}
 use Rattle.gx_model.specs.Texts.{Bytes}
-use Rattle.gx_model.specs.Histories.{History, IsIn, Records, StandsFor, Target, record_of, value_at}
-use Rattle.gx_model.specs.Histories.Values.{Commit, Value}
+use Rattle.gx_model.specs.Histories.{History, IsIn, Records, StandsFor, Target, empty_repository, record_of, value_at}
+use Rattle.gx_model.specs.Histories.Values.{Commit, Value, commit_of}
 use Rattle.gx_model.specs.Laws.ChangesLaws.{ChangesAreImported, ChangesAreSpelled, ClosedCommandsAreItems, ClosedCommandsAreRead, ShortChangesAreReadable, changes_report}
 use Rattle.gx_model.specs.Laws.ExportLaws.{HasNoNullGitlink, IsAgain, IsSpelled, ItemsAreRead, between}
 use Rattle.gx_model.specs.Laws.FeatureLaws.{ChangesAskOnce}
@@ -21,7 +21,6 @@ use Rattle.gx_model.specs.Records.{name_of}
 use Rattle.gx_model.specs.Records.HistoryOf.{history_of}
 use Rattle.gx_model.specs.Records.Sound.{AnyByRecursion, IsSound}
 use Rattle.gx_model.specs.Replay.{finished, imported_asked, replayed, replayed_asked, replayed_text_asked, start}
-use Rattle.gx_model.specs.Revisions.Ranges.{commit_of}
 use Rattle.gx_model.specs.Streams.Commands as command
 use Rattle.gx_model.specs.Streams.Commands.{Asks, Blob, Checkpoint, Command, Commands, Done, OptionLine, Progress, Reset, no_features}
 use Rattle.gx_model.specs.Streams.Grammar.{commands_asked, commands_of}
@@ -31,7 +30,7 @@ use Rattle.gx_text.specs.Devices.{Coming}
 use Rattle.gx_stream.specs.Heard.{heard, heard_upto}
 use Rattle.gx_command.specs.Reading.{commands_asked_from}
 use Rattle.gx_export.specs.Outputs.{most}
-use Rattle.gx_import.specs.Exported.{ExportedOr, ImportsExport, IsExported, LeaveExports, nothing}
+use Rattle.gx_import.specs.Exported.{ExportedOr, ImportsExport, IsExported, LeaveExports}
 use Rattle.gx_import.specs.Imports.{Imports, report_of}
 use Rattle.gx_import.specs.Stopping.{StopsReplay, checkpoints_in, is_checkpoint}
 use Rattle.gx_import.specs.declared.fault.ImportFault.{ImportFault}
@@ -156,7 +155,7 @@ module _ (name : Kind → Bytes → Bytes) where
     replayed_changes : (asks : Features) (closed : Bool) → LeaveForm (Changes closed) asks → (exported : Records) → IsSound name exported → HasNoNullGitlink (history_of exported)
         → (coming : Coming) → GivesForm name (Changes closed) exported coming
         → (k : History) × IsAgain (history_of exported) k
-        × (imported_asked asks name (history_of nothing) (heard coming).bytes (heard coming).fails ≡ finished k [] (changes_report name closed (history_of exported) k))
+        × (imported_asked asks name (history_of empty_repository) (heard coming).bytes (heard coming).fails ≡ finished k [] (changes_report name closed (history_of exported) k))
     unfolding imported_asked
     replayed_changes asks closed leaves exported sound links coming gives =
         let h = history_of exported in
@@ -165,9 +164,9 @@ module _ (name : Kind → Bytes → Bytes) where
         let q = imports name closed h is (readable name closed h is links (omega (arith, short))) in (
           q.0,
           q.1,
-          (λ i. replayed_text_asked name asks (history_of nothing) (gives i).bytes (gives i).fails)
-              ∙ ap (replayed_asked name asks (history_of nothing)) (same_commands once asks.done asks.force closed leaves h)
-              ∙ same_begun asks leaves.0 (history_of nothing) (commands_of (items_of (changes_text name closed h) false)) ∙ q.2,
+          (λ i. replayed_text_asked name asks (history_of empty_repository) (gives i).bytes (gives i).fails)
+              ∙ ap (replayed_asked name asks (history_of empty_repository)) (same_commands once asks.done asks.force closed leaves h)
+              ∙ same_begun asks leaves.0 (history_of empty_repository) (commands_of (items_of (changes_text name closed h) false)) ∙ q.2,
         )
 
     -- names tell its values apart
@@ -190,7 +189,7 @@ module _ (name : Kind → Bytes → Bytes) where
 
       -- a fault comes for want of memory or from the sink, and behind no checkpoint
       cut_changes : (asks : Features) (closed : Bool) → LeaveForm (Changes closed) asks → (exported : Records) → IsSound name exported → HasNoNullGitlink (history_of exported)
-          → (coming : Coming) → GivesForm name (Changes closed) exported coming → (old : Records) (fault : ImportFault) → old ≡ nothing → StopsReplay asks name old (Some coming) fault
+          → (coming : Coming) → GivesForm name (Changes closed) exported coming → (old : Records) (fault : ImportFault) → old ≡ empty_repository → StopsReplay asks name old (Some coming) fault
           → ((fault.kind ≡ kind.OutOfMemory) ⊎ (fault.kind ≡ kind.WriteFailed)) × (fault.checkpoints ≡ 0)
       cut_changes asks closed leaves exported sound links coming gives old fault empty h =
           let q = replayed_changes asks closed leaves exported sound links coming gives in
@@ -200,7 +199,7 @@ module _ (name : Kind → Bytes → Bytes) where
 
       -- an import that is accepted
       changes_imported : (asks : Features) (closed : Bool) → LeaveForm (Changes closed) asks → (exported : Records) → IsSound name exported → HasNoNullGitlink (history_of exported)
-          → (coming : Coming) → GivesForm name (Changes closed) exported coming → (old new : Records) → old ≡ nothing → IsSound name new
+          → (coming : Coming) → GivesForm name (Changes closed) exported coming → (old new : Records) → old ≡ empty_repository → IsSound name new
           → (was now : Option Taken) (report : Report) → Imports asks name old new (Some coming) was now (Ok report) → IsExported exported new
       changes_imported asks closed leaves exported sound links coming gives old new empty stands was now report h =
           let q = replayed_changes asks closed leaves exported sound links coming gives in
@@ -211,8 +210,8 @@ module _ (name : Kind → Bytes → Bytes) where
 
       -- the export in a form is that with all files, or that of changes
       of_form : (asks : Features) (old new : Records) (coming : Coming) (result : Result Report ImportFault) → (LeaveExports asks → ImportsExport name old new (Some coming) result)
-          → ((closed : Bool) → LeaveForm (Changes closed) asks → (exported : Records) → IsSound name exported → HasNoNullGitlink (history_of exported) → GivesForm name (Changes closed) exported coming → old ≡ nothing → ExportedOr exported new result)
-          → (form : ExportForm) (exported : Records) → LeaveForm form asks → IsSound name exported → HasNoNullGitlink (history_of exported) → GivesForm name form exported coming → old ≡ nothing → ExportedOr exported new result
+          → ((closed : Bool) → LeaveForm (Changes closed) asks → (exported : Records) → IsSound name exported → HasNoNullGitlink (history_of exported) → GivesForm name (Changes closed) exported coming → old ≡ empty_repository → ExportedOr exported new result)
+          → (form : ExportForm) (exported : Records) → LeaveForm form asks → IsSound name exported → HasNoNullGitlink (history_of exported) → GivesForm name form exported coming → old ≡ empty_repository → ExportedOr exported new result
       of_form asks old new coming result whole changed FullTree exported leaves sound links gives empty = whole leaves exported sound links gives empty
       of_form asks old new coming result whole changed (Changes closed) exported leaves sound links gives empty = changed closed leaves exported sound links gives empty
 

@@ -7,8 +7,8 @@ use Rattle.std.proofs.lemmas.List.{map-append, reverse-append, take-map}
 use Rattle.gx_model.specs.declared.objects.Kind.{Kind}
 use Rattle.gx_model.specs.declared.objects.Kind.TheVariants as kind
 use Rattle.gx_model.specs.Texts.{Bytes}
-use Rattle.gx_model.specs.Faults.{and_then}
-use Rattle.gx_model.specs.Histories.Values.{Commit, Value, blob_value, commit_value, tag_value, tree_value}
+use Rattle.gx_model.specs.Faults.{◌>>=◌}
+use Rattle.gx_model.specs.Histories.Values.{Commit, Value, blob_value, commit_of, commit_value, tag_value, tree_value}
 use Rattle.gx_model.specs.Objects.{IsNamer}
 use Rattle.gx_model.specs.Records.{name_of}
 use Rattle.gx_model.specs.Export.{is_reached}
@@ -16,7 +16,7 @@ use Rattle.gx_model.specs.Histories.{History, IsIn, Records, Target}
 use Rattle.gx_model.specs.Laws.RangeLaws.{is_excluded}
 use Rattle.gx_model.specs.Replay.{peeled_at}
 use Rattle.gx_model.specs.Records.HistoryOf.{commit_of_value, history_of, value_of_name}
-use Rattle.gx_model.specs.Revisions.Ranges.{Word, WordFault, commit_of, listed, listing, reaches, span, with_ancestors, words_denoted}
+use Rattle.gx_model.specs.Revisions.Ranges.{Word, WordFault, listed, listing, reaches, span, with_ancestors, words_denoted}
 use Rattle.gx_model.specs.Records.RecordFaults.{is_held}
 use Rattle.gx_model.specs.Revisions.{RangeWord}
 use Rattle.gx_model.specs.Records.Sound.{IsSound}
@@ -119,7 +119,7 @@ module _ (name : Kind → Bytes → Bytes) (namer : IsNamer name) (r : Records) 
   logged_held refs ws xs ns k e =
       let all = with_refs refs (history_of r) xs in
       let told = names_tell ns (listing (history_of r) all) (listed_stand (history_of r) all) (sym e) in
-      (told.0, ap (λ d. and_then d (λ ys. Ok (listing (history_of r) (with_refs refs (history_of r) ys)))) k ∙ ap Ok (sym told.1))
+      (told.0, ap (λ d. d >>= λ ys. Ok (listing (history_of r) (with_refs refs (history_of r) ys))) k ∙ ap Ok (sym told.1))
 
   -- a held commit's own name
   pub commit_called : (n : Bytes) → IsTrue (is_held r.records kind.Commit n) → n ≡ name_of name (commit_value (commit_of_value (value_of_name r.records n)))
@@ -132,9 +132,9 @@ module _ (name : Kind → Bytes → Bytes) (h : History) where
   unfolding listed
   listed_fails ws f e = by (words_denoted name h ws) refl e
     where
-      by : (d : Result (List Word) WordFault) → words_denoted name h ws ≡ d → and_then d (λ xs. Ok (map (λ c. name_of name (commit_value c)) (listing h xs))) ≡ Err f → commits_listed name h ws ≡ Err f
+      by : (d : Result (List Word) WordFault) → words_denoted name h ws ≡ d → (d >>= λ xs. Ok (map (λ c. name_of name (commit_value c)) (listing h xs))) ≡ Err f → commits_listed name h ws ≡ Err f
       by (Ok xs) k l = absurd (cc l)
-      by (Err g) k l = let same : g ≡ f = cc l in ap (λ d. and_then d (λ ys. Ok (listing h ys))) k ∙ ap Err same
+      by (Err g) k l = let same : g ≡ f = cc l in ap (λ d. d >>= λ ys. Ok (listing h ys)) k ∙ ap Err same
 
   -- the word that a walk refuses is refused where its commits are listed
   pub walk_refused : (ws : List RangeWord) (word : ℕ) (kind : RevFault) → IsWordFault word (fault_of kind) (listed name h ws) → RefusesWord (refused_at word kind) (all_words (commits_listed name h ws))
@@ -146,9 +146,9 @@ module _ (name : Kind → Bytes → Bytes) (h : History) where
   unfolding listed
   logged_fails refs ws f e = by (words_denoted name h ws) refl e
     where
-      by : (d : Result (List Word) WordFault) → words_denoted name h ws ≡ d → and_then d (λ xs. Ok (map (λ c. name_of name (commit_value c)) (listing h xs))) ≡ Err f → commits_logged name h refs ws ≡ Err f
+      by : (d : Result (List Word) WordFault) → words_denoted name h ws ≡ d → (d >>= λ xs. Ok (map (λ c. name_of name (commit_value c)) (listing h xs))) ≡ Err f → commits_logged name h refs ws ≡ Err f
       by (Ok xs) k l = absurd (cc l)
-      by (Err g) k l = let same : g ≡ f = cc l in ap (λ d. and_then d (λ ys. Ok (listing h (with_refs refs h ys)))) k ∙ ap Err same
+      by (Err g) k l = let same : g ≡ f = cc l in ap (λ d. d >>= λ ys. Ok (listing h (with_refs refs h ys))) k ∙ ap Err same
 
   -- and the word that is refused is refused there
   pub logged_refused : (refs : Bool) (ws : List RangeWord) (word : ℕ) (kind : RevFault) → IsWordFault word (fault_of kind) (listed name h ws) → RefusesWord (refused_at word kind) (all_words (commits_logged name h refs ws))

@@ -9,9 +9,8 @@ use Rattle.gx_export.specs.ChangedParts.{AreEither}
 use Rattle.gx_model.specs.declared.objects.Kind.{Kind}
 use Rattle.gx_model.specs.Texts.{Bytes}
 use Rattle.gx_model.specs.Histories.Marks.{holds, marks_of}
-use Rattle.gx_model.specs.Histories.Values.{Commit, Value, blob_value, commit_value, tag_value, tree_value}
+use Rattle.gx_model.specs.Histories.Values.{Commit, Value, blob_value, commit_of, commit_value, tag_value, tree_value}
 use Rattle.gx_model.specs.Records.{name_of}
-use Rattle.gx_model.specs.Revisions.Ranges.{commit_of}
 use Rattle.gx_model.proofs.Revisions.Marking.{mark_tells, marks_are}
 use Rattle.gx_model.specs.Histories.{Records}
 use Rattle.gx_model.specs.Laws.RepositoryLaws.{values_of}

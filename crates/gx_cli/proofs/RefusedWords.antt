@@ -1,6 +1,6 @@
 -- What words give in several steps, and what is printed where one of them is refused.
 use Rattle.std.proofs.Common.{◌≡◌, refl, sym, ap, subst, [], Option, Result, Ok, Err}
-use Rattle.gx_model.specs.Faults.{Given, IsFaultOf, and_then}
+use Rattle.gx_model.specs.Faults.{Given, IsFaultOf, ◌>>=◌}
 use Rattle.gx_model.specs.Revisions.Ranges.{WordFault}
 use Rattle.gx_model.specs.Texts.{Bytes}
 use Rattle.gx_model.specs.Texts.Sinks.{Taken}
@@ -15,26 +15,26 @@ use Rattle.gx_cli.specs.Words.{RefusesWord, refused_at}
 use Rattle.gx_model.proofs.Texts.SentTexts.{took_nothing}
 
 -- what is made of what all words give, in two steps
-pub in_two : {A B C : Type 0} (a : Result A WordFault) (f : A → Result B WordFault) (k : B → C) → all_words (and_then a (λ x. and_then (f x) (λ y. Ok (k y)))) ≡ and_then (all_words (and_then a f)) (λ y. Ok (k y))
+pub in_two : {A B C : Type 0} (a : Result A WordFault) (f : A → Result B WordFault) (k : B → C) → all_words (a >>= λ x. f x >>= λ y. Ok (k y)) ≡ (all_words (a >>= f) >>= λ y. Ok (k y))
 in_two {A} {B} {C} (Err e) f k = refl
 in_two {A} {B} {C} (Ok x) f k = by (f x)
   where
-    by : (r : Result B WordFault) → all_words (and_then r (λ y. Ok (k y))) ≡ and_then (all_words r) (λ y. Ok (k y))
+    by : (r : Result B WordFault) → all_words (r >>= λ y. Ok (k y)) ≡ (all_words r >>= λ y. Ok (k y))
     by (Ok y) = refl
     by (Err e) = refl
 
 -- what the first words give is what the second step is for
-pub then_words : {A B : Type 0} (a : Result A WordFault) (x : A) (f : A → Result B WordFault) → all_words a ≡ Ok x → all_words (and_then a f) ≡ all_words (f x)
+pub then_words : {A B : Type 0} (a : Result A WordFault) (x : A) (f : A → Result B WordFault) → all_words a ≡ Ok x → all_words (a >>= f) ≡ all_words (f x)
 then_words (Ok y) x f e = let same : y ≡ x = cc e in ap (λ z. all_words (f z)) same
 then_words (Err e) x f k = absurd (cc k)
 
 -- where the first words are refused, so are all
-fails_first : {A B : Type 0} (a : Result A WordFault) (f : A → Result B WordFault) (why : Refusal) → all_words a ≡ Err why → all_words (and_then a f) ≡ Err why
+fails_first : {A B : Type 0} (a : Result A WordFault) (f : A → Result B WordFault) (why : Refusal) → all_words a ≡ Err why → all_words (a >>= f) ≡ Err why
 fails_first (Ok x) f why e = absurd (cc e)
 fails_first (Err g) f why e = let same : of_word g.word g.fault ≡ why = cc e in ap Err same
 
 -- and what is refused is what the first words are refused for
-pub first_refused : {A B : Type 0} (a : Result A WordFault) (f : A → Result B WordFault) (fault : CliFault) → RefusesWord fault (all_words a) → RefusesWord fault (all_words (and_then a f))
+pub first_refused : {A B : Type 0} (a : Result A WordFault) (f : A → Result B WordFault) (fault : CliFault) → RefusesWord fault (all_words a) → RefusesWord fault (all_words (a >>= f))
 first_refused a f (cli.Revision number why) h = fails_first a f (of_word number (fault_of why)) h
 first_refused a f cli.OutOfMemory h = tt
 first_refused a f fault h = absurd h
@@ -45,16 +45,16 @@ nothing_in_front (Ok text) = (text, refl)
 nothing_in_front (Err refusal) = refl
 
 -- the first of several words that is refused, and nothing printed
-pub refusal_printed : {Y : Type 0} (given : Result Y Refusal) (text : Y → Bytes) (was : Option Taken) (fault : CliFault) → RefusesWord fault given → Prints (and_then given (λ y. Ok (text y))) was was (Err fault)
-refusal_printed given text was (cli.Revision number why) h = (of_word number (fault_of why), ap (λ r. and_then r (λ y. Ok (text y))) h, (refl, refl), took_nothing was)
-refusal_printed given text was cli.OutOfMemory h = ([], nothing_in_front (and_then given (λ y. Ok (text y))), took_nothing was)
+pub refusal_printed : {Y : Type 0} (given : Result Y Refusal) (text : Y → Bytes) (was : Option Taken) (fault : CliFault) → RefusesWord fault given → Prints (given >>= λ y. Ok (text y)) was was (Err fault)
+refusal_printed given text was (cli.Revision number why) h = (of_word number (fault_of why), ap (λ r. r >>= λ y. Ok (text y)) h, (refl, refl), took_nothing was)
+refusal_printed given text was cli.OutOfMemory h = ([], nothing_in_front (given >>= λ y. Ok (text y)), took_nothing was)
 refusal_printed given text was fault h = absurd h
 
 -- the only word is refused, and nothing printed
-pub only_refused : {Y : Type 0} (given : Given Y) (text : Y → Bytes) (was : Option Taken) (kind : RevFault) → IsFaultOf (fault_of kind) given → Prints (only_word (and_then given (λ y. Ok (text y)))) was was (Err (refused_at 1 kind))
-only_refused given text was OutOfMemory i = ([], nothing_in_front (only_word (and_then given (λ y. Ok (text y)))), took_nothing was)
-only_refused given text was kind i = (of_word 1 (fault_of kind), ap (λ r. only_word (and_then r (λ y. Ok (text y)))) i, (refl, refl), took_nothing was)
+pub only_refused : {Y : Type 0} (given : Given Y) (text : Y → Bytes) (was : Option Taken) (kind : RevFault) → IsFaultOf (fault_of kind) given → Prints (only_word (given >>= λ y. Ok (text y))) was was (Err (refused_at 1 kind))
+only_refused given text was OutOfMemory i = ([], nothing_in_front (only_word (given >>= λ y. Ok (text y))), took_nothing was)
+only_refused given text was kind i = (of_word 1 (fault_of kind), ap (λ r. only_word (r >>= λ y. Ok (text y))) i, (refl, refl), took_nothing was)
 
 -- what is refused in the second step is refused
-pub later_refused : {A B : Type 0} (a : Result A WordFault) (x : A) (f : A → Result B WordFault) (fault : CliFault) → all_words a ≡ Ok x → RefusesWord fault (all_words (f x)) → RefusesWord fault (all_words (and_then a f))
+pub later_refused : {A B : Type 0} (a : Result A WordFault) (x : A) (f : A → Result B WordFault) (fault : CliFault) → all_words a ≡ Ok x → RefusesWord fault (all_words (f x)) → RefusesWord fault (all_words (a >>= f))
 later_refused a x f fault e h = subst (RefusesWord fault) (sym (then_words a x f e)) h

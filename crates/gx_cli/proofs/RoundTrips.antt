@@ -6,7 +6,7 @@ use Rattle.std.proofs.lemmas.Bool.Decides.{nat_tests}
 use Rattle.gx_model.specs.declared.objects.Kind.{Kind}
 use Rattle.gx_model.specs.Texts.{Bytes}
 use Rattle.gx_model.specs.Changes.{changes_text}
-use Rattle.gx_model.specs.Histories.{History, Records}
+use Rattle.gx_model.specs.Histories.{History, Records, empty_repository}
 use Rattle.gx_model.specs.Streams.Commands.{no_features}
 use Rattle.gx_model.specs.Records.HistoryOf.{history_of}
 use Rattle.gx_model.specs.Texts.Paths.{Path}
@@ -17,7 +17,7 @@ use Rattle.gx_model.specs.Streams.Gitlinks.{HoldsNoNullGitlink, HoldsTellsHas}
 use Rattle.gx_model.specs.Texts.Sinks.{Taken, Took}
 use Rattle.gx_text.specs.Devices.{Coming}
 use Rattle.gx_stream.specs.Heard.{heard_upto}
-use Rattle.gx_import.specs.Exported.{ExportedOr, ImportsExport, KeepsNoNullGitlink, nothing}
+use Rattle.gx_import.specs.Exported.{ExportedOr, ImportsExport, KeepsNoNullGitlink}
 use Rattle.gx_import.specs.Imports.{Imports, report_of}
 use Rattle.gx_import.specs.Stopping.{StopsReplay}
 use Rattle.gx_import.specs.declared.report.Report.{Report}
@@ -90,7 +90,7 @@ module _ {N : Type 0} (name_of : N → Kind → Bytes → Bytes) (namer : N) whe
 
   -- the import of an export's text into a repository with nothing
   pub imported_again : (form : ExportForm) (exported old : N × Records) (new : Records) (text : Bytes) (coming : Coming) (was now : Option Taken) (answer : Result Report ImportFault)
-      → FormsAreImported (name_of namer) → HoldsTellsHas → old ≡ (namer, nothing) → exported.0 ≡ namer → IsSound (name_of exported.0) exported.1 → HoldsNoNullGitlink (history_of exported.1)
+      → FormsAreImported (name_of namer) → HoldsTellsHas → old ≡ (namer, empty_repository) → exported.0 ≡ namer → IsSound (name_of exported.0) exported.1 → HoldsNoNullGitlink (history_of exported.1)
       → coming ≡ record { bytes = text; fails = false } → text ≡ text_as (name_of namer) form (history_of exported.1) → length text ≤ most
       → IsSound (name_of old.0) new → Imports no_features (name_of old.0) old.1 new (Some coming) was now answer → IfErr answer (StopsReplay no_features (name_of old.0) old.1 (Some coming))
       → ImportsExport (name_of old.0) old.1 new (Some coming) answer → ExportedOr exported.1 new answer
@@ -99,26 +99,26 @@ module _ {N : Type 0} (name_of : N → Kind → Bytes → Bytes) (namer : N) whe
       let gives = ap (heard_upto most) given ∙ heard_short most (record { bytes = text; fails = false }) short ∙ ap (λ z. record { bytes = z; fails = false }) whole in
       subst (λ (o : N × Records). IsSound (name_of o.0) new → Imports no_features (name_of o.0) o.1 new (Some coming) was now answer → IfErr answer (StopsReplay no_features (name_of o.0) o.1 (Some coming))
       → ImportsExport (name_of o.0) o.1 new (Some coming) answer → ExportedOr exported.1 new answer) (sym empty)
-      (λ s r t e. forms no_features nothing new (Some coming) was now answer s r t (λ leaves. e) form exported.1 (none_leave form) sound_too (tells (history_of exported.1) none) gives refl)
+      (λ s r t e. forms no_features empty_repository new (Some coming) was now answer s r t (λ leaves. e) form exported.1 (none_leave form) sound_too (tells (history_of exported.1) none) gives refl)
       stands replayed stops taken
 
   -- an import into a repository with nothing brings no gitlink of forty zeros
-  pub none_brought : (old : N × Records) (new : Records) → old ≡ (namer, nothing) → HoldsNoNullGitlink (history_of nothing) → KeepsNoNullGitlink old.1 new → HoldsNoNullGitlink (history_of new)
+  pub none_brought : (old : N × Records) (new : Records) → old ≡ (namer, empty_repository) → HoldsNoNullGitlink (history_of empty_repository) → KeepsNoNullGitlink old.1 new → HoldsNoNullGitlink (history_of new)
   none_brought old new empty none keeps = keeps (subst (λ (z : N × Records). HoldsNoNullGitlink (history_of z.1)) (sym empty) none)
 
 -- an import into a repository with nothing
 from_nothing : {N : Type 0} (name_of : N → Kind → Bytes → Bytes) (namer : N) (old : N × Records) (new : Records) (coming : Option Coming) (was now : Option Taken) (answer : Result Report ImportFault)
-    → old ≡ (namer, nothing) → Imports no_features (name_of old.0) old.1 new coming was now answer → Imports no_features (name_of namer) nothing new coming was now answer
+    → old ≡ (namer, empty_repository) → Imports no_features (name_of old.0) old.1 new coming was now answer → Imports no_features (name_of namer) empty_repository new coming was now answer
 from_nothing {N} name_of namer old new coming was now answer empty h = subst (λ (o : N × Records). Imports no_features (name_of o.0) o.1 new coming was now answer) empty h
 
 -- an import into an empty store, and what came after it: a trip with a report, by which a history comes back, and a text of the
 -- export
-module _ {N : Type 0} (name_of : N → Kind → Bytes → Bytes) (namer : N) (old : N × Records) (empty : old ≡ (namer, nothing)) (was now : Option Taken) {T : Type 0} (told : T → Report) (IsBack : History → T → Type 0) (text_of : History → Bytes) where
+module _ {N : Type 0} (name_of : N → Kind → Bytes → Bytes) (namer : N) (old : N × Records) (empty : old ≡ (namer, empty_repository)) (was now : Option Taken) {T : Type 0} (told : T → Report) (IsBack : History → T → Type 0) (text_of : History → Bytes) where
   -- it was refused
   pub refused_first : (coming : Option Coming) (new : Records) (fault : ImportFault) → Imports no_features (name_of old.0) old.1 new coming was now (Err fault) → Returns (name_of namer) told IsBack text_of coming was now (Err (Import fault))
   refused_first coming new fault h = by coming (from_nothing name_of namer old new coming was now (Err fault) empty h)
     where
-      by : (c : Option Coming) → Imports no_features (name_of namer) nothing new c was now (Err fault) → Returns (name_of namer) told IsBack text_of c was now (Err (Import fault))
+      by : (c : Option Coming) → Imports no_features (name_of namer) empty_repository new c was now (Err fault) → Returns (name_of namer) told IsBack text_of c was now (Err (Import fault))
       by None k = (k.0, k.1, (new, k.2))
       by (Some c) k = (new, k)
 
@@ -127,7 +127,7 @@ module _ {N : Type 0} (name_of : N → Kind → Bytes → Bytes) (namer : N) (ol
       → Returns (name_of namer) told IsBack text_of coming was now (Err fault)
   stopped_between A coming new report fault h stops = by coming fault (from_nothing name_of namer old new coming was now (Ok report) empty h) stops
     where
-      by : (c : Option Coming) (f : CliFault) → Imports no_features (name_of namer) nothing new c was now (Ok report) → GivesText {A = A} (text_of (history_of new)) (Err f) → Returns (name_of namer) told IsBack text_of c was now (Err f)
+      by : (c : Option Coming) (f : CliFault) → Imports no_features (name_of namer) empty_repository new c was now (Ok report) → GivesText {A = A} (text_of (history_of new)) (Err f) → Returns (name_of namer) told IsBack text_of c was now (Err f)
       by None OutOfMemory k s = (k.0, k.1, (history_of new, report_of report, k.2))
       by None (Export f) k s = (k.0, k.1, (history_of new, report_of report, k.2, s))
       by None f k s = absurd s
@@ -140,12 +140,12 @@ module _ {N : Type 0} (name_of : N → Kind → Bytes → Bytes) (namer : N) (ol
       → Returns (name_of namer) told IsBack text_of coming was now (Ok trip)
   came_back coming new report trip h same back = by coming (from_nothing name_of namer old new coming was now (Ok (told trip)) empty (subst (λ r. Imports no_features (name_of old.0) old.1 new coming was now (Ok r)) (sym same) h))
     where
-      by : (c : Option Coming) → Imports no_features (name_of namer) nothing new c was now (Ok (told trip)) → Returns (name_of namer) told IsBack text_of c was now (Ok trip)
+      by : (c : Option Coming) → Imports no_features (name_of namer) empty_repository new c was now (Ok (told trip)) → Returns (name_of namer) told IsBack text_of c was now (Ok trip)
       by None m = (m.0, m.1, (history_of new, m.2, back))
       by (Some c) m = (history_of new, m, back)
 
 -- the round trip
-module _ {N : Type 0} (name_of : N → Kind → Bytes → Bytes) (namer : N) (revision : Revision) (path : Path) (old : N × Records) (empty : old ≡ (namer, nothing)) (was now : Option Taken) where
+module _ {N : Type 0} (name_of : N → Kind → Bytes → Bytes) (namer : N) (revision : Revision) (path : Path) (old : N × Records) (empty : old ≡ (namer, empty_repository)) (was now : Option Taken) where
   -- its import was refused
   pub trip_refused : (A : Type 0) (coming : Option Coming) (new : Records) (fault : ImportFault) → Imports no_features (name_of old.0) old.1 new coming was now (Err fault) → RoundTrips (name_of namer) revision path {N = N} {A = A} coming was now (Err (Import fault))
   trip_refused A coming new fault h = refused_first name_of namer old empty was now (λ (trip : RoundTrip N A). trip.report) (ComesBack (name_of namer) revision path) export_text coming new fault h

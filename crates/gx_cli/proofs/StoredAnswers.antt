@@ -3,7 +3,7 @@ use Rattle.std.proofs.Common.{◌≡◌, refl, sym, ap, subst, [], Option, Resul
 use Rattle.gx_model.specs.declared.objects.Kind.{Kind}
 use Rattle.gx_model.specs.Texts.{Bytes}
 use Rattle.gx_model.specs.Faults.{Given}
-use Rattle.gx_model.specs.Histories.{Records}
+use Rattle.gx_model.specs.Histories.{Records, empty_repository}
 use Rattle.gx_model.specs.Stores.StoreReading.{Stored, store_of}
 use Rattle.gx_model.specs.Texts.Sinks.{Taken}
 use Rattle.gx_file.specs.Faults.{IsFaultOf}
@@ -13,7 +13,6 @@ use Rattle.gx_rev.specs.RevFaults as rev
 use Rattle.gx_cli.specs.Answers.{IsFrontOf, Prints}
 use Rattle.gx_cli.specs.Serving.{IsWritten, printed_by}
 use Rattle.gx_cli.specs.Stored.{Printed, of_store, of_stored, of_word, only_word}
-use Rattle.gx_import.specs.Exported.{nothing}
 use Rattle.gx_cli.specs.Trying.{Shows}
 use Rattle.gx_cli.specs.declared.questions.Question.{Question}
 use Rattle.gx_cli.specs.declared.fault.CliFault.{CliFault}
@@ -61,5 +60,5 @@ question_printed name_of namer repository store asked was now answer same read h
     read_printed name_of namer repository (λ name. store_of name store) (λ name. printed_by name asked) was now answer same read h
 
 -- what is written of a new repository
-pub written_new : {N A : Type 0} (name_of : N → Kind → Bytes → Bytes) (repository : N × Records) (namer : N) (outcome : Outcome A) → repository ≡ (namer, nothing) → IsWritten (name_of repository.0) repository.1 outcome → IsWritten (name_of namer) nothing outcome
+pub written_new : {N A : Type 0} (name_of : N → Kind → Bytes → Bytes) (repository : N × Records) (namer : N) (outcome : Outcome A) → repository ≡ (namer, empty_repository) → IsWritten (name_of repository.0) repository.1 outcome → IsWritten (name_of namer) empty_repository outcome
 written_new {N} name_of repository namer outcome same h = subst (λ (r : N × Records). IsWritten (name_of r.0) r.1 outcome) same h

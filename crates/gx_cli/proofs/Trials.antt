@@ -5,7 +5,7 @@ use Rattle.gx_model.specs.declared.features.Features.{Features}
 use Rattle.gx_model.specs.Texts.{Bytes}
 use Rattle.gx_model.specs.Faults.{Given}
 use Rattle.gx_model.specs.Streams.Commands.{Commands}
-use Rattle.gx_model.specs.Histories.{Records}
+use Rattle.gx_model.specs.Histories.{Records, empty_repository}
 use Rattle.gx_model.specs.Records.HistoryOf.{history_of}
 use Rattle.gx_model.specs.Replay.{Outcome}
 use Rattle.gx_model.specs.Texts.Sinks.{Taken, Took}
@@ -15,7 +15,6 @@ use Rattle.gx_import.specs.Imports.{Imports, report_of}
 use Rattle.gx_import.specs.declared.report.Report.{Report}
 use Rattle.gx_import.specs.declared.fault.ImportFault.{ImportFault}
 use Rattle.gx_cli.specs.Listings.{text_of_word}
-use Rattle.gx_import.specs.Exported.{nothing}
 use Rattle.gx_cli.specs.Trying.{ImportsAlone, Shows, ShowsReplayed, StandsAlone, Tries}
 use Rattle.gx_cli.specs.declared.fault.CliFault.{CliFault}
 use Rattle.gx_cli.specs.declared.fault.CliFault.TheVariants.{Import, OutOfMemory, WriteFailed}
@@ -23,20 +22,20 @@ use Rattle.gx_cli.specs.declared.fault.CliFault.TheVariants as cli
 use Rattle.gx_model.proofs.Texts.SentTexts.{failed_after, took_both}
 
 -- an import into a repository with nothing, where it is refused
-pub refused_alone : {N : Type 0} (asks : Features) (name_of : N → Kind → Bytes → Bytes) (namer : N) (old : N × Records) (new : Records) (coming : Option Coming) (was now : Option Taken) (fault : ImportFault) → old ≡ (namer, nothing)
+pub refused_alone : {N : Type 0} (asks : Features) (name_of : N → Kind → Bytes → Bytes) (namer : N) (old : N × Records) (new : Records) (coming : Option Coming) (was now : Option Taken) (fault : ImportFault) → old ≡ (namer, empty_repository)
     → Imports asks (name_of old.0) old.1 new coming was now (Err fault) → ImportsAlone (name_of namer) {N = N} asks coming was now (Err fault)
 refused_alone {N} asks name_of namer old new coming was now fault e h = by coming (subst (λ (o : N × Records). Imports asks (name_of o.0) o.1 new coming was now (Err fault)) e h)
   where
-    by : (c : Option Coming) → Imports asks (name_of namer) nothing new c was now (Err fault) → ImportsAlone (name_of namer) {N = N} asks c was now (Err fault)
+    by : (c : Option Coming) → Imports asks (name_of namer) empty_repository new c was now (Err fault) → ImportsAlone (name_of namer) {N = N} asks c was now (Err fault)
     by None k = (k.0, k.1, (new, k.2))
     by (Some c) k = (new, k)
 
 -- an import into a repository with nothing, where it is accepted
-pub accepted_alone : {N : Type 0} (asks : Features) (name_of : N → Kind → Bytes → Bytes) (namer : N) (old new : N × Records) (coming : Option Coming) (was now : Option Taken) (report : Report) → old ≡ (namer, nothing)
+pub accepted_alone : {N : Type 0} (asks : Features) (name_of : N → Kind → Bytes → Bytes) (namer : N) (old new : N × Records) (coming : Option Coming) (was now : Option Taken) (report : Report) → old ≡ (namer, empty_repository)
     → Imports asks (name_of old.0) old.1 new.1 coming was now (Ok report) → ImportsAlone (name_of namer) {N = N} asks coming was now (Ok new)
 accepted_alone {N} asks name_of namer old new coming was now report e h = by coming (subst (λ (o : N × Records). Imports asks (name_of o.0) o.1 new.1 coming was now (Ok report)) e h)
   where
-    by : (c : Option Coming) → Imports asks (name_of namer) nothing new.1 c was now (Ok report) → ImportsAlone (name_of namer) {N = N} asks c was now (Ok new)
+    by : (c : Option Coming) → Imports asks (name_of namer) empty_repository new.1 c was now (Ok report) → ImportsAlone (name_of namer) {N = N} asks c was now (Ok new)
     by None k = (k.0, k.1, (k.2.0, (report_of report, k.2.1), k.2.2))
     by (Some c) k = (k.0, (report_of report, k.1), k.2)
 

@@ -5,14 +5,14 @@ use Rattle.gx_model.specs.declared.objects.Kind.{Kind}
 use Rattle.gx_model.specs.declared.features.Features.{Features}
 use Rattle.gx_model.specs.Texts.{Bytes}
 use Rattle.gx_model.specs.Texts.Sinks.{Taken}
-use Rattle.gx_model.specs.Histories.{Records}
+use Rattle.gx_model.specs.Histories.{Records, empty_repository}
 use Rattle.gx_model.specs.Laws.ExportLaws.{HasNoNullGitlink}
 use Rattle.gx_model.specs.Records.HistoryOf.{history_of}
 use Rattle.gx_model.specs.Records.Sound.{IsSound}
 use Rattle.gx_model.specs.Stores.StoreReading.{Stored, store_of}
 use Rattle.gx_text.specs.Devices.{Coming}
 use Rattle.gx_stream.specs.Heard.{heard}
-use Rattle.gx_import.specs.Exported.{ExportedOr, ImportsExport, IsExported, LeaveExports, nothing}
+use Rattle.gx_import.specs.Exported.{ExportedOr, ImportsExport, IsExported, LeaveExports}
 use Rattle.gx_import.specs.Imports.{Imports}
 use Rattle.gx_import.specs.Stopping.{StopsReplay}
 use Rattle.gx_import.specs.declared.fault.ImportFault.{ImportFault}
@@ -51,7 +51,7 @@ module _ (name : Kind → Bytes → Bytes) where
   ImportsForms asks old new None result = ⊤
   ImportsForms asks old new (Some coming) result =
       (form : ExportForm) (exported : Records) → LeaveForm form asks → IsSound name exported → HasNoNullGitlink (history_of exported)
-      → GivesForm name form exported coming → old ≡ nothing → ExportedOr exported new result
+      → GivesForm name form exported coming → old ≡ empty_repository → ExportedOr exported new result
 
   -- an import that is what the replay gives, and takes the export with all files, takes it in any form
   abbrev pub FormsAreImported : Type 0
@@ -71,7 +71,7 @@ module _ (name : Kind → Bytes → Bytes) {A : Type 0} where
   ImportsAgain asks stored None o = ⊤
   ImportsAgain asks stored (Some coming) o =
       (form : ExportForm) (exported : Records) → LeaveForm form asks → IsSound name exported → HasNoNullGitlink (history_of exported)
-      → GivesForm name form exported coming → stored ≡ Ok nothing → IsAgainOr exported o
+      → GivesForm name form exported coming → stored ≡ Ok empty_repository → IsAgainOr exported o
 
   -- the same of the store of a text, which is read first
   abbrev pub IntoAgain : Features → Bytes → Option Coming → Outcome A → Type 0

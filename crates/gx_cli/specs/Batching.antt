@@ -21,7 +21,8 @@ use Rattle.gx_cli.specs.Gathering.{batch_answer}
 use Rattle.gx_cli.specs.Opening.{bytes_of}
 use Rattle.gx_cli.specs.Serving.{AnswersLines, BatchesStored, ending_of, format_parts, line_answer, printed_by}
 use Rattle.gx_cli.specs.Logs.{log_text}
-use Rattle.gx_cli.specs.Stored.{names_text, texts_of}
+use Rattle.gx_cli.specs.Stored.{names_text}
+use Rattle.gx_text.specs.Lent.{lent_texts}
 use Rattle.gx_cli.specs.Words.{words_in}
 use Rattle.gx_cli.specs.declared.commanding.asked.Asked.{Asked as Line}
 use Rattle.gx_cli.specs.declared.commanding.asked.Asked.TheVariants as asks
@@ -78,7 +79,7 @@ module _ {N W : Type 0} (name_of : N → Kind → Bytes → Bytes) (taken : W �
 
   -- what a question prints goes out behind the line of its command, or the word that is refused, and why
   abbrev pub SendsPrinted : Bytes → List (Bor Bytes) → Question → W → W → Result (Unit {0}) BatchFault → Type 0
-  SendsPrinted command words asked old new answer = Sent (answered command (texts_of words) (printed_by (name_of repo.0) asked repo.1)) (taken old) (taken new) answer
+  SendsPrinted command words asked old new answer = Sent (answered command (lent_texts words) (printed_by (name_of repo.0) asked repo.1)) (taken old) (taken new) answer
 
   -- the same of the commits that range words list, and of the names of what revisions give
   abbrev pub SendsLog : List Bytes → W → W → Result (Unit {0}) BatchFault → Type 0

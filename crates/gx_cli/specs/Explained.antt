@@ -4,7 +4,7 @@ use Rattle.std.specs.Prelude.{◌≡◌, ◌⊎◌, Option, Result, Ok, Err}
 use Rattle.gx_model.specs.declared.objects.Kind.{Kind}
 use Rattle.gx_model.specs.declared.features.Features.{Features}
 use Rattle.gx_model.specs.Texts.{Bytes}
-use Rattle.gx_model.specs.Histories.{Records}
+use Rattle.gx_model.specs.Histories.{Records, empty_repository}
 use Rattle.gx_model.specs.Stores.StoreReading.{Stored, store_of}
 use Rattle.gx_text.specs.Devices.{Coming}
 use Rattle.gx_repo.specs.Repositories.{Repository}
@@ -31,7 +31,7 @@ module _ (name : Kind → Bytes → Bytes) {A : Type 0} where
 
   -- the same of a stream that is tried, which is imported into an empty store
   abbrev pub ExplainsTry : {X : Type 0} → Features → Option Coming → Result X CliFault → Explanation A → Type 0
-  ExplainsTry asks coming answer told = ExplainsCommand asks nothing coming answer told
+  ExplainsTry asks coming answer told = ExplainsCommand asks empty_repository coming answer told
 
 module _ {N X A : Type 0} (name_of : N → Kind → Bytes → Bytes) where
   -- the same of an import into the store of a text, which is read first

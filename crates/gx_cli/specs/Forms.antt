@@ -7,7 +7,7 @@ use Rattle.gx_model.specs.Texts.Sinks.{Taken}
 use Rattle.gx_model.specs.Changes.{changes_text}
 use Rattle.gx_model.specs.Export.{export_text}
 use Rattle.gx_model.specs.Histories.{History, Records}
-use Rattle.gx_model.specs.Faults.{and_then}
+use Rattle.gx_model.specs.Faults.{◌>>=◌}
 use Rattle.gx_model.specs.Records.HistoryOf.{history_of}
 use Rattle.gx_model.specs.Revisions.{RangeWord, range_of}
 use Rattle.gx_model.specs.Revisions.Ranges.{each_word}
@@ -41,5 +41,5 @@ module _ (name : Kind → Bytes → Bytes) where
       (asked : List RangeWord) × (each_word range_of words ≡ Ok asked) × DeliversWords name done (history_of repository) asked was now (Err fault)
   SendsRange done repository words was now (Err OutOfMemory) = now ≡ was
   SendsRange done repository words was now (Err (Revision number kind)) =
-      (now ≡ was) × (all_words (and_then (each_word range_of words) (commits_listed name (history_of repository))) ≡ Err (of_word number (fault_of kind)))
+      (now ≡ was) × (all_words (each_word range_of words >>= commits_listed name (history_of repository)) ≡ Err (of_word number (fault_of kind)))
   SendsRange done repository words was now (Err fault) = ⊥

@@ -7,7 +7,7 @@ use Rattle.gx_model.specs.declared.objects.Kind.{Kind}
 use Rattle.gx_model.specs.Texts.{Bytes}
 use Rattle.gx_model.specs.Texts.Paths.{Path}
 use Rattle.gx_model.specs.Streams.Commands.{Commands, no_features}
-use Rattle.gx_model.specs.Histories.{History, Records}
+use Rattle.gx_model.specs.Histories.{History, Records, empty_repository, no_history}
 use Rattle.gx_model.specs.Records.HistoryOf.{history_of}
 use Rattle.gx_model.specs.Revisions.{Revision}
 use Rattle.gx_model.specs.Revisions.Denotation.{looked_up}
@@ -18,7 +18,7 @@ use Rattle.gx_model.specs.Texts.Sinks.{Taken, Took}
 use Rattle.gx_text.specs.Devices.{Coming}
 use Rattle.gx_stream.specs.Heard.{heard}
 use Rattle.gx_command.specs.Reading.{commands_from}
-use Rattle.gx_import.specs.Exported.{IsExported, nothing}
+use Rattle.gx_import.specs.Exported.{IsExported}
 use Rattle.gx_import.specs.Imports.{AreRead, replayed_on, report_of}
 use Rattle.gx_import.specs.declared.report.Report.{Report}
 use Rattle.gx_import.specs.declared.fault.ImportFault.{ImportFault}
@@ -26,7 +26,7 @@ use Rattle.gx_model.specs.declared.faults.Fault.TheVariants as kind
 use Rattle.gx_export.specs.Outputs.{most}
 use Rattle.gx_line.specs.declared.command_line.ExportForm.{ExportForm}
 use Rattle.gx_cli.specs.Forms.{text_as}
-use Rattle.gx_cli.specs.Trying.{LooksAs, Refuses, no_history}
+use Rattle.gx_cli.specs.Trying.{LooksAs, Refuses}
 use Rattle.gx_cli.specs.declared.fault.CliFault.{CliFault}
 use Rattle.gx_cli.specs.declared.fault.CliFault.TheVariants.{Export, Import, OutOfMemory}
 use Rattle.gx_cli.specs.declared.trips.RoundTrip.{RoundTrip}
@@ -67,7 +67,7 @@ module _ (name : Kind → Bytes → Bytes) {T : Type 0} (told : T → Report) (I
 
   -- The same of the commands of a source. Where it tells nothing, there are commands that a reader gives.
   abbrev pub Returns : Option Coming → Option Taken → Option Taken → Result T CliFault → Type 0
-  Returns None was now answer = (commands : Commands) × AreRead commands × ReturnsFrom commands (replayed_on no_features name nothing commands) was now answer
+  Returns None was now answer = (commands : Commands) × AreRead commands × ReturnsFrom commands (replayed_on no_features name empty_repository commands) was now answer
   Returns (Some coming) was now answer =
       ReturnsFrom (commands_from coming) (imported name no_history (heard coming).bytes (heard coming).fails) was now answer
 

@@ -3,10 +3,6 @@ use Rattle.std.specs.Prelude.{ℕ, [], ◌++◌, codes, Some, None}
 use Rattle.gx_model.specs.Texts.{Bytes, cut_at}
 use Rattle.gx_cli.specs.Messages.{trimmed}
 
--- what stands before the first of a byte, and what stands behind it; where there is none, nothing
-abbrev pub parts_at : ℕ → Bytes → Bytes × Bytes
-parts_at c text = elim (cut_at c text) [ Some parts ↦ parts | None ↦ ([], []) ]
-
 -- the name stands before the `<`
 abbrev pub name_in : Bytes → Bytes
 name_in ident = trimmed (parts_at 60 ident).0

@@ -7,7 +7,7 @@ use Rattle.gx_model.specs.declared.objects.Kind.{Kind}
 use Rattle.gx_model.specs.declared.objects.Mode.{Mode}
 use Rattle.gx_model.specs.declared.objects.Mode.TheVariants.{Gitlink, Dir}
 use Rattle.gx_model.specs.Texts.{Bytes}
-use Rattle.gx_model.specs.Faults.{Given, and_then}
+use Rattle.gx_model.specs.Faults.{Given, ◌>>=◌}
 use Rattle.gx_model.specs.Texts.Paths.{path_of, printed}
 use Rattle.gx_model.specs.Histories.Files.{FileMap, file_at, first_components, sub_map}
 use Rattle.gx_model.specs.Histories.Values.{Value, blob_value, commit_value, tag_value, tree_value}
@@ -59,7 +59,7 @@ module _ (name : Kind → Bytes → Bytes) where
 
   -- the text that a word shows as a revision in a history
   abbrev pub text_of_word : History → Bytes → Given Bytes
-  text_of_word h word = and_then (and_then (revision_of word) (denoted name h)) (λ shown. Ok (shown_text shown))
+  text_of_word h word = (revision_of word >>= denoted name h) >>= λ shown. Ok (shown_text shown)
 
 -- the component of an entry is a path
 abbrev pub IsListed : Entry → Type 0

@@ -3,7 +3,7 @@ use Rattle.std.specs.Prelude.{◌≡◌, ℕ, Bool, true, false, if◌then◌els
 use Rattle.std.specs.List.{flat_map, join_by}
 use Rattle.gx_model.specs.declared.objects.Kind.{Kind}
 use Rattle.gx_model.specs.Texts.{Bytes}
-use Rattle.gx_model.specs.Faults.{and_then}
+use Rattle.gx_model.specs.Faults.{◌>>=◌}
 use Rattle.gx_model.specs.Histories.Values.{Commit, CommitText, commit_value, parents_of, text_of}
 use Rattle.gx_model.specs.Histories.{History, Records}
 use Rattle.gx_model.specs.Objects.{CommitParts, commit_text, hex}
@@ -80,7 +80,7 @@ gap _ = []
 module _ (name : Kind → Bytes → Bytes) where
   -- the commits that range words list, and where that is asked for those of all refs
   abbrev pub commits_logged : History → Bool → List RangeWord → Result (List Commit) WordFault
-  commits_logged h refs ws = and_then (words_denoted name h ws) (λ xs. Ok (listing h (with_refs refs h xs)))
+  commits_logged h refs ws = words_denoted name h ws >>= λ xs. Ok (listing h (with_refs refs h xs))
 
   -- the digits of a commit's name
   abbrev pub digits_of : Commit → Bytes

@@ -9,7 +9,7 @@ use Rattle.gx_model.specs.declared.objects.Kind.TheVariants as kinds
 use Rattle.gx_model.specs.Revisions.Denotation.{denoted}
 use Rattle.gx_model.specs.Histories.{Records}
 use Rattle.gx_model.specs.Histories.Marks.{marks_of}
-use Rattle.gx_model.specs.Histories.Values.{Commit, commit_value}
+use Rattle.gx_model.specs.Histories.Values.{Commit, commit_of, commit_value}
 use Rattle.gx_model.specs.Laws.RepositoryLaws.{values_of, with_refs}
 use Rattle.gx_model.specs.Records.HistoryOf.{history_of}
 use Rattle.gx_model.specs.Revisions.Ranges.{commit_of, each_word}
@@ -46,7 +46,7 @@ use Rattle.gx_cli.specs.declared.serving.Outcome.{Outcome}
 
 -- these range words, put into a list, or the first word that isn't one
 abbrev pub ReadsRangesInto : {A : Type 0} → List (Bor Bytes) → List (Range A) → Result (Unit {0}) CliFault → Type 0
-ReadsRangesInto words ranges result = GivesWords (λ done. map shown_range ranges) result (all_words (each_word range_of (texts_of words)))
+ReadsRangesInto words ranges result = GivesWords (λ done. map shown_range ranges) result (all_words (each_word range_of (lent_texts words)))
 
 -- each of these names is that of a held commit
 abbrev pub AreCommits : Records → List Name → Type 0
@@ -67,7 +67,7 @@ DropsAll old new names (Err fault) = (number : ℕ) × (fault ≡ unknown_at num
 
 -- words, and lines behind them
 abbrev pub with_lines : {A : Type 0} → List (Bor Bytes) → List (Vec ℕ A) → List Bytes
-with_lines words lines = texts_of words ++ map (λ line. line.items) lines
+with_lines words lines = lent_texts words ++ map (λ line. line.items) lines
 
 -- ---- what is found in a repository
 
@@ -107,12 +107,12 @@ module _ {N W : Type 0} (name_of : N → Kind → Bytes → Bytes) (taken : W �
   -- the names of what revisions give of the store of these bytes go out, and how the command ends
   abbrev pub NamesStore : {A : Type 0} → N → List (Bor Bytes) → StoreBytes A → W → W → Outcome A → Type 0
   NamesStore namer words store old new o =
-      PrintsStored (store_of (name_of namer) (bytes_of store)) (λ r. names_text (name_of namer) (history_of r) (texts_of words)) (taken old) (taken new) o
+      PrintsStored (store_of (name_of namer) (bytes_of store)) (λ r. names_text (name_of namer) (history_of r) (lent_texts words)) (taken old) (taken new) o
 
   -- the export of what range words give, of the store of these bytes, goes out, and how the command ends
   abbrev pub SendsRangeOf : {A : Type 0} → N → Bool → List (Bor Bytes) → StoreBytes A → W → W → Outcome A → Type 0
   SendsRangeOf namer done words store old new o =
-      ExportsRangeStored (name_of namer) done (store_of (name_of namer) (bytes_of store)) (texts_of words) (taken old) (taken new) o
+      ExportsRangeStored (name_of namer) done (store_of (name_of namer) (bytes_of store)) (lent_texts words) (taken old) (taken new) o
 
   -- the commits that words and lines behind them list go out, or the first that is refused is answered
   abbrev pub LogsWords : {A : Type 0} → Repository N → LogOptions → List (Bor Bytes) → List (Vec ℕ A) → W → W → Result (Unit {0}) CliFault → Type 0
@@ -122,7 +122,7 @@ module _ {N W : Type 0} (name_of : N → Kind → Bytes → Bytes) (taken : W �
   -- the same of words and, where they are asked for, of the lines of a source, of the store of these bytes, and how the command ends
   abbrev pub LogsStored : {A : Type 0} → N → LogOptions → List (Bor Bytes) → StoreBytes A → Option Coming → W → W → Outcome A → Type 0
   LogsStored namer options words store coming old new o =
-      LogsOf (name_of namer) options (store_of (name_of namer) (bytes_of store)) (texts_of words) coming (taken old) (taken new) o
+      LogsOf (name_of namer) options (store_of (name_of namer) (bytes_of store)) (lent_texts words) coming (taken old) (taken new) o
 
   -- the commits of these names go out, which stand behind another one
   abbrev pub PrintsOthers : Repository N → LogOptions → List Name → W → W → Result (Unit {0}) CliFault → Type 0

@@ -6,7 +6,7 @@ use Rattle.std.specs.declared.vec.Vec.{Vec}
 use Rattle.gx_model.specs.declared.objects.Kind.{Kind}
 use Rattle.gx_model.specs.declared.features.Features.{Features}
 use Rattle.gx_model.specs.Texts.{Bytes}
-use Rattle.gx_model.specs.Histories.{Records}
+use Rattle.gx_model.specs.Histories.{Records, empty_repository}
 use Rattle.gx_model.specs.Laws.RepositoryLaws.{with_refs}
 use Rattle.gx_model.specs.Records.HistoryOf.{history_of}
 use Rattle.gx_model.specs.Records.Publishing.{Ref}
@@ -17,7 +17,7 @@ use Rattle.gx_model.specs.Stores.StoreReading.{Stored, store_of}
 use Rattle.gx_model.specs.Texts.Sinks.{Taken}
 use Rattle.gx_text.specs.Devices.{Coming}
 use Rattle.gx_stream.specs.Heard.{heard, items_from}
-use Rattle.gx_import.specs.Exported.{KeepsNoNullGitlink, nothing}
+use Rattle.gx_import.specs.Exported.{KeepsNoNullGitlink}
 use Rattle.gx_import.specs.Imports.{Imports}
 use Rattle.gx_import.specs.declared.fault.ImportFault.{ImportFault}
 use Rattle.gx_import.specs.declared.report.Report.{Report}
@@ -55,7 +55,8 @@ use Rattle.gx_cli.specs.Gathering.{AdaptsStream, batch_answer}
 use Rattle.gx_cli.specs.Logs.{LogsFrom, log_text}
 use Rattle.gx_cli.specs.Placing.{PlacesFrom}
 use Rattle.gx_blobs.specs.Printing.{PrintsBlobs}
-use Rattle.gx_cli.specs.Stored.{Printed, list_text, names_text, of_stored, refs_text, show_text, tar_text, texts_of}
+use Rattle.gx_cli.specs.Stored.{Printed, list_text, names_text, of_stored, refs_text, show_text, tar_text}
+use Rattle.gx_text.specs.Lent.{lent_texts}
 use Rattle.gx_cli.specs.Trying.{FindsFault, Tries}
 
 -- the features that a line asks for
@@ -142,8 +143,8 @@ printed_by name (question.Show word) r = show_text name (history_of r) word.now
 printed_by name (question.List recursive word) r = list_text name recursive (history_of r) word.now
 printed_by name (question.Archive prefix word) r = tar_text name prefix.now (history_of r) word.now
 printed_by name question.Refs r = Ok (refs_text r)
-printed_by name (question.Log options words) r = log_text name options (history_of r) (texts_of words.now)
-printed_by name (question.Names words) r = names_text name (history_of r) (texts_of words.now)
+printed_by name (question.Log options words) r = log_text name options (history_of r) (lent_texts words.now)
+printed_by name (question.Names words) r = names_text name (history_of r) (lent_texts words.now)
 
 -- how lines end, with NUL or with LF
 abbrev pub ending_of : Bool → LineEnding
@@ -246,15 +247,15 @@ module _ (name : Kind → Bytes → Bytes) {A : Type 0} where
   Serves (line.Where command) store coming was now o = (answer : Result (Unit {0}) CliFault) × PlacesFrom command coming was now answer × IsOutcome answer o
   Serves (line.WhereFault done force) store coming was now o = (answer : Result (Unit {0}) CliFault) × FindsFault name (features_of done force) coming answer × IsOutcome answer o × (now ≡ was)
   Serves (line.Batch form format nul file) store coming was now o = AnswersLines form (format_parts format) (ending_of nul) store coming was now o
-  Serves (line.Init file) store coming was now o = IsWritten name nothing o × (now ≡ was)
+  Serves (line.Init file) store coming was now o = IsWritten name empty_repository o × (now ≡ was)
   Serves (line.Import file done force report explain) store coming was now o = (told : Option Report) × ImportsInto (features_of done force) store coming was now (o, told)
-  Serves (line.Drop file words stdin) store coming was now o = DropsRefs stdin (store_of name store) (texts_of words.items) coming o × (now ≡ was)
+  Serves (line.Drop file words stdin) store coming was now o = DropsRefs stdin (store_of name store) (lent_texts words.items) coming o × (now ≡ was)
   Serves (line.Gc file report) store coming was now o = CollectsInto (store_of name store) o × (now ≡ was)
   Serves (line.Export form file) store coming was now o = ExportsStore name form store was now o
-  Serves (line.ExportRange done file words) store coming was now o = ExportsRangeStored name done (store_of name store) (texts_of words.items) was now o
+  Serves (line.ExportRange done file words) store coming was now o = ExportsRangeStored name done (store_of name store) (lent_texts words.items) was now o
   Serves (line.Show file word) store coming was now o = PrintsStored (store_of name store) (λ r. show_text name (history_of r) word.now) was now o
   Serves (line.Ls recursive file word) store coming was now o = PrintsStored (store_of name store) (λ r. list_text name recursive (history_of r) word.now) was now o
   Serves (line.Archive prefix file word) store coming was now o = PrintsStored (store_of name store) (λ r. tar_text name prefix.now (history_of r) word.now) was now o
   Serves (line.Refs file) store coming was now o = PrintsStored (store_of name store) (λ r. Ok (refs_text r)) was now o
-  Serves (line.Log options file words) store coming was now o = LogsOf options (store_of name store) (texts_of words.items) coming was now o
-  Serves (line.RevParse file words) store coming was now o = PrintsStored (store_of name store) (λ r. names_text name (history_of r) (texts_of words.items)) was now o
+  Serves (line.Log options file words) store coming was now o = LogsOf options (store_of name store) (lent_texts words.items) coming was now o
+  Serves (line.RevParse file words) store coming was now o = PrintsStored (store_of name store) (λ r. names_text name (history_of r) (lent_texts words.items)) was now o

@@ -2,12 +2,11 @@
 -- Source: git-cat-file(1), git-ls-tree(1), git-archive(1), git-show-ref(1) and git-rev-parse(1).
 use Rattle.std.specs.Prelude.{ℕ, Bool, if◌then◌else◌, List, [], ◌∷◌, ◌++◌, map, Result, Ok, Err}
 use Rattle.std.specs.List.{flat_map}
-use Rattle.std.specs.Borrow.{Bor}
 use Rattle.gx_model.specs.declared.objects.Kind.{Kind}
 use Rattle.gx_model.specs.declared.faults.Fault.{Fault}
 use Rattle.gx_model.specs.declared.store_faults.FileFault.{FileFault}
 use Rattle.gx_model.specs.Texts.{Bytes}
-use Rattle.gx_model.specs.Faults.{Given, and_then}
+use Rattle.gx_model.specs.Faults.{Given, ◌>>=◌}
 use Rattle.gx_model.specs.Texts.Paths.{Path, path_text}
 use Rattle.gx_model.specs.Histories.Files.{FileMap, Leaf}
 use Rattle.gx_model.specs.Histories.Values.{Commit}
@@ -19,7 +18,6 @@ use Rattle.gx_model.specs.Revisions.Denotation.{Shown, denoted, files_in, object
 use Rattle.gx_model.specs.Revisions.Ranges.{WordFault, each_word, listing, words_denoted}
 use Rattle.gx_model.specs.Stores.StoreText.{stored_ref}
 use Rattle.gx_model.specs.Stores.StoreReading.{Stored}
-use Rattle.gx_object.specs.declared.name.Name.{Name}
 use Rattle.gx_archive.specs.Archives.{archive_of}
 use Rattle.gx_cli.specs.Listings.{entry_line, text_of_word, tree_lines}
 
@@ -49,15 +47,7 @@ abbrev pub of_stored : Stored Records → (Records → Printed) → Printed
 of_stored (Ok repository) given = given repository
 of_stored (Err f) given = Err (of_store f)
 
--- words without where they lie in memory
-abbrev pub texts_of : List (Bor Bytes) → List Bytes
-texts_of = map (λ word. word.now)
-
 -- ---- refs
-
--- the digits of a ref's object, and the ref's own name
-abbrev pub line_of_ref : Bytes → Name → Bytes
-line_of_ref name called = stored_ref (name, called.bytes)
 
 -- each ref's object and name
 abbrev pub refs_text : Records → Bytes
@@ -72,7 +62,7 @@ module _ (name : Kind → Bytes → Bytes) where
 
   -- the files of a revision's tree
   abbrev pub files_of_word : History → Bytes → Given (FileMap Bytes)
-  files_of_word h word = and_then (revision_of word) (λ r. and_then (value_denoted name h r) files_in)
+  files_of_word h word = revision_of word >>= λ r. value_denoted name h r >>= files_in
 
   -- a file's line: its mode, its kind, the digits of its content's name, and behind a TAB its whole path as it is printed
   abbrev pub file_line : Path × Leaf Bytes → Bytes
@@ -84,11 +74,11 @@ module _ (name : Kind → Bytes → Bytes) where
 
   -- the lines of a revision's tree
   abbrev pub list_text : Bool → History → Bytes → Printed
-  list_text recursive h word = only_word (and_then (files_of_word h word) (λ files. Ok (list_lines recursive files)))
+  list_text recursive h word = only_word (files_of_word h word >>= λ files. Ok (list_lines recursive files))
 
   -- the archive of a revision's tree, with this before each path
   abbrev pub tar_text : Bytes → History → Bytes → Printed
-  tar_text prefix h word = only_word (and_then (revision_of word) (λ r. archive_of name h r prefix))
+  tar_text prefix h word = only_word (revision_of word >>= λ r. archive_of name h r prefix)
 
   -- ---- several revisions
 
@@ -99,10 +89,10 @@ module _ (name : Kind → Bytes → Bytes) where
 
   -- a line for each revision: all are read, and then all are evaluated
   abbrev pub names_text : History → List Bytes → Printed
-  names_text h words = all_words (and_then (each_word revision_of words) (λ rs. and_then (each_word (denoted name h) rs) (λ shown. Ok (flat_map name_line shown))))
+  names_text h words = all_words (each_word revision_of words >>= λ rs. each_word (denoted name h) rs >>= λ shown. Ok (flat_map name_line shown))
 
   -- ---- ranges
 
   -- the commits that range words list
   abbrev pub commits_listed : History → List RangeWord → Result (List Commit) WordFault
-  commits_listed h ws = and_then (words_denoted name h ws) (λ xs. Ok (listing h xs))
+  commits_listed h ws = (words_denoted name h ws >>= λ xs. Ok (listing h xs))

@@ -4,14 +4,14 @@ use Rattle.std.specs.Prelude.{◌≡◌, ◌⊎◌, ℕ, zero, suc, Option, Some
 use Rattle.gx_model.specs.declared.objects.Kind.{Kind}
 use Rattle.gx_model.specs.declared.features.Features.{Features}
 use Rattle.gx_model.specs.Texts.{Bytes}
-use Rattle.gx_model.specs.Histories.{Records}
+use Rattle.gx_model.specs.Histories.{Records, empty_repository}
 use Rattle.gx_model.specs.Records.HistoryOf.{history_of}
 use Rattle.gx_model.specs.Laws.ExportLaws.{HasNoNullGitlink}
 use Rattle.gx_model.specs.Records.Sound.{IsSound}
 use Rattle.gx_model.specs.Stores.StoreReading.{Stored, store_of}
 use Rattle.gx_model.specs.Texts.Sinks.{Taken}
 use Rattle.gx_text.specs.Devices.{Coming}
-use Rattle.gx_import.specs.Exported.{IsExported, KeepsNoNullGitlink, nothing}
+use Rattle.gx_import.specs.Exported.{IsExported, KeepsNoNullGitlink}
 use Rattle.gx_import.specs.Imports.{Imports}
 use Rattle.gx_import.specs.declared.report.Report.{Report}
 use Rattle.gx_import.specs.declared.fault.ImportFault.{ImportFault}
@@ -59,7 +59,7 @@ module _ {N : Type 0} (name_of : N → Kind → Bytes → Bytes) (namer : N) whe
   ImportsStoredAgain asks stored None answer = ⊤
   ImportsStoredAgain asks stored (Some coming) answer =
       (form : ExportForm) (exported : Records) → LeaveForm form asks → IsSound (name_of namer) exported → HasNoNullGitlink (history_of exported)
-      → GivesForm (name_of namer) form exported coming → stored ≡ Ok nothing
+      → GivesForm (name_of namer) form exported coming → stored ≡ Ok empty_repository
       → IsInterrupted answer ⊎ ((new : Records) × (report : Report) × IsExported exported new × IsSound (name_of namer) new × (answer ≡ (Some (namer, new), Ok report)))
 
   -- the import of a stream into the store of a text, which is read first

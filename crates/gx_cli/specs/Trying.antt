@@ -10,7 +10,7 @@ use Rattle.gx_model.specs.Faults.{Given}
 use Rattle.gx_model.specs.Texts.Paths.{Path}
 use Rattle.gx_model.specs.Histories.Files.{Leaf}
 use Rattle.gx_model.specs.Streams.Commands.{Commands}
-use Rattle.gx_model.specs.Histories.{History, Records}
+use Rattle.gx_model.specs.Histories.{History, Records, empty_repository, no_history}
 use Rattle.gx_model.specs.Records.HistoryOf.{history_of}
 use Rattle.gx_model.specs.Revisions.{Revision}
 use Rattle.gx_model.specs.Revisions.Denotation.{looked_up}
@@ -22,17 +22,12 @@ use Rattle.gx_stream.specs.Heard.{heard}
 use Rattle.gx_command.specs.Reading.{commands_asked_from}
 use Rattle.gx_rev.specs.Answers.{shown_file}
 use Rattle.gx_rev.specs.RevFaults.{fault_of}
-use Rattle.gx_import.specs.Exported.{nothing}
 use Rattle.gx_import.specs.Imports.{AreRead, Replays, replayed_on}
 use Rattle.gx_import.specs.declared.fault.ImportFault.{ImportFault}
 use Rattle.gx_cli.specs.Listings.{text_of_word}
 use Rattle.gx_cli.specs.declared.fault.CliFault.{CliFault}
 use Rattle.gx_cli.specs.declared.fault.CliFault.TheVariants.{Import, OutOfMemory, WriteFailed}
 use Rattle.gx_cli.specs.declared.fault.CliFault.TheVariants as cli
-
--- what an empty store stands for
-abbrev pub no_history : History
-no_history = record { values = []; refs = [] }
 
 -- a sink took this text, and hasn't failed
 abbrev pub having_taken : Bytes → Taken
@@ -65,7 +60,7 @@ module _ (name : Kind → Bytes → Bytes) where
 
   -- a refused import into an empty store, where these features are asked for, or one that was interrupted, which leaves some repository
   abbrev pub Refuses : Features → Commands → Outcome → Option Taken → Option Taken → ImportFault → Type 0
-  Refuses asks commands outcome was now fault = (left : Records) × Replays asks name nothing left commands outcome was now (Err fault)
+  Refuses asks commands outcome was now fault = (left : Records) × Replays asks name empty_repository left commands outcome was now (Err fault)
 
   -- Once the replay is accepted, its progress text went out, and then the word is shown in its history.
   abbrev pub ShowsReplayed : Features → Commands → Outcome → Bytes → Option Taken → Option Taken → Result (Unit {0}) CliFault → Type 0
@@ -74,7 +69,7 @@ module _ (name : Kind → Bytes → Bytes) where
 
   -- The same of the commands of a source. Where it tells nothing, there are commands that a reader gives.
   abbrev pub Tries : Features → Option Coming → Bytes → Option Taken → Option Taken → Result (Unit {0}) CliFault → Type 0
-  Tries asks None word was now answer = (commands : Commands) × AreRead commands × ShowsReplayed asks commands (replayed_on asks name nothing commands) word was now answer
+  Tries asks None word was now answer = (commands : Commands) × AreRead commands × ShowsReplayed asks commands (replayed_on asks name empty_repository commands) word was now answer
   Tries asks (Some coming) word was now answer =
       ShowsReplayed asks (commands_asked_from asks coming) (imported_asked asks name no_history (heard coming).bytes (heard coming).fails) word was now answer
 
@@ -87,7 +82,7 @@ module _ (name : Kind → Bytes → Bytes) where
 
   -- The same of the commands of a source. Where it tells nothing, there are commands that a reader gives.
   abbrev pub FindsFault : Features → Option Coming → Result (Unit {0}) CliFault → Type 0
-  FindsFault asks None answer = (commands : Commands) × AreRead commands × Finds asks commands (replayed_on asks name nothing commands) answer
+  FindsFault asks None answer = (commands : Commands) × AreRead commands × Finds asks commands (replayed_on asks name empty_repository commands) answer
   FindsFault asks (Some coming) answer =
       Finds asks (commands_asked_from asks coming) (imported_asked asks name no_history (heard coming).bytes (heard coming).fails) answer
 
@@ -98,6 +93,6 @@ module _ (name : Kind → Bytes → Bytes) where
 
   -- The same of the commands of a source. Where it tells nothing, there are commands that a reader gives.
   abbrev pub ImportsAlone : {N : Type 0} → Features → Option Coming → Option Taken → Option Taken → Result (N × Records) ImportFault → Type 0
-  ImportsAlone asks None was now answer = (commands : Commands) × AreRead commands × StandsAlone asks commands (replayed_on asks name nothing commands) was now answer
+  ImportsAlone asks None was now answer = (commands : Commands) × AreRead commands × StandsAlone asks commands (replayed_on asks name empty_repository commands) was now answer
   ImportsAlone asks (Some coming) was now answer =
       StandsAlone asks (commands_asked_from asks coming) (imported_asked asks name no_history (heard coming).bytes (heard coming).fails) was now answer

@@ -155,7 +155,7 @@ impl<'a, N: Namer, A: Allocator + Copy> Commands<'a, N, A> {
 
 /// The word with this number, from 1.
 fn word_at<'a>(words: &[&'a [u8]], number: u64) -> &'a [u8]
-    ensures { result.now ≡ word_at (texts_of words.now) number }
+    ensures { result.now ≡ word_at (lent_texts words.now) number }
 {
     let place = number.saturating_sub(1) as usize;
     if place < words.len() {

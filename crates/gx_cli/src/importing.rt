@@ -25,7 +25,7 @@ pub(crate) fn init<N: Namer + Drop, A: Allocator + Copy>(
     namer: N,
     state: RandomState,
 ) -> Outcome<A>
-    ensures { IsWritten (N.name_of namer) nothing result }
+    ensures { IsWritten (N.name_of namer) empty_repository result }
 {
     let repo = Repo::new(alloc, namer, state);
     with_text(alloc, &repo, 0, None)

@@ -2,7 +2,7 @@
 
 ghost use Rattle.std.specs.Prelude.{◌≡◌, ◌++◌, map, OnOk};
 ghost use Rattle.gx_cli.specs.Gathering.{GathersLines};
-ghost use Rattle.gx_cli.specs.Stored.{texts_of};
+ghost use Rattle.gx_text.specs.Lent.{lent_texts};
 
 use crate::CliFault;
 use gx_batch::{LineEnding, read_lines};
@@ -29,7 +29,7 @@ pub(crate) fn add_lines<'a, A: Allocator + Copy>(
     words: &mut Vec<&'a [u8], A>,
     lines: &'a [Vec<u8, A>],
 ) -> Result<(), AllocFailed<&'a [u8]>>
-    ensures { OnOk result (texts_of words.new.items ≡ texts_of words.old.items ++ map (λ line. line.items) lines.now) }
+    ensures { OnOk result (lent_texts words.new.items ≡ lent_texts words.old.items ++ map (λ line. line.items) lines.now) }
 {
     for line in lines {
         words.push(line.as_slice())?;

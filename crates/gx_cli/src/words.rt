@@ -2,7 +2,7 @@
 
 ghost use Rattle.std.specs.Prelude.{◌≡◌, IfOk};
 ghost use Rattle.std.specs.List.{slice_split};
-ghost use Rattle.gx_cli.specs.Stored.{texts_of};
+ghost use Rattle.gx_text.specs.Lent.{lent_texts};
 ghost use Rattle.gx_cli.specs.Words.{refused_at, words_in};
 
 use crate::CliFault;
@@ -17,7 +17,7 @@ pub(crate) fn texts_of<'a, A: Allocator + Copy>(
     alloc: A,
     words: &[&'a str],
 ) -> Result<Vec<&'a [u8], A>, AllocError>
-    ensures { IfOk result (λ texts. texts_of texts.items ≡ texts_of words.now) }
+    ensures { IfOk result (λ texts. lent_texts texts.items ≡ lent_texts words.now) }
 {
     let mut texts = Vec::new(alloc);
     for word in words {
@@ -33,7 +33,7 @@ pub(crate) fn words_in<'a, A: Allocator + Copy>(
     alloc: A,
     text: &'a [u8],
 ) -> Result<Vec<&'a [u8], A>, AllocError>
-    ensures { IfOk result (λ words. texts_of words.items ≡ words_in text.now) }
+    ensures { IfOk result (λ words. lent_texts words.items ≡ words_in text.now) }
 {
     let mut words = Vec::new(alloc);
     let mut left = text;

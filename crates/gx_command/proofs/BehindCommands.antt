@@ -8,7 +8,7 @@ use Rattle.gx_model.specs.declared.faults.Fault.TheVariants as faults
 use Rattle.gx_model.specs.Faults.{Given, ◌>>=◌}
 use Rattle.gx_model.specs.Streams.Items.{Item, Line, Data, End, Stream}
 use Rattle.gx_model.specs.Streams.Commands.{Command, Commands}
-use Rattle.gx_model.specs.Streams.Grammar.{Read, asks_done, is_done, is_option, stops, with_first}
+use Rattle.gx_model.specs.Streams.Grammar.{Read, asks_done, is_done, is_option, stops, with_command}
 use Rattle.gx_command.specs.Behind.{AreBehind, commands_behind, from_next, left_behind, next_behind, or_missing_done, past_empty, then_come}
 use Rattle.gx_command.specs.Heads.{first, first_in}
 use Rattle.gx_command.specs.Reading.{commands_after}
@@ -54,10 +54,10 @@ none_come before s goes_on =
     open_behind : commands_behind before (from_next s) ≡ commands_after before (from_next s)
     open_behind = rw goes_on refl
 
-one_more : (n : ℕ) (before front : List Command) (c : Command) (t : Stream) (cs : Commands) → cs ≡ then_come front (commands_behind ((before ++ c ∷ []) ++ front) t) → with_first c cs ≡ then_come (c ∷ front) (commands_behind (before ++ c ∷ front) t)
-one_more n before front c t cs e = ap (with_first c) e ∙ ap (λ b. then_come (c ∷ front) (commands_behind b t)) (append_assoc before (c ∷ []) front)
+one_more : (n : ℕ) (before front : List Command) (c : Command) (t : Stream) (cs : Commands) → cs ≡ then_come front (commands_behind ((before ++ c ∷ []) ++ front) t) → with_command c cs ≡ then_come (c ∷ front) (commands_behind (before ++ c ∷ front) t)
+one_more n before front c t cs e = ap (with_command c) e ∙ ap (λ b. then_come (c ∷ front) (commands_behind b t)) (append_assoc before (c ∷ []) front)
 
-done_last : (n : ℕ) (before : List Command) (c : Command) (u t : Stream) → list_any is_done (before ++ c ∷ []) ≡ true → left_behind n (before ++ c ∷ []) u ≡ given (Some t) → (length {A = Command} (c ∷ []) ≡ suc n) × (with_first c (stops None) ≡ then_come (c ∷ []) (commands_behind (before ++ c ∷ []) t))
+done_last : (n : ℕ) (before : List Command) (c : Command) (u t : Stream) → list_any is_done (before ++ c ∷ []) ≡ true → left_behind n (before ++ c ∷ []) u ≡ given (Some t) → (length {A = Command} (c ∷ []) ≡ suc n) × (with_command c (stops None) ≡ then_come (c ∷ []) (commands_behind (before ++ c ∷ []) t))
 done_last zero before c u t over h = (refl, rw over refl)
 done_last (suc n) before c u t over h = absurd (fewer t (sym (left_over n (before ++ c ∷ []) u over) ∙ h))
 
@@ -74,7 +74,7 @@ come_after (suc n) before s t goes_on h = by (first early s) refl (sym (left_nex
   ended true u h = fails t faults.MissingDone h
   ended false u h = fewer t h
 
-  some : (c : Command) (u : Stream) (d : Bool) → is_done c ≡ d → commands_after before s ≡ (if d then with_first c (stops None) else with_first c (commands_after (before ++ c ∷ []) u)) → left_behind n (before ++ c ∷ []) u ≡ given (Some t) → Again → ComeAfter (suc n) before s t
+  some : (c : Command) (u : Stream) (d : Bool) → is_done c ≡ d → commands_after before s ≡ (if d then with_command c (stops None) else with_command c (commands_after (before ++ c ∷ []) u)) → left_behind n (before ++ c ∷ []) u ≡ given (Some t) → Again → ComeAfter (suc n) before s t
   some c u true e comes h again =
       let over : list_any is_done (before ++ c ∷ []) ≡ true = any_more is_done before c ∙ rw (goes_on, e) refl in
       let last = done_last n before c u t over h in

@@ -9,7 +9,7 @@ use Rattle.gx_model.specs.Faults.{◌>>=◌}
 use Rattle.gx_model.specs.Streams.Items.{Finished, Stream}
 use Rattle.gx_model.specs.Streams.Commands as model
 use Rattle.gx_model.specs.Streams.Commands.{Commands}
-use Rattle.gx_model.specs.Streams.Grammar.{Read, is_option, asks_done, is_done, fault_at_end, stops, with_first}
+use Rattle.gx_model.specs.Streams.Grammar.{Read, is_option, asks_done, is_done, fault_at_end, stops, with_command}
 use Rattle.gx_command.specs.Ahead.{Fails}
 use Rattle.gx_command.specs.Ahead as ahead
 use Rattle.gx_command.specs.CommandFaults.{fault_of}
@@ -101,10 +101,10 @@ reads_some o c old None now view h = subst (λ v. Reads v (shown_commands (state
 reads_some {A} o c old (Some s) now view (t, is, e) =
     subst (λ v. Reads v (shown_commands (state_after o (shown_command c)) now) (Ok (Some c))) view
     (subst (λ m. Reads (Some (commands_after (before_of o) s)) (shown_commands (state_after o (shown_command c)) m) (Ok (Some c))) (sym is) (by (is_done (shown_command c)) (led_is o s _ (after_some o (first o.are_all s) (shown_command c) t e)))) where
-      by : (d : Bool) → commands_after (before_of o) s ≡ (if d then with_first (shown_command c) (stops None) else with_first (shown_command c) (commands_after (before_of o ++ shown_command c ∷ []) t))
+      by : (d : Bool) → commands_after (before_of o) s ≡ (if d then with_command (shown_command c) (stops None) else with_command (shown_command c) (commands_after (before_of o ++ shown_command c ∷ []) t))
           → Reads {A = A} (Some (commands_after (before_of o) s)) (shown_commands (if d then Ended else Open (options_after o (shown_command c))) (Some t)) (Ok (Some c))
       by true e = (stops None, e, refl)
-      by false e = (commands_after (before_of (options_after o (shown_command c))) t, e ∙ ap (with_first (shown_command c)) (later_is o (shown_command c) t), refl)
+      by false e = (commands_after (before_of (options_after o (shown_command c))) t, e ∙ ap (with_command (shown_command c)) (later_is o (shown_command c) t), refl)
 
 pub reads_none : (A : Type 0) (o : Options) (old : Option Commands) (before now : Option Stream) → option_map (commands_after (before_of o)) before ≡ old → ahead.Reads {X = Option (Command A)} (option_map shown_command) (next_after o) before now (Ok None) → Reads {A = A} old (Some (stops None)) (Ok None)
 reads_none A o old None now view h = subst (λ v. Reads {A = A} v (Some (stops None)) (Ok None)) view refl

@@ -5,7 +5,7 @@ use Rattle.std.specs.List.{list_any, list_all}
 use Rattle.gx_model.specs.Texts.{Bytes}
 use Rattle.gx_model.specs.Streams.Items.{Item, Line, Data, End, Finished, Failed, Stream}
 use Rattle.gx_model.specs.Streams.Commands.{Command, Commands}
-use Rattle.gx_model.specs.Streams.Grammar.{Read, at_end, after, words_of, command_at, commands_within, is_option, asks_done, is_done, fault_at_end, stops, with_first}
+use Rattle.gx_model.specs.Streams.Grammar.{Read, at_end, after, words_of, command_at, commands_within, is_option, asks_done, is_done, fault_at_end, stops, with_command}
 use Rattle.gx_command.specs.Heads.{first_in, first}
 use Rattle.gx_command.specs.Reading.{commands_after}
 use Rattle.gx_command.proofs.Leaves.{Leaves, command_leaves}
@@ -29,7 +29,7 @@ enough_commands (suc n) (suc m) before (Line (b ∷ bs) ∷ more) end p q = by (
   by (Err f) e again = rw e refl
   by (Ok x) e again =
       let left = command_left (list_all is_option before) (b ∷ bs) (record { items = more; end = end }) x e in
-      rw e (ap (λ cs. if is_done x.0 then with_first x.0 (stops None) else with_first x.0 cs) (again x.0 x.1 (omega arith) (omega arith)))
+      rw e (ap (λ cs. if is_done x.0 then with_command x.0 (stops None) else with_command x.0 cs) (again x.0 x.1 (omega arith) (omega arith)))
 
 -- ---- the first command
 
@@ -37,7 +37,7 @@ enough_commands (suc n) (suc m) before (Line (b ∷ bs) ∷ more) end p q = by (
 abbrev pub led : List Command → Read (Option Command) → Commands
 led before (Err f) = stops (Some f)
 led before (Ok (None, t)) = stops (fault_at_end before Finished)
-led before (Ok (Some c, t)) = if is_done c then with_first c (stops None) else with_first c (commands_after (before ++ c ∷ []) t)
+led before (Ok (Some c, t)) = if is_done c then with_command c (stops None) else with_command c (commands_after (before ++ c ∷ []) t)
 
 unrolled : (n : ℕ) (before : List Command) (items : List Item) (s : Stream) → s.items ≡ items → length items ≤ n → commands_within n before items s.end ≡ led before (first_in (list_all is_option before) items s)
 unfolding commands_within first_in
@@ -53,7 +53,7 @@ unrolled (suc n) before (Line (b ∷ bs) ∷ more) s is p = by (command_at (list
   by (Err f) e = rw e refl
   by (Ok x) e =
       let left = command_left (list_all is_option before) (b ∷ bs) (after more s) x e in
-      rw e (ap (λ cs. if is_done x.0 then with_first x.0 (stops None) else with_first x.0 cs) (enough_commands n (length x.1.items) (before ++ x.0 ∷ []) x.1.items x.1.end (omega arith) (omega arith)))
+      rw e (ap (λ cs. if is_done x.0 then with_command x.0 (stops None) else with_command x.0 cs) (enough_commands n (length x.1.items) (before ++ x.0 ∷ []) x.1.items x.1.end (omega arith) (omega arith)))
 
 pub commands_unrolled : (before : List Command) (s : Stream) → commands_after before s ≡ led before (first (list_all is_option before) s)
 commands_unrolled before s = unrolled (length s.items) before s.items s refl (omega arith)

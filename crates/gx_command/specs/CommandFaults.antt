@@ -1,5 +1,5 @@
 -- The faults of commands among those of the model, what they print, and those that items and texts bring.
-use Rattle.std.specs.Prelude.{◌≢◌, Result, IfErr, codes}
+use Rattle.std.specs.Prelude.{codes}
 use Rattle.gx_model.specs.Texts.{Bytes}
 use Rattle.gx_model.specs.declared.faults.Fault.{Fault}
 use Rattle.gx_model.specs.declared.faults.Fault.TheVariants as model
@@ -42,10 +42,6 @@ word BadRefName = codes "BadRefName"
 word Unsupported = codes "Unsupported"
 word LateOption = codes "LateOption"
 word MissingDone = codes "MissingDone"
-
--- an answer for which no memory is taken: want of it is none of its faults
-abbrev pub NeedsNoMemory : {X : Type 0} → Result X CommandFault → Type 0
-NeedsNoMemory answer = IfErr answer (λ fault. fault ≢ OutOfMemory)
 
 abbrev pub of_stream : StreamFault → CommandFault
 of_stream stream.OutOfMemory = OutOfMemory

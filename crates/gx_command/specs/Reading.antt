@@ -9,7 +9,7 @@ use Rattle.gx_model.specs.Streams.Gitlinks.{BringsNoNullGitlink}
 use Rattle.gx_model.specs.Streams.Items.{Stream}
 use Rattle.gx_model.specs.Streams.Commands as model
 use Rattle.gx_model.specs.Streams.Commands.{Commands, no_features}
-use Rattle.gx_model.specs.Streams.Grammar.{Read, commands_asked, commands_within, is_done, is_option, asks_done, stops, with_first}
+use Rattle.gx_model.specs.Streams.Grammar.{Read, commands_asked, commands_within, is_done, is_option, asks_done, stops, with_command}
 use Rattle.gx_text.specs.Devices.{Coming}
 use Rattle.gx_stream.specs.Heard.{items_from}
 use Rattle.gx_command.specs.CommandFaults.{fault_of}
@@ -44,7 +44,7 @@ Reads None new (Ok None) = new ≡ Some (stops None)
 Reads None new (Ok (Some c)) = Unit {0}
 Reads None new (Err f) = new ≡ Some (stops (Some (fault_of f)))
 Reads (Some old) new (Ok None) = (old ≡ stops None) × (new ≡ Some (stops None))
-Reads (Some old) new (Ok (Some c)) = (left : Commands) × (old ≡ with_first (shown_command c) left) × (new ≡ Some left)
+Reads (Some old) new (Ok (Some c)) = (left : Commands) × (old ≡ with_command (shown_command c) left) × (new ≡ Some left)
 Reads (Some old) new (Err f) = (new ≡ Some (stops (Some (fault_of f)))) × ((f ≡ OutOfMemory) ⊎ (old ≡ stops (Some (fault_of f))))
 
 -- after `done` nothing comes

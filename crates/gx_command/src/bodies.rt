@@ -2,13 +2,13 @@
 
 ghost use Rattle.std.specs.Prelude.{◌≡◌, codes, map, IfOk};
 ghost use Rattle.std.specs.Option.{option_map};
-ghost use Rattle.gx_model.specs.Faults.{Gives};
+ghost use Rattle.gx_model.specs.Faults.{Gives, NeedsNoMemory};
 ghost use Rattle.gx_model.specs.Streams.Items.{Stream};
 ghost use Rattle.gx_stream.specs.Reading.{item_of};
 ghost use Rattle.gx_model.specs.Streams.Grammar.{optional, needed, block, mark_of, any_text, ident_of, encoding_of, commit_ish_of, unsigned, item_after, bytes_from, merges, changes, blob_at, links_at, commit_at, tag_at, reset_at};
 ghost use Rattle.gx_command.specs.Ahead.{ReadsOn, ReadsPlain, ReadsLine, Falls, FallsNot, to_come, most};
 ghost use Rattle.gx_command.specs.Bodies.{next_change, written_at, shown_written, shown_links, ChangeIn, TakesChange, signature_in, empty_line};
-ghost use Rattle.gx_command.specs.CommandFaults.{NeedsNoMemory, fault_of};
+ghost use Rattle.gx_command.specs.CommandFaults.{fault_of};
 ghost use Rattle.gx_command.specs.ChangeLines.{completed_modify, shown_where};
 ghost use Rattle.gx_command.specs.Places.{IsSuitedAs};
 ghost use Rattle.gx_command.specs.Views.{shown_ident, shown_encoding, shown_commit_ish, shown_data, shown_modify, shown_change, shown_blob, shown_commit, shown_tag, shown_reset};
@@ -307,7 +307,7 @@ fn change_in<A: Allocator + Copy>(
 
 fn refuse_signature(item: Item<'_>) -> Result<Option<()>, CommandFault>
     ensures signature { Gives fault_of (λ none. none) result (signature_in (item_of item.entry)) }
-    ensures memory { NeedsNoMemory result }
+    ensures memory { NeedsNoMemory CommandFault.OutOfMemory result }
 {
     match item {
         Item::Line(line) if Words::of(line).is(b"gpgsig") => Err(CommandFault::Unsupported),

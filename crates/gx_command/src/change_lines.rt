@@ -2,11 +2,11 @@
 
 ghost use Rattle.std.specs.Prelude.{◌≡◌, IsTrue, IfOk, OnOk};
 ghost use Rattle.gx_command.specs.Places.{is_file_mode, is_suited_place};
-ghost use Rattle.gx_model.specs.Faults.{Gives};
+ghost use Rattle.gx_model.specs.Faults.{Gives, NeedsNoMemory};
 ghost use Rattle.gx_model.specs.Streams.Items.{Stream};
 ghost use Rattle.gx_model.specs.Texts.Paths.{is_quoted};
 ghost use Rattle.gx_model.specs.Streams.Grammar.{mode_of, where_of, suits, last_path, source_path, two_paths, modify_at, change_at, words_of};
-ghost use Rattle.gx_command.specs.CommandFaults.{NeedsNoMemory, fault_of};
+ghost use Rattle.gx_command.specs.CommandFaults.{fault_of};
 ghost use Rattle.gx_command.specs.ChangeLines.{shown_where, BeginsModify, BeginsChange};
 
 use crate::commands::Change;
@@ -79,7 +79,7 @@ fn read_modify<A: Allocator + Copy>(alloc: A, text: &[u8]) -> Result<ModifyLine<
 fn read_mode(text: &[u8]) -> Result<Mode, CommandFault>
     ensures mode { Gives fault_of (λ mode. mode) result (mode_of text.now) }
     ensures file { IfOk result (λ mode. IsTrue (is_file_mode mode)) }
-    ensures memory { NeedsNoMemory result }
+    ensures memory { NeedsNoMemory CommandFault.OutOfMemory result }
 {
     if text == b"100644".as_slice() || text == b"644".as_slice() {
         Ok(Mode::File)
@@ -98,7 +98,7 @@ fn read_mode(text: &[u8]) -> Result<Mode, CommandFault>
 
 fn read_place(text: &[u8]) -> Result<Place, CommandFault>
     ensures place { Gives fault_of shown_where result (where_of text.now) }
-    ensures memory { NeedsNoMemory result }
+    ensures memory { NeedsNoMemory CommandFault.OutOfMemory result }
 {
     if let Some((b':', digits)) = text.split_first() {
         return Ok(Place::Mark(read_mark_number(digits)?));
@@ -122,7 +122,7 @@ fn check_suits(mode: Mode, place: Place) -> Result<(), CommandFault>
     requires { IsTrue (is_file_mode mode) }
     ensures suits { Gives fault_of (λ u. u) result (suits mode (shown_where place)) }
     ensures suited { OnOk result (IsTrue (is_suited_place mode place)) }
-    ensures memory { NeedsNoMemory result }
+    ensures memory { NeedsNoMemory CommandFault.OutOfMemory result }
 {
     match (mode, place) {
         (Mode::Gitlink, Place::Mark(_) | Place::Block) => Err(CommandFault::Unsupported),

@@ -2,12 +2,12 @@
 
 ghost use Rattle.std.specs.Prelude.{◌≡◌};
 ghost use Rattle.std.specs.Option.{option_map};
-ghost use Rattle.gx_model.specs.Faults.{Gives};
+ghost use Rattle.gx_model.specs.Faults.{Gives, NeedsNoMemory};
 ghost use Rattle.gx_model.specs.Streams.Items.{Stream};
 ghost use Rattle.gx_model.specs.Streams.Grammar.{command_at};
 ghost use Rattle.gx_stream.specs.Reading.{item_of};
 ghost use Rattle.gx_command.specs.Ahead.{ReadsOn, Falls, FallsNot, to_come, most};
-ghost use Rattle.gx_command.specs.CommandFaults.{NeedsNoMemory, fault_of};
+ghost use Rattle.gx_command.specs.CommandFaults.{fault_of};
 ghost use Rattle.gx_command.specs.Heads.{Begins, BeginsIn, BeginsWhole, MayBeWhole, TakesStart, TakesHead, begun, early_feature, early_rest, first, is_left_out, option_of, progress_of};
 ghost use Rattle.gx_command.specs.Lines.{lent_bytes, shown_words};
 ghost use Rattle.gx_command.specs.Views.{shown_command};
@@ -178,7 +178,7 @@ fn read_option<A: Allocator + Copy>(
 /// The rest of an option, which stands before every other command.
 fn early_rest<'a>(is_early: bool, words: Words<'a>) -> Result<&'a [u8], CommandFault>
     ensures rest { Gives fault_of lent_bytes result (early_rest is_early (shown_words words.entry)) }
-    ensures memory { NeedsNoMemory result }
+    ensures memory { NeedsNoMemory CommandFault.OutOfMemory result }
 {
     let rest = words.rest()?;
     if is_early {
@@ -197,7 +197,7 @@ fn is_left_out(words: Words<'_>) -> bool
 
 fn read_feature(is_early: bool, words: Words<'_>) -> Result<Feature, CommandFault>
     ensures reads { Gives fault_of (λ f. f) result (early_feature is_early (shown_words words.entry)) }
-    ensures memory { NeedsNoMemory result }
+    ensures memory { NeedsNoMemory CommandFault.OutOfMemory result }
 {
     let text = early_rest(is_early, words)?;
     if text == b"done".as_slice() {

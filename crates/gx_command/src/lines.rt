@@ -1,10 +1,10 @@
 //! Lines: the word and the rest of each.
 
 ghost use Rattle.std.specs.Prelude.{◌≡◌};
-ghost use Rattle.gx_model.specs.Faults.{Gives};
+ghost use Rattle.gx_model.specs.Faults.{Gives, NeedsNoMemory};
 ghost use Rattle.gx_model.specs.Streams.Grammar.{words_of, is_word, rest_of};
 ghost use Rattle.gx_stream.specs.Reading.{item_of};
-ghost use Rattle.gx_command.specs.CommandFaults.{NeedsNoMemory, fault_of};
+ghost use Rattle.gx_command.specs.CommandFaults.{fault_of};
 ghost use Rattle.gx_command.specs.Lines.{bare_as, lent_bytes, shown_words, shown_rest, rest_in};
 
 use crate::fault::CommandFault;
@@ -43,7 +43,7 @@ impl<'a> Words<'a> {
     /// The rest of a line that needs one.
     pub(crate) fn rest(self) -> Result<&'a [u8], CommandFault>
         ensures rest { Gives fault_of lent_bytes result (rest_of (shown_words self.entry)) }
-        ensures memory { NeedsNoMemory result }
+        ensures memory { NeedsNoMemory CommandFault.OutOfMemory result }
     {
         self.rest.ok_or(CommandFault::BadLine)
     }
@@ -51,7 +51,7 @@ impl<'a> Words<'a> {
     /// The value that a line without a rest stands for. Refuses a line with one.
     pub(crate) fn bare<T: Drop>(self, value: T) -> Result<T, CommandFault>
         ensures bare { Gives fault_of (λ x. x) result (bare_as value (shown_words self.entry)) }
-        ensures memory { NeedsNoMemory result }
+        ensures memory { NeedsNoMemory CommandFault.OutOfMemory result }
     {
         match self.rest {
             Some(_) => Err(CommandFault::BadLine),
@@ -63,7 +63,7 @@ impl<'a> Words<'a> {
 /// The rest of a line that has this word. Another item gives none.
 pub(crate) fn rest_in<'a>(item: Item<'a>, word: &[u8]) -> Result<Option<&'a [u8]>, CommandFault>
     ensures rest { Gives fault_of shown_rest result (rest_in word.now (item_of item.entry)) }
-    ensures memory { NeedsNoMemory result }
+    ensures memory { NeedsNoMemory CommandFault.OutOfMemory result }
 {
     match item {
         Item::Line(line) => {

@@ -1,9 +1,9 @@
 //! Marks, and what else names a commit.
 
 ghost use Rattle.std.specs.Prelude.{IsOk, IsErrOf};
-ghost use Rattle.gx_model.specs.Faults.{Gives};
+ghost use Rattle.gx_model.specs.Faults.{Gives, NeedsNoMemory};
 ghost use Rattle.gx_model.specs.Streams.Grammar.{mark_number, mark_of, commit_ish_of};
-ghost use Rattle.gx_command.specs.CommandFaults.{NeedsNoMemory, fault_of};
+ghost use Rattle.gx_command.specs.CommandFaults.{fault_of};
 ghost use Rattle.gx_command.specs.Views.{shown_commit_ish};
 ghost use Rattle.gx_command.specs.declared.fault.CommandFault.TheVariants.{OutOfMemory};
 
@@ -16,7 +16,7 @@ use std::alloc::Allocator;
 /// The digits of a mark, which is a number from 1.
 pub(crate) fn read_mark_number(digits: &[u8]) -> Result<u64, CommandFault>
     ensures mark { Gives fault_of (λ n. n) result (mark_number digits.now) }
-    ensures memory { NeedsNoMemory result }
+    ensures memory { NeedsNoMemory CommandFault.OutOfMemory result }
 {
     match decimal(digits) {
         None | Some(0) => Err(CommandFault::BadNumber),
@@ -28,7 +28,7 @@ pub(crate) fn read_mark_number(digits: &[u8]) -> Result<u64, CommandFault>
 #[tactic(auto, unfolding(gx_model::specs::Streams::Grammar::mark_of))]
 pub(crate) fn read_mark(text: &[u8]) -> Result<u64, CommandFault>
     ensures mark { Gives fault_of (λ n. n) result (mark_of text.now) }
-    ensures memory { NeedsNoMemory result }
+    ensures memory { NeedsNoMemory CommandFault.OutOfMemory result }
 {
     match text.split_first() {
         Some((b':', digits)) => read_mark_number(digits),

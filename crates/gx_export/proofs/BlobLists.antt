@@ -7,16 +7,16 @@ use Rattle.gx_model.specs.declared.objects.Mode.TheVariants.{File, Exec, Link, G
 use Rattle.gx_model.specs.declared.objects.Mode.{Mode}
 use Rattle.gx_model.specs.Texts.{Bytes}
 use Rattle.gx_model.specs.Streams.Commands.{Blob}
-use Rattle.gx_model.specs.Export.{blob_commands, command_items, content_in, contents, with_blobs}
+use Rattle.gx_model.specs.Export.{blob_commands, command_items, contents, items_text, with_blobs}
 use Rattle.gx_model.specs.Histories.Files.{FileMap}
 use Rattle.gx_model.specs.Histories.{Records, is_in}
 use Rattle.gx_model.specs.Records.HistoryOf.{Named, bytes_of_blob, content_of, contents_of, value_named}
 use Rattle.gx_model.specs.Texts.Paths.{Path}
-use Rattle.gx_model.specs.Histories.Values.{Value, blob_value}
+use Rattle.gx_model.specs.Histories.Values.{Value, blob_value, unless_gitlink}
 use Rattle.gx_model.specs.Texts.Sinks.{Taken}
 use Rattle.gx_export.specs.Marks.{Adds}
 use Rattle.gx_export.specs.Outputs.{Stops}
-use Rattle.gx_export.specs.Texts.{items_of, items_text}
+use Rattle.gx_export.specs.Texts.{items_of}
 use Rattle.gx_export.specs.declared.fault.ExportFault.{ExportFault}
 use Rattle.gx_export.specs.declared.written.Written.{Written}
 use Rattle.gx_export.proofs.Numbering.{adds_later}
@@ -66,7 +66,7 @@ bytes_named named names = contents (contents_of named names)
 pub bytes_append : (named : Named) (xs ys : FileMap Bytes) → bytes_named named (xs ++ ys) ≡ bytes_named named xs ++ bytes_named named ys
 bytes_append named xs ys =
     ap contents (map-append (λ entry. (entry.0, (entry.1.0, content_of named entry.1.0 entry.1.1))) xs ys)
-    ∙ filter_map-append (λ e. content_in e.1.0 e.1.1) (contents_of named xs) (contents_of named ys)
+    ∙ filter_map-append (λ e. unless_gitlink e.1.0 e.1.1) (contents_of named xs) (contents_of named ys)
 
 -- another file has its blob's
 pub one_bytes : (named : Named) (path : Path) (mode : Mode) (n : Bytes) → mode ≢ Gitlink → bytes_named named ((path, (mode, n)) ∷ []) ≡ bytes_of_blob (value_named named n) ∷ []

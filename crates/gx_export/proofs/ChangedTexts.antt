@@ -6,7 +6,7 @@ use Rattle.std.proofs.lemmas.Grind.{flat_map-append}
 use Rattle.std.proofs.lemmas.List.{length-append}
 use Rattle.gx_model.specs.declared.objects.Kind.{Kind}
 use Rattle.gx_model.specs.Changes.{base_files, commit_changes, gone_paths, named_in, own_files}
-use Rattle.gx_model.specs.Export.{blob_commands, change_items, command_items, commit_ish_text, commit_on, contents, file_change, first_by, from_line, optional_line, others_by, reset_before, with_blobs, word_line}
+use Rattle.gx_model.specs.Export.{blob_commands, change_items, command_items, commit_ish_text, commit_on, contents, file_change, first_by, from_line, items_text, others_by, reset_before, with_blobs, word_line, word_line_if}
 use Rattle.gx_model.specs.Histories.Files.{FileMap}
 use Rattle.gx_model.specs.Histories.Values.{Commit, CommitText, Value, files_of, list_of, parents_of, text_of}
 use Rattle.gx_model.specs.Histories.{Records}
@@ -21,7 +21,7 @@ use Rattle.gx_model.specs.Texts.Sinks.{Taken}
 use Rattle.gx_export.specs.ChangedParts.{AreLinesOf, differing_lines, lines_on, one_on}
 use Rattle.gx_export.specs.Compared.{gone_items, gone_text}
 use Rattle.gx_export.specs.Marks.{Adds, HasWritten}
-use Rattle.gx_export.specs.Texts.{author_items, file_items, items_of, items_text, parents_by, root_items}
+use Rattle.gx_export.specs.Texts.{author_items, file_items, items_of, parents_by, root_items}
 use Rattle.gx_export.specs.declared.changes.Changes.{Changes}
 use Rattle.gx_export.specs.declared.fault.ExportFault.{ExportFault}
 use Rattle.gx_export.specs.declared.written.Written.{Written}
@@ -48,7 +48,7 @@ commit_parts branch names us c =
     let front = from_line (first_by names ps) in
     let others = map (λ p. word_line (codes "merge") (commit_ish_text p)) (others_by names ps) in
     let changes = differing_lines us (gone_of c) (own_files c) in
-    let line = optional_line (codes "encoding") text.encoding in
+    let line = word_line_if (codes "encoding") text.encoding in
     ap (λ (is : List Item). author_items branch (suc (length us)) text ++ (line ++ (Data text.message ∷ (front ++ (others ++ is))))) (changes_are us c)
     ∙ ap (λ (is : List Item). author_items branch (suc (length us)) text ++ is)
     (ap (λ (is : List Item). line ++ (Data text.message ∷ is)) (sym (append_assoc front others changes)) ∙ sym (append_assoc line (Data text.message ∷ []) (parents_by names ps ++ changes)))

@@ -4,7 +4,7 @@ use Rattle.std.specs.List.{filter}
 use Rattle.std.proofs.lemmas.Grind.{flat_map-append}
 use Rattle.gx_model.specs.declared.objects.Kind.{Kind}
 use Rattle.gx_model.specs.Changes.{all_changes, carrier_reset, closed_by, commits_with_changes, named_in, sending_commands, set_refs}
-use Rattle.gx_model.specs.Export.{command_items, is_reached, reached_commits, ref_by}
+use Rattle.gx_model.specs.Export.{command_items, is_reached, items_text, reached_commits, ref_by}
 use Rattle.gx_model.specs.Histories.Values.{Commit, Value}
 use Rattle.gx_model.specs.Histories.{History, Records, Target}
 use Rattle.gx_model.specs.Laws.RangeLaws.{is_excluded}
@@ -19,10 +19,10 @@ use Rattle.gx_model.proofs.Ranges.SentCommits.{sent_are}
 use Rattle.gx_rev.specs.Walking.{is_included}
 use Rattle.gx_export.specs.Branches.{picked}
 use Rattle.gx_export.specs.ChangedParts.{DeliversRange, ExportsChanges, SendsText, closing, opening, sending_front, sending_rest}
-use Rattle.gx_export.specs.Faults.{NeedsNoMemory}
+use Rattle.gx_model.specs.Faults.{NeedsNoMemory}
 use Rattle.gx_export.specs.Marks.{Adds}
 use Rattle.gx_export.specs.Outputs.{Stops, StopsAt, most}
-use Rattle.gx_export.specs.Texts.{items_of, items_text}
+use Rattle.gx_export.specs.Texts.{items_of}
 use Rattle.gx_export.specs.declared.fault.ExportFault.{ExportFault}
 use Rattle.gx_export.specs.declared.fault.ExportFault.TheVariants.{OutOfMemory, WriteFailed}
 use Rattle.gx_export.specs.declared.written.Written.{Written}
@@ -65,7 +65,7 @@ module _ (name : Kind → Bytes → Bytes) (closed : Bool) where
         stopped was now (WriteFailed count) (λ e. absurd cc) (items_sooner 0 was now front rest (WriteFailed count) start)
 
     -- what goes out from the start is an export
-    pub exports : {A : Type 0} (r : Records) (ws : List Value) (old new : Written A) (was now : Option Taken) (result : Result (Unit {0}) ExportFault) → old.bytes ≡ 0 → NeedsNoMemory result → Adds r ws all_items old new was now result → SendsText name closed sent refs was now result
+    pub exports : {A : Type 0} (r : Records) (ws : List Value) (old new : Written A) (was now : Option Taken) (result : Result (Unit {0}) ExportFault) → old.bytes ≡ 0 → NeedsNoMemory OutOfMemory result → Adds r ws all_items old new was now result → SendsText name closed sent refs was now result
     exports r ws old new was now (Ok x) z memory k =
         let text = items_text all_items in
         let long : length text ≤ most = omega (arith, z, k.1.0, k.1.1) in

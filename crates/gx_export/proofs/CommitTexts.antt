@@ -8,7 +8,7 @@ use Rattle.std.proofs.lemmas.List.{append-nil, length-append}
 use Rattle.gx_model.specs.declared.objects.Kind.{Kind}
 use Rattle.gx_model.specs.declared.objects.Kind.TheVariants as kind
 use Rattle.gx_model.specs.Texts.{Bytes}
-use Rattle.gx_model.specs.Export.{all_written, blob_commands, command_items, commit_command, commit_ish_text, contents, first_parent, from_line, last_reset, one_commit, optional_line, other_parents, reset_before, root_reset, to_nothing, carrier, with_blobs, with_commit, word_line}
+use Rattle.gx_model.specs.Export.{all_written, blob_commands, command_items, commit_command, commit_ish_text, contents, from_line, last_reset, one_commit, reset_before, root_reset, to_nothing, carrier, with_blobs, with_commit, word_line, items_text, word_line_if, first_parent_mark, other_parent_marks}
 use Rattle.gx_model.specs.Histories.Files.{FileMap}
 use Rattle.gx_model.specs.Histories.{IsIn, Records}
 use Rattle.gx_model.specs.Records.HistoryOf.{commit_of_value, contents_of, history_of, named_values, value_of_name}
@@ -27,7 +27,7 @@ use Rattle.gx_model.specs.Records.RecordFaults.{is_held}
 use Rattle.gx_model.specs.Objects.NameMaps.{AreFiles}
 use Rattle.gx_model.proofs.Records.FilesByName.{contents_told, files_named}
 use Rattle.gx_export.specs.Marks.{Adds, HasWritten}
-use Rattle.gx_export.specs.Texts.{author_items, change_lines, commit_lines, items_of, items_text, last_items, parent_items, root_items}
+use Rattle.gx_export.specs.Texts.{author_items, change_lines, commit_lines, items_of, last_items, parent_items, root_items}
 use Rattle.gx_export.specs.declared.fault.ExportFault.{ExportFault}
 use Rattle.gx_export.specs.declared.written.Written.{Written}
 use Rattle.gx_export.proofs.Writing.{items_append}
@@ -67,10 +67,10 @@ commit_parts : (ws : List Value) (c : Commit) → command_items (commit_command 
 commit_parts ws c =
     let text = text_of c in
     let ps = list_of (parents_of c) in
-    let front = from_line (first_parent ws ps) in
-    let others = map (λ p. word_line (codes "merge") (commit_ish_text p)) (other_parents ws ps) in
+    let front = from_line (first_parent_mark ws ps) in
+    let others = map (λ p. word_line (codes "merge") (commit_ish_text p)) (other_parent_marks ws ps) in
     let changes = change_lines ws (files_of c) in
-    let line = optional_line (codes "encoding") text.encoding in
+    let line = word_line_if (codes "encoding") text.encoding in
     ap (λ (is : List Item). author_items carrier (suc (length ws)) text ++ is)
     (ap (λ (is : List Item). line ++ (Data text.message ∷ is)) (sym (append_assoc front others changes)) ∙ sym (append_assoc line (Data text.message ∷ []) (parent_items ws ps ++ changes)))
 

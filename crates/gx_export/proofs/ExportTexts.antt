@@ -2,17 +2,17 @@
 use Rattle.std.proofs.Common.{◌≡◌, ◌≢◌, ◌≤◌, ℕ, List, [], ◌∷◌, ◌++◌, map, length, Option, Result, Ok, Err, refl, sym, ap, subst, ◌∙◌, append_assoc, arith, codes}
 use Rattle.std.proofs.lemmas.Grind.{flat_map-append}
 use Rattle.gx_model.specs.Streams.Commands as command
-use Rattle.gx_model.specs.Export.{all_written, command_items, commit_commands, export_items, last_reset, reached_commits, ref_command}
+use Rattle.gx_model.specs.Export.{all_written, command_items, commit_commands, export_items, items_text, last_reset, reached_commits, ref_command}
 use Rattle.gx_model.specs.Histories.{History, Records}
 use Rattle.gx_model.specs.Records.HistoryOf.{history_of}
 use Rattle.gx_model.specs.Streams.Items.{Item, Line}
 use Rattle.gx_model.specs.Histories.Values.{Value}
 use Rattle.gx_model.specs.Texts.Sinks.{Taken, Took}
 use Rattle.gx_export.specs.Exports.{Exports, front_items, rest_items}
-use Rattle.gx_export.specs.Faults.{NeedsNoMemory}
+use Rattle.gx_model.specs.Faults.{NeedsNoMemory}
 use Rattle.gx_export.specs.Marks.{Adds}
 use Rattle.gx_export.specs.Outputs.{Stops, StopsAt, most}
-use Rattle.gx_export.specs.Texts.{items_of, items_text}
+use Rattle.gx_export.specs.Texts.{items_of}
 use Rattle.gx_export.specs.declared.fault.ExportFault.{ExportFault}
 use Rattle.gx_export.specs.declared.fault.ExportFault.TheVariants.{OutOfMemory, WriteFailed}
 use Rattle.gx_export.specs.declared.written.Written.{Written}
@@ -60,7 +60,7 @@ stopped_at_commits r n was now (WriteFailed count) z h =
     stopped r was now (WriteFailed count) (λ e. absurd cc) (items_sooner 0 was now front rest (WriteFailed count) start)
 
 -- what goes out from the start is an export
-pub exports : {A : Type 0} (r : Records) (ws : List Value) (old new : Written A) (was now : Option Taken) (result : Result (Unit {0}) ExportFault) → old.bytes ≡ 0 → NeedsNoMemory result → Adds r ws (all_items (history_of r)) old new was now result → Exports r was now result
+pub exports : {A : Type 0} (r : Records) (ws : List Value) (old new : Written A) (was now : Option Taken) (result : Result (Unit {0}) ExportFault) → old.bytes ≡ 0 → NeedsNoMemory OutOfMemory result → Adds r ws (all_items (history_of r)) old new was now result → Exports r was now result
 exports r ws old new was now (Ok x) z memory k =
     let text = items_text (all_items (history_of r)) in
     let long : length text ≤ most = omega (arith, z, k.1.0, k.1.1) in

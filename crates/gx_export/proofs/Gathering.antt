@@ -8,7 +8,7 @@ use Rattle.std.proofs.lemmas.Grind.{flat_map-append}
 use Rattle.gx_model.specs.declared.objects.Kind.{Kind}
 use Rattle.gx_model.specs.declared.objects.Mode.{Mode}
 use Rattle.gx_model.specs.declared.objects.Mode.TheVariants.{File, Exec, Link, Gitlink, Dir}
-use Rattle.gx_model.specs.Export.{blob_commands, contents, item_text, mark_text, number_in, with_blobs}
+use Rattle.gx_model.specs.Export.{blob_commands, contents, item_text, items_text, mark_text, number_in, with_blobs}
 use Rattle.gx_model.specs.Histories.Files.{FileMap}
 use Rattle.gx_model.specs.Histories.{Records, is_in}
 use Rattle.gx_model.specs.Records.HistoryOf.{Named, bytes_of_blob, content_of, contents_of, named_values, placed, value_of_name}
@@ -33,7 +33,7 @@ use Rattle.gx_tree.proofs.Listed.{IsListed, all_listed, below-placed, below_root
 use Rattle.gx_export.specs.FileTexts.{AreKept, AreWritten, Gathers, IsEntryBelow, IsGathered, IsKept, IsLinesOf, IsTreeBelow, StandsIn, bytes_in, lines_text}
 use Rattle.gx_export.specs.Marks.{Adds, HasWritten}
 use Rattle.gx_export.specs.Outputs.{Stops, Writes}
-use Rattle.gx_export.specs.Texts.{file_items, file_line, items_of, items_text}
+use Rattle.gx_export.specs.Texts.{file_items, file_line, items_of}
 use Rattle.gx_export.specs.declared.fault.ExportFault.{ExportFault}
 use Rattle.gx_export.specs.declared.fault.ExportFault.TheVariants.{OutOfMemory}
 use Rattle.gx_export.specs.declared.lines.Directory.{Directory}

@@ -10,7 +10,7 @@ use Rattle.gx_model.specs.declared.objects.Kind.{Kind}
 use Rattle.gx_model.specs.declared.objects.Kind.TheVariants as kind
 use Rattle.gx_model.specs.Texts.{Bytes}
 use Rattle.gx_model.specs.Streams.Commands.{Blob}
-use Rattle.gx_model.specs.Export.{blob_commands, command_items, number_in, with_blobs}
+use Rattle.gx_model.specs.Export.{blob_commands, command_items, items_text, number_in, with_blobs}
 use Rattle.gx_model.specs.Histories.{Records, is_in}
 use Rattle.gx_model.specs.Records.HistoryOf.{bytes_of_blob, value_of_name}
 use Rattle.gx_model.specs.Objects.{IsNamer}
@@ -27,7 +27,7 @@ use Rattle.gx_model.specs.Texts.Sinks.{Taken}
 use Rattle.gx_rev.specs.Objects.{body_in_place}
 use Rattle.gx_export.specs.Marks.{Adds, AreNumbers, HasWritten, IsBlobAt}
 use Rattle.gx_export.specs.Outputs.{Stops, Writes, most}
-use Rattle.gx_export.specs.Texts.{command_text, head_items, items_of, items_text, last_items}
+use Rattle.gx_export.specs.Texts.{command_text, head_items, items_of, last_items}
 use Rattle.gx_export.specs.declared.fault.ExportFault.{ExportFault}
 use Rattle.gx_export.specs.declared.written.Written.{Written}
 use Rattle.gx_export.proofs.Writing.{items_later, writes_none}

@@ -5,7 +5,7 @@ use Rattle.std.proofs.lemmas.Grind.{flat_map-append}
 use Rattle.std.proofs.lemmas.List.{map-append}
 use Rattle.gx_model.specs.declared.objects.Kind.{Kind}
 use Rattle.gx_model.specs.Changes.{changed_files, gone_paths}
-use Rattle.gx_model.specs.Export.{blob_commands, change_items, with_blobs}
+use Rattle.gx_model.specs.Export.{blob_commands, change_items, items_text, with_blobs}
 use Rattle.gx_model.specs.Histories.Files.{FileMap}
 use Rattle.gx_model.specs.Histories.Values.{Value}
 use Rattle.gx_model.specs.Histories.{Records}
@@ -27,8 +27,9 @@ use Rattle.gx_export.specs.Compared.{IsBelowIf, IsCompared, IsPair, IsPairBelow,
 use Rattle.gx_export.specs.FileTexts.{AreKept, IsEntryBelow, IsTreeBelow, bytes_in}
 use Rattle.gx_export.specs.Marks.{HasWritten}
 use Rattle.gx_export.specs.Outputs.{Stops}
-use Rattle.gx_export.specs.Pairs.{bytes_if, entry_order, shown_pair, side_by_side}
-use Rattle.gx_export.specs.Texts.{items_of, items_text}
+use Rattle.gx_export.specs.Pairs.{entry_order, shown_pair, side_by_side}
+use Rattle.gx_object.specs.Parts.{bytes_if}
+use Rattle.gx_export.specs.Texts.{items_of}
 use Rattle.gx_export.specs.declared.changes.Changes.{Changes}
 use Rattle.gx_export.specs.declared.fault.ExportFault.{ExportFault}
 use Rattle.gx_export.specs.declared.pairs.Pair.{Pair}

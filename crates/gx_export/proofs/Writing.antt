@@ -8,9 +8,8 @@ use Rattle.std.proofs.Math.Seq.{take-suc, drop-cons}
 use Rattle.gx_model.specs.Texts.{Bytes}
 use Rattle.gx_model.specs.Texts.Sinks.{Sends, Taken, Took}
 use Rattle.gx_model.specs.Streams.Items.{Item}
-use Rattle.gx_model.specs.Export.{item_text}
+use Rattle.gx_model.specs.Export.{item_text, items_text}
 use Rattle.gx_model.proofs.Texts.SentTexts.{took_both, took_nothing}
-use Rattle.gx_export.specs.Texts.{items_text}
 use Rattle.gx_export.specs.Outputs.{Stops, StopsAfter, StopsAt, Writes, most}
 use Rattle.gx_export.specs.declared.fault.ExportFault.{ExportFault}
 use Rattle.gx_export.specs.declared.fault.ExportFault.TheVariants.{OutOfMemory, WriteFailed}

@@ -5,14 +5,13 @@ use Rattle.std.specs.List.{filter, filter_map, list_all, slice_get, AllByRecursi
 use Rattle.gx_model.specs.Changes.{commit_ref, is_branch}
 use Rattle.gx_model.specs.Export.{carrier, is_reached}
 use Rattle.gx_model.specs.Histories.Marks.{IsAt, IsMarked, Marks, marks_of}
-use Rattle.gx_model.specs.Histories.Values.{Commit, Value}
+use Rattle.gx_model.specs.Histories.Values.{Commit, Value, commit_of}
 use Rattle.gx_model.specs.Histories.{Records, Target}
 use Rattle.gx_model.specs.Laws.HistoryLaws.{IsParent}
 use Rattle.gx_model.specs.Laws.RepositoryLaws.{values_of}
 use Rattle.gx_model.specs.Records.HistoryOf.{target_in, value_of_name}
 use Rattle.gx_model.specs.Records.Sound.{IsTarget}
 use Rattle.gx_model.specs.Replay.{peeled_at}
-use Rattle.gx_model.specs.Revisions.Ranges.{commit_of}
 use Rattle.gx_model.specs.Texts.{Bytes}
 use Rattle.gx_object.specs.declared.name.Name.{Name}
 use Rattle.gx_repo.specs.Refs.{shown_lent_ref}

@@ -5,7 +5,7 @@ use Rattle.std.specs.List.{filter}
 use Rattle.gx_model.specs.declared.objects.Kind.{Kind}
 use Rattle.gx_model.specs.declared.features.Feature.TheVariants as features
 use Rattle.gx_model.specs.Changes.{all_changes, carrier_reset, changes_text, closed_by, commit_changes, commits_with_changes, named_in, own_files, range_text, sending_commands, set_refs, with_changes}
-use Rattle.gx_model.specs.Export.{blob_commands, command_items, commit_on, contents, reached_commits, ref_by, reset_before, with_blobs}
+use Rattle.gx_model.specs.Export.{blob_commands, command_items, commit_on, contents, items_text, reached_commits, ref_by, reset_before, with_blobs}
 use Rattle.gx_model.specs.Histories.Files.{FileMap}
 use Rattle.gx_model.specs.Histories.Marks.{IsAt, marks_of}
 use Rattle.gx_model.specs.Histories.Values.{Commit, CommitText, Value, list_of, parents_of}
@@ -32,7 +32,7 @@ use Rattle.gx_export.specs.Marks.{Adds, AreNumbers, HasWritten}
 use Rattle.gx_export.specs.Naming.{shown_commit}
 use Rattle.gx_export.specs.Outputs.{Delivers, Writes}
 use Rattle.gx_export.specs.Parts.{AddsItems, commits_called}
-use Rattle.gx_export.specs.Texts.{file_items, head_items, items_of, items_text, parents_by, root_items}
+use Rattle.gx_export.specs.Texts.{file_items, head_items, items_of, parents_by, root_items}
 use Rattle.gx_export.specs.declared.branches.Branches.{Branches}
 use Rattle.gx_export.specs.declared.changes.Changes.{Changes}
 use Rattle.gx_export.specs.declared.fault.ExportFault.{ExportFault}

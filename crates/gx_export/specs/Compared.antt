@@ -5,7 +5,7 @@ use Rattle.gx_model.specs.declared.objects.Kind.{Kind}
 use Rattle.gx_model.specs.declared.objects.Kind.TheVariants as kinds
 use Rattle.gx_model.specs.declared.objects.Mode.TheVariants.{Dir}
 use Rattle.gx_model.specs.Changes.{base_files, changed_files, gone_paths, own_files}
-use Rattle.gx_model.specs.Export.{blob_commands, change_items, contents, with_blobs}
+use Rattle.gx_model.specs.Export.{blob_commands, change_items, contents, items_text, with_blobs}
 use Rattle.gx_model.specs.Histories.Files.{FileMap}
 use Rattle.gx_model.specs.Histories.Values.{Commit, Value, files_of, list_of, parents_of}
 use Rattle.gx_model.specs.Histories.{Records}
@@ -28,8 +28,9 @@ use Rattle.gx_tree.specs.Writes.{kept_leaf}
 use Rattle.gx_export.specs.FileTexts.{AreKept, IsEntryBelow, IsGathered, IsTreeBelow, bytes_in}
 use Rattle.gx_export.specs.Marks.{AddsBlobs, HasWritten}
 use Rattle.gx_export.specs.Outputs.{Stops}
-use Rattle.gx_export.specs.Pairs.{bytes_if, shown_pair}
-use Rattle.gx_export.specs.Texts.{file_items, items_of, items_text}
+use Rattle.gx_export.specs.Pairs.{shown_pair}
+use Rattle.gx_object.specs.Parts.{bytes_if}
+use Rattle.gx_export.specs.Texts.{file_items, items_of}
 use Rattle.gx_export.specs.declared.changes.Changes.{Changes}
 use Rattle.gx_export.specs.declared.fault.ExportFault.{ExportFault}
 use Rattle.gx_export.specs.declared.pairs.Pair.{Pair}

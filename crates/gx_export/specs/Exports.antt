@@ -3,7 +3,7 @@
 use Rattle.std.specs.Prelude.{◌∷◌, ◌++◌, ◌≤◌, [], length, List, map, Option, Result, Ok, Err}
 use Rattle.gx_model.specs.declared.features.Feature.TheVariants as features
 use Rattle.gx_model.specs.Streams.Commands.{Asks, Done}
-use Rattle.gx_model.specs.Export.{command_items, commit_commands, export_text, reached_commits, ref_command}
+use Rattle.gx_model.specs.Export.{command_items, commit_commands, export_text, items_text, reached_commits, ref_command}
 use Rattle.gx_model.specs.Histories.{History, Records}
 use Rattle.gx_model.specs.Histories.Values.{Value}
 use Rattle.gx_model.specs.Streams.Items.{Item}
@@ -11,7 +11,7 @@ use Rattle.gx_model.specs.Records.HistoryOf.{history_of}
 use Rattle.gx_model.specs.Texts.{Bytes}
 use Rattle.gx_model.specs.Texts.Sinks.{Taken, Took, TookFront}
 use Rattle.gx_export.specs.Outputs.{StopsAt, most}
-use Rattle.gx_export.specs.Texts.{items_of, items_text, last_items}
+use Rattle.gx_export.specs.Texts.{items_of, last_items}
 use Rattle.gx_export.specs.declared.fault.ExportFault.{ExportFault}
 use Rattle.gx_export.specs.declared.fault.ExportFault.TheVariants.{OutOfMemory, WriteFailed}
 

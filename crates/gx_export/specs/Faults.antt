@@ -1,5 +1,5 @@
--- The faults of an export: what they print, and when want of memory is none of them.
-use Rattle.std.specs.Prelude.{◌≢◌, codes, IfErr, Result}
+-- The faults of an export, and what they print.
+use Rattle.std.specs.Prelude.{codes}
 use Rattle.gx_model.specs.Texts.{Bytes}
 use Rattle.gx_rev.specs.RevFaults as rev
 use Rattle.gx_export.specs.declared.fault.ExportFault.{ExportFault}
@@ -16,7 +16,3 @@ word (WriteFailed written) = codes "WriteFailed"
 abbrev pub refusal : RangeFault → Bytes
 refusal (Walk fault) = rev.refusal fault
 refusal (Export fault) = word fault
-
--- an answer for which no memory is taken: want of it is none of its faults
-abbrev pub NeedsNoMemory : {X : Type 0} → Result X ExportFault → Type 0
-NeedsNoMemory answer = IfErr answer (λ fault. fault ≢ OutOfMemory)

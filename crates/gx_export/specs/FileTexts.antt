@@ -3,7 +3,7 @@ use Rattle.std.specs.Prelude.{◌≡◌, ◌≤◌, ◌++◌, [], ◌∷◌, ℕ
 use Rattle.std.specs.List.{list_all, slice_range, AllByRecursion}
 use Rattle.gx_model.specs.declared.objects.Kind.{Kind}
 use Rattle.gx_model.specs.declared.objects.Mode.{Mode}
-use Rattle.gx_model.specs.Export.{blob_commands, contents, with_blobs}
+use Rattle.gx_model.specs.Export.{blob_commands, contents, items_text, with_blobs}
 use Rattle.gx_model.specs.Histories.Files.{FileMap}
 use Rattle.gx_model.specs.Histories.{Records, is_in}
 use Rattle.gx_model.specs.Records.HistoryOf.{Named, contents_of, named_values}
@@ -18,7 +18,7 @@ use Rattle.gx_tree.specs.Lists.{below}
 use Rattle.gx_tree.specs.Nodes.{Kept, kept_map}
 use Rattle.gx_export.specs.Marks.{AddsBlobs}
 use Rattle.gx_export.specs.Outputs.{Stops}
-use Rattle.gx_export.specs.Texts.{file_items, file_line, items_of, items_text}
+use Rattle.gx_export.specs.Texts.{file_items, file_line, items_of}
 use Rattle.gx_export.specs.declared.fault.ExportFault.{ExportFault}
 use Rattle.gx_export.specs.declared.lines.Directory.{Directory}
 use Rattle.gx_export.specs.declared.lines.Lines.{Lines}

@@ -1,7 +1,7 @@
 -- The values that were written, with their marks.
 use Rattle.std.specs.Prelude.{◌≡◌, ℕ, ◌≤◌, List, length, slice_index_or, Option, Some, Result, Ok, Err}
 use Rattle.std.specs.List.{slice_get}
-use Rattle.gx_model.specs.Export.{blob_commands, number_in, with_blobs}
+use Rattle.gx_model.specs.Export.{blob_commands, items_text, number_in, with_blobs}
 use Rattle.gx_model.specs.Histories.{Records}
 use Rattle.gx_model.specs.Streams.Items.{Item}
 use Rattle.gx_model.specs.Laws.RepositoryLaws.{values_of}
@@ -9,7 +9,7 @@ use Rattle.gx_model.specs.Texts.{Bytes}
 use Rattle.gx_model.specs.Histories.Values.{Value, blob_value}
 use Rattle.gx_model.specs.Texts.Sinks.{Taken}
 use Rattle.gx_export.specs.Outputs.{Stops, Writes, most}
-use Rattle.gx_export.specs.Texts.{items_of, items_text}
+use Rattle.gx_export.specs.Texts.{items_of}
 use Rattle.gx_export.specs.declared.fault.ExportFault.{ExportFault}
 use Rattle.gx_export.specs.declared.written.Written.{Written}
 

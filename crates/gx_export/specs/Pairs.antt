@@ -8,7 +8,6 @@ use Rattle.gx_model.specs.Histories.Values.{same_mode}
 use Rattle.gx_model.specs.Objects.{Entry as TreeEntry, entry_key}
 use Rattle.gx_model.specs.Texts.{Bytes, same_bytes}
 use Rattle.gx_object.specs.declared.entry.Entry.{Entry}
-use Rattle.gx_object.specs.declared.name.Name.{Name}
 use Rattle.gx_object.specs.Entries.{shown}
 use Rattle.gx_export.specs.declared.pairs.Pair.{Pair}
 
@@ -72,8 +71,3 @@ is_same _ = false
 abbrev pub name_if : Option Entry → Option Bytes
 name_if None = None
 name_if (Some e) = Some e.name.bytes
-
--- the bytes of a name that may be there
-abbrev pub bytes_if : Option Name → Option Bytes
-bytes_if None = None
-bytes_if (Some name) = Some name.bytes

@@ -4,7 +4,7 @@ use Rattle.std.specs.List.{AllByRecursion}
 use Rattle.gx_model.specs.declared.objects.Kind.{Kind}
 use Rattle.gx_model.specs.declared.objects.Kind.TheVariants as kinds
 use Rattle.gx_model.specs.declared.objects.Mode.{Mode}
-use Rattle.gx_model.specs.Export.{all_written, carrier, commit_commands, command_items, contents, one_commit, reached_commits, ref_command, with_blobs, with_commit}
+use Rattle.gx_model.specs.Export.{all_written, carrier, commit_commands, command_items, contents, one_commit, reached_commits, ref_command, with_blobs, with_commit, items_text}
 use Rattle.gx_model.specs.Histories.Files.{FileMap}
 use Rattle.gx_model.specs.Histories.{Records}
 use Rattle.gx_model.specs.Records.Sound.{Holds}
@@ -30,7 +30,7 @@ use Rattle.gx_export.specs.Exports.{front_items, rest_items}
 use Rattle.gx_export.specs.FileTexts.{AreKept, Gathers, IsEntryBelow, IsTreeBelow}
 use Rattle.gx_export.specs.Marks.{Adds, AddsBlobs, HasWritten, IsBlobAt}
 use Rattle.gx_export.specs.Outputs.{Writes}
-use Rattle.gx_export.specs.Texts.{change_lines, commit_lines, file_items, items_of, items_text, parent_items, root_items}
+use Rattle.gx_export.specs.Texts.{change_lines, commit_lines, file_items, items_of, parent_items, root_items}
 use Rattle.gx_export.specs.declared.fault.ExportFault.{ExportFault}
 use Rattle.gx_export.specs.declared.lines.Lines.{Lines}
 use Rattle.gx_export.specs.declared.written.Written.{Written}

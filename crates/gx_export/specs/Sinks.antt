@@ -1,14 +1,15 @@
 -- What is written to a sink, by what the sink took.
 use Rattle.std.specs.Borrow.{Bor}
 use Rattle.std.specs.Prelude.{[], ◌∷◌, ℕ, length, List, Option, Result}
-use Rattle.gx_model.specs.Export.{commit_ish_text, optional_line, to_nothing, word_line}
+use Rattle.gx_model.specs.Export.{commit_ish_text, items_text, to_nothing, word_line, word_line_if}
 use Rattle.gx_model.specs.Streams.Commands.{CommitIsh}
 use Rattle.gx_model.specs.Objects.{CommitParts, TagParts}
 use Rattle.gx_model.specs.Streams.Items.{Data}
 use Rattle.gx_model.specs.Texts.{Bytes}
 use Rattle.gx_model.specs.Texts.Sinks.{Taken}
 use Rattle.gx_export.specs.Outputs.{Writes}
-use Rattle.gx_export.specs.Texts.{author_items, blob_under, command_text, head_items, items_text, last_items, optional_text, parts_text, root_items, tag_command, target_items, to_commit}
+use Rattle.gx_export.specs.Texts.{author_items, blob_under, command_text, head_items, last_items, parts_text, root_items, tag_command, target_items, to_commit}
+use Rattle.std.specs.Option.{option_copied}
 use Rattle.gx_export.specs.declared.fault.ExportFault.{ExportFault}
 
 module _ {W : Type 0} (taken : W → Option Taken) where
@@ -34,7 +35,7 @@ module _ {W : Type 0} (taken : W → Option Taken) where
 
   -- a line with a word and a text, where there is a text
   abbrev pub WritesIf : Bytes → Option (Bor Bytes) → ℕ → ℕ → W → W → Result (Unit {0}) ExportFault → Type 0
-  WritesIf word text before after was now result = Writes before after (taken was) (taken now) (items_text (optional_line word (optional_text text))) result
+  WritesIf word text before after was now result = Writes before after (taken was) (taken now) (items_text (word_line_if word (option_copied text))) result
 
   -- a commit on a ref up to its message, under a mark
   abbrev pub WritesHead : Bytes → ℕ → CommitParts → ℕ → ℕ → W → W → Result (Unit {0}) ExportFault → Type 0

@@ -1,8 +1,7 @@
 -- The texts of items and of commands, in their parts.
-use Rattle.std.specs.Prelude.{ℕ, zero, suc, length, List, [], ◌∷◌, ◌++◌, map, Option, None, Some, codes}
+use Rattle.std.specs.Prelude.{ℕ, zero, suc, length, List, [], ◌∷◌, ◌++◌, map, None, Some, codes}
 use Rattle.std.specs.Borrow.{Bor}
 use Rattle.std.specs.List.{flat_map}
-use Rattle.std.specs.Option.{option_map}
 use Rattle.gx_model.specs.declared.objects.Mode.{Mode}
 use Rattle.gx_model.specs.Texts.{Bytes}
 use Rattle.gx_model.specs.Streams.Items.{Data, Item, Line}
@@ -11,19 +10,11 @@ use Rattle.gx_model.specs.Streams.Commands.{Blob, Command, CommitIsh, Reset, Tag
 use Rattle.gx_model.specs.Objects.{TagParts}
 use Rattle.gx_model.specs.Texts.Paths.{Path, path_text, printed}
 use Rattle.gx_model.specs.Histories.Values.{Commit, CommitText, Value, commit_value}
-use Rattle.gx_model.specs.Export.{carrier, change_items, command_items, commit_ish_text, file_change, first_by, from_line, item_text, mark_line, marked_in, mode_digits, optional_line, others_by, to_nothing, word_line}
+use Rattle.gx_model.specs.Export.{carrier, change_items, command_items, commit_ish_text, file_change, first_by, from_line, items_text, mark_line, marked_in, mode_digits, others_by, to_nothing, word_line, word_line_if}
 
 -- the bytes of parts, one after the other
 abbrev pub parts_text : List (Bor Bytes) → Bytes
 parts_text parts = flat_map (λ part. part.now) parts
-
--- a text that may be left out
-abbrev pub optional_text : Option (Bor Bytes) → Option Bytes
-optional_text text = option_map (λ text. text.now) text
-
--- the text of items
-abbrev pub items_text : List Item → Bytes
-items_text items = flat_map item_text items
 
 -- the text of a command
 abbrev pub command_text : Command → Bytes
@@ -32,11 +23,11 @@ command_text command = items_text (command_items command)
 -- the items of a commit on a ref up to its committer, under a mark
 abbrev pub author_items : Bytes → ℕ → CommitText → List Item
 author_items ref mark text =
-    word_line (codes "commit") ref ∷ mark_line (Some mark) ++ (optional_line (codes "author") (Some text.author) ++ word_line (codes "committer") text.committer ∷ [])
+    word_line (codes "commit") ref ∷ mark_line (Some mark) ++ (word_line_if (codes "author") (Some text.author) ++ word_line (codes "committer") text.committer ∷ [])
 
 -- the items of a commit on a ref up to its message
 abbrev pub head_items : Bytes → ℕ → CommitText → List Item
-head_items ref mark text = author_items ref mark text ++ (optional_line (codes "encoding") text.encoding ++ Data text.message ∷ [])
+head_items ref mark text = author_items ref mark text ++ (word_line_if (codes "encoding") text.encoding ++ Data text.message ∷ [])
 
 -- a blob under a mark
 abbrev pub blob_under : ℕ → Bytes → Command

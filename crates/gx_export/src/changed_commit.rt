@@ -7,7 +7,7 @@ ghost use Rattle.gx_model.specs.Histories.Values.{Commit};
 ghost use Rattle.gx_rev.specs.Objects.{IsHeldAs};
 ghost use Rattle.gx_export.specs.ChangedParts.{AddsBehindOn, AddsChangedCommit, AddsLinesOn, AddsNamedParents, AddsUnmarkedOn, KeepsChangedCommit, KeepsUnmarked, WritesDiffering};
 ghost use Rattle.gx_export.specs.Compared.{IsComparing};
-ghost use Rattle.gx_export.specs.Faults.{NeedsNoMemory};
+ghost use Rattle.gx_model.specs.Faults.{NeedsNoMemory};
 ghost use Rattle.gx_export.specs.Outputs.{most};
 ghost use Rattle.gx_export.specs.Parts.{IsUnderWayBehind};
 
@@ -85,7 +85,7 @@ fn write_behind_blobs<N: Namer, A: Allocator + Copy, W: Sink>(
     requires { IsUnderWayBehind repo.now.1 commit.now.parents written.old }
     ensures adds { AddsBehindOn N.name_of W.taken repo.now commit.now branch.now changes.now
         written.old written.new sink.old sink.new result }
-    ensures memory { NeedsNoMemory result }
+    ensures memory { NeedsNoMemory ExportFault.OutOfMemory result }
 {
     write_root(sink, &mut written.bytes, branch, commit)?;
     write_lines(repo, sink, written, changes, branch, commit)
@@ -103,7 +103,7 @@ fn write_lines<N: Namer, A: Allocator + Copy, W: Sink>(
     requires { IsUnderWayBehind repo.now.1 commit.now.parents written.old }
     ensures adds { AddsLinesOn N.name_of W.taken repo.now commit.now branch.now changes.now
         written.old written.new sink.old sink.new result }
-    ensures memory { NeedsNoMemory result }
+    ensures memory { NeedsNoMemory ExportFault.OutOfMemory result }
 {
     write_commit_head(sink, &mut written.bytes, branch, written.count + 1, commit)?;
     write_named_parents(repo, sink, written, commit)?;
@@ -120,7 +120,7 @@ fn write_named_parents<N: Namer, A: Allocator + Copy, W: Sink>(
     requires { IsUnderWayBehind repo.now.1 commit.now.parents written.old }
     ensures adds { AddsNamedParents N.name_of W.taken repo.now commit.now.parents written.old
         written.new sink.old sink.new result }
-    ensures memory { NeedsNoMemory result }
+    ensures memory { NeedsNoMemory ExportFault.OutOfMemory result }
 {
     repo.sound();
     for number in 0..commit.parent_count() {
@@ -141,7 +141,7 @@ fn write_differing<A: Allocator + Copy, W: Sink>(
     requires { written.old ≤ most }
     ensures text { WritesDiffering W.taken changes.now written.old written.new sink.old sink.new
         result }
-    ensures memory { NeedsNoMemory result }
+    ensures memory { NeedsNoMemory ExportFault.OutOfMemory result }
 {
     let gone = changes.gone.as_slice();
     let files = changes.files.text.as_slice();

@@ -1,7 +1,7 @@
 //! The texts of commands. Source: git-fast-import(1), "Input Format".
 
 ghost use Rattle.std.specs.Prelude.{◌≤◌};
-ghost use Rattle.gx_export.specs.Faults.{NeedsNoMemory};
+ghost use Rattle.gx_model.specs.Faults.{NeedsNoMemory};
 ghost use Rattle.gx_export.specs.Naming.{shown_commit};
 ghost use Rattle.gx_export.specs.Outputs.{most};
 ghost use Rattle.gx_export.specs.Sinks.{ResetsTo, WritesAuthors, WritesBlob, WritesData, WritesHead, WritesIf, WritesLine, WritesParent, WritesReset, WritesTag, WritesTarget};
@@ -22,7 +22,7 @@ pub(crate) fn write_blob<W: Sink>(
 ) -> Result<(), ExportFault>
     requires { sent.old ≤ most }
     ensures text { WritesBlob W.taken mark bytes.now sent.old sent.new sink.old sink.new result }
-    ensures memory { NeedsNoMemory result }
+    ensures memory { NeedsNoMemory ExportFault.OutOfMemory result }
 {
     let mut number = Buffer::new();
     let mut length = Buffer::new();
@@ -45,7 +45,7 @@ pub(crate) fn write_blob<W: Sink>(
 fn write_block<W: Sink>(sink: &mut W, sent: &mut u64, bytes: &[u8]) -> Result<(), ExportFault>
     requires { sent.old ≤ most }
     ensures text { WritesData W.taken bytes.now sent.old sent.new sink.old sink.new result }
-    ensures memory { NeedsNoMemory result }
+    ensures memory { NeedsNoMemory ExportFault.OutOfMemory result }
 {
     let mut length = Buffer::new();
     write_all(
@@ -70,7 +70,7 @@ fn write_line<W: Sink>(
 ) -> Result<(), ExportFault>
     requires { sent.old ≤ most }
     ensures text { WritesLine W.taken word.now text.now sent.old sent.new sink.old sink.new result }
-    ensures memory { NeedsNoMemory result }
+    ensures memory { NeedsNoMemory ExportFault.OutOfMemory result }
 {
     write_all(sink, sent, &[word, b" ", text, b"\n"])
 }
@@ -84,7 +84,7 @@ fn write_optional<W: Sink>(
 ) -> Result<(), ExportFault>
     requires { sent.old ≤ most }
     ensures text { WritesIf W.taken word.now text.entry sent.old sent.new sink.old sink.new result }
-    ensures memory { NeedsNoMemory result }
+    ensures memory { NeedsNoMemory ExportFault.OutOfMemory result }
 {
     match text {
         Some(text) => write_line(sink, sent, word, text),
@@ -102,7 +102,7 @@ pub(crate) fn write_commit_head<W: Sink>(
 ) -> Result<(), ExportFault>
     requires { sent.old ≤ most }
     ensures text { WritesHead W.taken branch.now mark commit.now sent.old sent.new sink.old sink.new result }
-    ensures memory { NeedsNoMemory result }
+    ensures memory { NeedsNoMemory ExportFault.OutOfMemory result }
 {
     write_authors(sink, sent, branch, mark, commit)?;
     write_optional(sink, sent, b"encoding", commit.encoding())?;
@@ -119,7 +119,7 @@ fn write_authors<W: Sink>(
 ) -> Result<(), ExportFault>
     requires { sent.old ≤ most }
     ensures text { WritesAuthors W.taken branch.now mark commit.now sent.old sent.new sink.old sink.new result }
-    ensures memory { NeedsNoMemory result }
+    ensures memory { NeedsNoMemory ExportFault.OutOfMemory result }
 {
     let mut number = Buffer::new();
     write_all(
@@ -148,7 +148,7 @@ pub(crate) fn write_parent<W: Sink>(
 ) -> Result<(), ExportFault>
     requires { sent.old ≤ most }
     ensures text { WritesParent W.taken word.now (shown_commit parent) sent.old sent.new sink.old sink.new result }
-    ensures memory { NeedsNoMemory result }
+    ensures memory { NeedsNoMemory ExportFault.OutOfMemory result }
 {
     match parent {
         CommitIsh::Marked(mark) => {
@@ -174,7 +174,7 @@ pub(crate) fn write_reset<W: Sink>(
 ) -> Result<(), ExportFault>
     requires { sent.old ≤ most }
     ensures text { WritesReset W.taken name.now sent.old sent.new sink.old sink.new result }
-    ensures memory { NeedsNoMemory result }
+    ensures memory { NeedsNoMemory ExportFault.OutOfMemory result }
 {
     write_line(sink, sent, b"reset", name)
 }
@@ -188,7 +188,7 @@ pub(crate) fn write_reset_to<W: Sink>(
 ) -> Result<(), ExportFault>
     requires { sent.old ≤ most }
     ensures text { ResetsTo W.taken name.now (shown_commit commit) sent.old sent.new sink.old sink.new result }
-    ensures memory { NeedsNoMemory result }
+    ensures memory { NeedsNoMemory ExportFault.OutOfMemory result }
 {
     write_reset(sink, sent, name)?;
     write_parent(sink, sent, b"from", commit)?;
@@ -204,7 +204,7 @@ pub(crate) fn write_tag<W: Sink>(
 ) -> Result<(), ExportFault>
     requires { sent.old ≤ most }
     ensures text { WritesTag W.taken (shown_commit commit) tag.now sent.old sent.new sink.old sink.new result }
-    ensures memory { NeedsNoMemory result }
+    ensures memory { NeedsNoMemory ExportFault.OutOfMemory result }
 {
     write_target(sink, sent, tag, commit)?;
     write_optional(sink, sent, b"tagger", tag.tagger())?;
@@ -220,7 +220,7 @@ fn write_target<W: Sink>(
 ) -> Result<(), ExportFault>
     requires { sent.old ≤ most }
     ensures text { WritesTarget W.taken (shown_commit commit) tag.now sent.old sent.new sink.old sink.new result }
-    ensures memory { NeedsNoMemory result }
+    ensures memory { NeedsNoMemory ExportFault.OutOfMemory result }
 {
     write_line(sink, sent, b"tag", tag.name())?;
     write_parent(sink, sent, b"from", commit)

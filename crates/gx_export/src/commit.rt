@@ -5,7 +5,7 @@ ghost use Rattle.gx_model.specs.declared.objects.Kind.TheVariants as kinds;
 ghost use Rattle.gx_model.specs.Histories.Marks.{IsAt};
 ghost use Rattle.gx_model.specs.Histories.Values.{Commit};
 ghost use Rattle.gx_rev.specs.Objects.{IsHeldAs};
-ghost use Rattle.gx_export.specs.Faults.{NeedsNoMemory};
+ghost use Rattle.gx_model.specs.Faults.{NeedsNoMemory};
 ghost use Rattle.gx_export.specs.Outputs.{most};
 ghost use Rattle.gx_export.specs.Parts.{AddsBehindBlobs, AddsCommitLines, AddsOneCommit, AddsParentLines, AddsUnmarked, IsUnderWay, IsUnderWayBehind, KeepsLinesOf, KeepsOneCommit, WritesChanges};
 ghost use Rattle.gx_export.specs.Sinks.{WritesRoot};
@@ -75,7 +75,7 @@ fn write_behind_blobs<N: Namer, A: Allocator + Copy, W: Sink>(
 ) -> Result<(), ExportFault>
     requires { IsUnderWayBehind repo.now.1 commit.now.parents written.old }
     ensures adds { AddsBehindBlobs W.taken repo.now.1 commit.now lines.now written.old written.new sink.old sink.new result }
-    ensures memory { NeedsNoMemory result }
+    ensures memory { NeedsNoMemory ExportFault.OutOfMemory result }
 {
     write_root(sink, &mut written.bytes, b"refs/gx/export", commit)?;
     write_lines(repo, sink, written, commit, lines)
@@ -90,7 +90,7 @@ pub(crate) fn write_root<W: Sink>(
 ) -> Result<(), ExportFault>
     requires { written.old ≤ most }
     ensures text { WritesRoot W.taken branch.now commit.now written.old written.new sink.old sink.new result }
-    ensures memory { NeedsNoMemory result }
+    ensures memory { NeedsNoMemory ExportFault.OutOfMemory result }
 {
     if commit.parent_count() == 0 {
         return write_reset(sink, written, branch);
@@ -108,7 +108,7 @@ fn write_lines<N: Namer, A: Allocator + Copy, W: Sink>(
 ) -> Result<(), ExportFault>
     requires { IsUnderWayBehind repo.now.1 commit.now.parents written.old }
     ensures adds { AddsCommitLines W.taken repo.now.1 commit.now lines.now written.old written.new sink.old sink.new result }
-    ensures memory { NeedsNoMemory result }
+    ensures memory { NeedsNoMemory ExportFault.OutOfMemory result }
 {
     write_commit_head(
         sink,
@@ -130,7 +130,7 @@ fn write_parents<N: Namer, A: Allocator + Copy, W: Sink>(
 ) -> Result<(), ExportFault>
     requires { IsUnderWayBehind repo.now.1 commit.now.parents written.old }
     ensures adds { AddsParentLines W.taken repo.now.1 commit.now.parents written.old written.new sink.old sink.new result }
-    ensures memory { NeedsNoMemory result }
+    ensures memory { NeedsNoMemory ExportFault.OutOfMemory result }
 {
     repo.sound();
     for number in 0..commit.parent_count() {
@@ -159,7 +159,7 @@ pub(crate) fn parent_word(number: usize) -> &'static [u8]
 fn write_files<W: Sink>(sink: &mut W, written: &mut u64, lines: &[u8]) -> Result<(), ExportFault>
     requires { written.old ≤ most }
     ensures text { WritesChanges W.taken lines.now written.old written.new sink.old sink.new result }
-    ensures memory { NeedsNoMemory result }
+    ensures memory { NeedsNoMemory ExportFault.OutOfMemory result }
 {
     write_all(sink, written, &[b"deleteall\n".as_slice(), lines, b"\n"])
 }

@@ -4,7 +4,8 @@ ghost use Rattle.std.specs.Prelude.{◌≡◌, false, IfSome};
 ghost use Rattle.gx_model.specs.declared.objects.Kind.TheVariants as kinds;
 ghost use Rattle.gx_rev.specs.Objects.{IsHeldAs};
 ghost use Rattle.gx_export.specs.Compared.{ComparesCommit, ComparesFile, ComparesPair, ComparesTrees, HasFileIf, HasPairBelow, HasTreesBelow, IsComparing, IsOneOf, IsTreeIf, entries_if, tree_if};
-ghost use Rattle.gx_export.specs.Pairs.{bytes_if, is_same, shown_pair};
+ghost use Rattle.gx_export.specs.Pairs.{is_same, shown_pair};
+ghost use Rattle.gx_object.specs.Parts.{bytes_if};
 
 use crate::ExportFault;
 use crate::changes::Changes;

@@ -3,7 +3,7 @@
 ghost use Rattle.std.specs.Prelude.{◌≡◌, ◌≤◌, List};
 ghost use Rattle.gx_model.specs.Histories.Values.{Value};
 ghost use Rattle.gx_export.specs.Exports.{Exports};
-ghost use Rattle.gx_export.specs.Faults.{NeedsNoMemory};
+ghost use Rattle.gx_model.specs.Faults.{NeedsNoMemory};
 ghost use Rattle.gx_export.specs.Marks.{HasWritten};
 ghost use Rattle.gx_export.specs.Outputs.{most};
 ghost use Rattle.gx_export.specs.Parts.{AddsFront, AddsReachedCommits, AddsRest, IsToBegin};
@@ -103,7 +103,7 @@ fn write_rest<N: Namer, A: Allocator + Copy, W: Sink>(
 ) -> Result<(), ExportFault>
     requires written { (ws : List Value) × HasWritten repo.now.1 ws written.old }
     ensures adds { AddsRest W.taken repo.now.1 written.old written.new sink.old sink.new result }
-    ensures memory { NeedsNoMemory result }
+    ensures memory { NeedsNoMemory ExportFault.OutOfMemory result }
 {
     write_last(sink, &mut written.bytes, written.count)?;
     write_refs(repo, sink, written)?;
@@ -114,7 +114,7 @@ fn write_rest<N: Namer, A: Allocator + Copy, W: Sink>(
 fn write_last<W: Sink>(sink: &mut W, written: &mut u64, marks: u64) -> Result<(), ExportFault>
     requires { written.old ≤ most }
     ensures text { WritesLast W.taken marks written.old written.new sink.old sink.new result }
-    ensures memory { NeedsNoMemory result }
+    ensures memory { NeedsNoMemory ExportFault.OutOfMemory result }
 {
     if marks > 0 {
         return write_reset(sink, written, b"refs/gx/export");

@@ -7,7 +7,7 @@ ghost use Rattle.gx_rev.specs.Views.{shown_range};
 ghost use Rattle.gx_rev.specs.Walking.{AreWithout};
 ghost use Rattle.gx_export.specs.Branches.{AreTargets, FindsBranches};
 ghost use Rattle.gx_export.specs.ChangedParts.{AddsNamedRef, AddsNamedRefs, AddsSendingFront, AddsSendingRest, AddsSentCommits, AreCommitMarks, AreEither, ExportsChanges, ExportsRange, SendsMarked, SendsOn, WritesCarrier, WritesItems, closing, opening};
-ghost use Rattle.gx_export.specs.Faults.{NeedsNoMemory};
+ghost use Rattle.gx_model.specs.Faults.{NeedsNoMemory};
 ghost use Rattle.gx_export.specs.Marks.{HasWritten};
 ghost use Rattle.gx_export.specs.Outputs.{most};
 
@@ -159,7 +159,7 @@ fn write_opening<W: Sink>(sink: &mut W, written: &mut u64, closed: bool) -> Resu
     requires { written.old ≤ most }
     ensures text { WritesItems W.taken (opening closed) written.old written.new sink.old sink.new
         result }
-    ensures memory { NeedsNoMemory result }
+    ensures memory { NeedsNoMemory ExportFault.OutOfMemory result }
 {
     if closed {
         return write(sink, written, b"feature done\n");
@@ -206,7 +206,7 @@ fn write_rest<N: Namer, A: Allocator + Copy, W: Sink>(
     requires written { (ws : List Value) × HasWritten repo.now.1 ws written.old }
     ensures adds { AddsSendingRest N.name_of W.taken repo.now closed branches.now sent.now
         written.old written.new sink.old sink.new result }
-    ensures memory { NeedsNoMemory result }
+    ensures memory { NeedsNoMemory ExportFault.OutOfMemory result }
 {
     write_carrier(sink, &mut written.bytes, branches, sent)?;
     write_refs(repo, sink, written, &branches.refs)?;
@@ -223,7 +223,7 @@ fn write_carrier<A: Allocator + Copy, W: Sink>(
     requires { written.old ≤ most }
     ensures text { WritesCarrier W.taken branches.now sent.now written.old written.new sink.old
         sink.new result }
-    ensures memory { NeedsNoMemory result }
+    ensures memory { NeedsNoMemory ExportFault.OutOfMemory result }
 {
     if branches.reach_all(sent) {
         return Ok(());
@@ -236,7 +236,7 @@ fn write_closing<W: Sink>(sink: &mut W, written: &mut u64, closed: bool) -> Resu
     requires { written.old ≤ most }
     ensures text { WritesItems W.taken (closing closed) written.old written.new sink.old sink.new
         result }
-    ensures memory { NeedsNoMemory result }
+    ensures memory { NeedsNoMemory ExportFault.OutOfMemory result }
 {
     if closed {
         return write(sink, written, b"done\n");
@@ -255,7 +255,7 @@ fn write_refs<N: Namer, A: Allocator + Copy, W: Sink>(
     requires written { (ws : List Value) × HasWritten repo.now.1 ws written.old }
     ensures adds { AddsNamedRefs N.name_of W.taken repo.now refs.now written.old written.new
         sink.old sink.new result }
-    ensures memory { NeedsNoMemory result }
+    ensures memory { NeedsNoMemory ExportFault.OutOfMemory result }
 {
     for tip in refs {
         write_ref(repo, sink, written, tip.0, &tip.1)?;
@@ -275,7 +275,7 @@ fn write_ref<N: Namer, A: Allocator + Copy, W: Sink>(
     requires written { (ws : List Value) × HasWritten repo.now.1 ws written.old }
     ensures adds { AddsNamedRef N.name_of W.taken repo.now name.now object.now written.old
         written.new sink.old sink.new result }
-    ensures memory { NeedsNoMemory result }
+    ensures memory { NeedsNoMemory ExportFault.OutOfMemory result }
 {
     repo.sound();
     match tag_of(repo, object) {

@@ -4,7 +4,8 @@ ghost use Rattle.std.specs.Prelude.{◌≡◌};
 ghost use Rattle.std.specs.Iterator.{item_count};
 ghost use Rattle.std.specs.Map.Iter.{TakesFirst};
 ghost use Rattle.gx_object.specs.Entries.{mark_of, shown};
-ghost use Rattle.gx_export.specs.Pairs.{bytes_if, entry_order, first_order, is_same, left_from, name_if, shown_option, shown_pair, side_by_side};
+ghost use Rattle.gx_export.specs.Pairs.{entry_order, first_order, is_same, left_from, name_if, shown_option, shown_pair, side_by_side};
+ghost use Rattle.gx_object.specs.Parts.{bytes_if};
 
 use gx_object::{Entry, Mode, Name, TreeEntries, compare_marked};
 use std::cmp::Ordering;

@@ -3,7 +3,7 @@
 ghost use Rattle.std.specs.Prelude.{List};
 ghost use Rattle.gx_model.specs.Records.Sound.{IsTarget};
 ghost use Rattle.gx_model.specs.Histories.Values.{Value};
-ghost use Rattle.gx_export.specs.Faults.{NeedsNoMemory};
+ghost use Rattle.gx_model.specs.Faults.{NeedsNoMemory};
 ghost use Rattle.gx_export.specs.Marks.{HasWritten};
 ghost use Rattle.gx_export.specs.Parts.{AddsAllRefs, AddsOneRef};
 
@@ -25,7 +25,7 @@ pub(crate) fn write_refs<N: Namer, A: Allocator + Copy, W: Sink>(
 ) -> Result<(), ExportFault>
     requires written { (ws : List Value) × HasWritten repo.now.1 ws written.old }
     ensures adds { AddsAllRefs W.taken repo.now.1 written.old written.new sink.old sink.new result }
-    ensures memory { NeedsNoMemory result }
+    ensures memory { NeedsNoMemory ExportFault.OutOfMemory result }
 {
     for (name, object) in repo.refs() {
         write_ref(repo, sink, written, name, &object)?;
@@ -44,7 +44,7 @@ fn write_ref<N: Namer, A: Allocator + Copy, W: Sink>(
     requires target { IsTarget repo.now.1.records name.now object.now.bytes }
     requires written { (ws : List Value) × HasWritten repo.now.1 ws written.old }
     ensures adds { AddsOneRef W.taken repo.now.1 name.now object.now written.old written.new sink.old sink.new result }
-    ensures memory { NeedsNoMemory result }
+    ensures memory { NeedsNoMemory ExportFault.OutOfMemory result }
 {
     repo.sound();
     match tag_of(repo, object) {

@@ -8,7 +8,7 @@ ghost use Rattle.gx_model.specs.Texts.Paths.{is_component, is_short};
 ghost use Rattle.gx_model.specs.Records.Sound as sound;
 ghost use Rattle.gx_model.specs.Histories.Values.{Value};
 ghost use Rattle.gx_rev.specs.Objects.{IsHeldAs};
-ghost use Rattle.gx_export.specs.Faults.{NeedsNoMemory};
+ghost use Rattle.gx_model.specs.Faults.{NeedsNoMemory};
 ghost use Rattle.gx_export.specs.Marks.{HasWritten, IsBlobAt};
 ghost use Rattle.gx_export.specs.Parts.{AddsBlobsOf, AddsOneBlob, GathersEntry, GathersFile, GathersLinesOf, GathersTree, HasEntryBelow, HasTreeBelow, IsUnderWay, KeepsLinesOf};
 
@@ -177,7 +177,7 @@ fn write_blob_once<N: Namer, A: Allocator + Copy, W: Sink>(
     requires blob { (bytes : Bytes) × IsBlobAt repo.now.1 place bytes }
     requires written { (ws : List Value) × HasWritten repo.now.1 ws written.old }
     ensures adds { AddsOneBlob W.taken repo.now place written.old written.new sink.old sink.new result }
-    ensures memory { NeedsNoMemory result }
+    ensures memory { NeedsNoMemory ExportFault.OutOfMemory result }
 {
     repo.sound();
     if written.marks[place] > 0 {

@@ -3,7 +3,7 @@ use Rattle.std.proofs.Common.{◌≡◌, ℕ, suc, ◌+◌, ◌-◌, ◌<◌, �
 use Rattle.gx_model.specs.declared.objects.Kind.{Kind}
 use Rattle.gx_model.specs.declared.store_versions.Version.{Version}
 use Rattle.gx_model.specs.Texts.{Bytes}
-use Rattle.gx_model.specs.Faults.{and_then}
+use Rattle.gx_model.specs.Faults.{◌>>=◌}
 use Rattle.gx_model.specs.Histories.{Record}
 use Rattle.gx_model.specs.Stores.StoreReading.{Stored, next_record, next_records}
 use Rattle.gx_model.specs.declared.store_faults.FileFault.{FileFault}
@@ -13,16 +13,16 @@ use Rattle.gx_file.proofs.Steps.{moved}
 module _ (name : Kind → Bytes → Bytes) (v : Version) (given : Stored (List Record × Bytes)) (n k : ℕ) (rs : List Record) (text : Bytes)
     (so_far : given ≡ next_records name v (n - k) rs text) where
   -- What is left begins with the next record.
-  here : k < n → given ≡ and_then (next_record name v rs text) (λ x. next_records name v (n - (k + 1)) x.0 x.1)
+  here : k < n → given ≡ (next_record name v rs text >>= λ x. next_records name v (n - (k + 1)) x.0 x.1)
   here lt = let e : n - k ≡ suc (n - (k + 1)) = omega arith in so_far ∙ ap (λ m. next_records name v m rs text) e
 
   -- With one more record fewer are left.
   pub one_read : (more : List Record) (rest : Bytes) → k < n → next_record name v rs text ≡ Ok (more, rest) → given ≡ next_records name v (n - (k + 1)) more rest
-  one_read more rest lt e = here lt ∙ ap (λ r. and_then r (λ x. next_records name v (n - (k + 1)) x.0 x.1)) e
+  one_read more rest lt e = here lt ∙ ap (λ r. r >>= λ x. next_records name v (n - (k + 1)) x.0 x.1) e
 
   -- A record that is refused refuses all.
   pub one_refused : (fault : FileFault) → k < n → IsFaultOf fault (next_record name v rs text) → IsFaultOf fault given
-  one_refused fault lt h = moved fault _ _ (λ e. here lt ∙ ap (λ r. and_then r (λ x. next_records name v (n - (k + 1)) x.0 x.1)) e) h
+  one_refused fault lt h = moved fault _ _ (λ e. here lt ∙ ap (λ r. r >>= λ x. next_records name v (n - (k + 1)) x.0 x.1) e) h
 
   -- After the last one, they are read.
   pub all_read : n ≤ k → given ≡ Ok (rs, text)

@@ -13,10 +13,10 @@ use Rattle.std.proofs.lemmas.Bool.Decides.{nat_tests}
 use Rattle.gx_model.specs.declared.store_faults.FileFault.TheVariants as model
 use Rattle.gx_model.specs.declared.store_faults.FileFault.{FileFault}
 use Rattle.gx_model.specs.Texts.{Bytes, cut_at}
-use Rattle.gx_model.specs.Faults.{and_then}
-use Rattle.gx_model.specs.Stores.StoreReading.{after_word, stored_body, stored_if, stored_line, unless}
-use Rattle.gx_file.specs.Faults.{NeedsNoMemory, Reads}
-use Rattle.gx_file.specs.Texts.{shown_pair}
+use Rattle.gx_model.specs.Faults.{NeedsNoMemory, ◌>>=◌}
+use Rattle.gx_model.specs.Stores.StoreReading.{after_word, only_if, stored_body, stored_line}
+use Rattle.gx_file.specs.Faults.{Reads}
+use Rattle.gx_text.specs.Lent.{lent_pair}
 
 -- A line begins with a word and a space where it begins with the word and what follows begins with the space.
 pub begins_so : (word l : Bytes) → starts_with nat_eq l (word ++ 32 ∷ []) ≡ (pointwise nat_eq (take (length word) l) word && pointwise nat_eq (take 1 (drop (length word) l)) (32 ∷ []))
@@ -55,14 +55,14 @@ body_cut n text front back rest lt f b e r =
     let ended = front_is (drop n text) (10 ∷ []) ∙ ap (λ x. pointwise nat_eq (take 1 x) (10 ∷ [])) (sym b) ∙ e in
     let left = sym (r ∙ ap (drop 1) b ∙ drop-drop 1 n text) in
     let fronts = sym f in
-    (λ i. and_then (unless (whole i) model.Truncated) (λ _. and_then (unless (ended i) model.BadRecord) (λ _. Ok (fronts i, left i))))
+    (λ i. only_if (whole i) model.Truncated >>= λ _. only_if (ended i) model.BadRecord >>= λ _. Ok (fronts i, left i))
 
 -- The first line is read where an LF ends one, and the text is cut off otherwise.
-pub line_found : (text : Bytes) (found : Option (Bor Bytes × Bor Bytes)) (answer : Result (Bor Bytes × Bor Bytes) FileFault) → option_map shown_pair found ≡ cut_at 10 text → answer ≡ ok_or found model.Truncated → Reads shown_pair answer (stored_line text)
-line_found text None answer e a = rw a (ap (stored_if model.Truncated) (sym e))
-line_found text (Some parts) answer e a = rw a (ap (stored_if model.Truncated) (sym e))
+pub line_found : (text : Bytes) (found : Option (Bor Bytes × Bor Bytes)) (answer : Result (Bor Bytes × Bor Bytes) FileFault) → option_map lent_pair found ≡ cut_at 10 text → answer ≡ ok_or found model.Truncated → Reads lent_pair answer (stored_line text)
+line_found text None answer e a = rw a (ap (λ o. ok_or o model.Truncated) (sym e))
+line_found text (Some parts) answer e a = rw a (ap (λ o. ok_or o model.Truncated) (sym e))
 
 -- A text that is cut off is no want of memory.
-pub no_memory_for_lines : (found : Option (Bor Bytes × Bor Bytes)) (answer : Result (Bor Bytes × Bor Bytes) FileFault) → answer ≡ ok_or found model.Truncated → NeedsNoMemory answer
+pub no_memory_for_lines : (found : Option (Bor Bytes × Bor Bytes)) (answer : Result (Bor Bytes × Bor Bytes) FileFault) → answer ≡ ok_or found model.Truncated → NeedsNoMemory model.OutOfMemory answer
 no_memory_for_lines None answer a = rw a (λ same. cc)
 no_memory_for_lines (Some parts) answer a = rw a tt

@@ -13,21 +13,20 @@ use Rattle.std.proofs.lemmas.Option.{cond_some, option_and_then_some}
 use Rattle.gx_model.specs.declared.faults.Fault.{Fault}
 use Rattle.gx_model.specs.declared.faults.Fault.TheVariants.{BadRefName, UnknownObject, WrongKind}
 use Rattle.gx_model.specs.declared.store_faults.FileFault.TheVariants as model
-use Rattle.gx_model.specs.Texts.{Bytes, cut_at}
-use Rattle.gx_model.specs.Faults.{and_then}
-use Rattle.gx_model.specs.Faults.{IsFaultOf as RepoFaultOf}
+use Rattle.gx_model.specs.Texts.{Bytes, byte_cmp, cut_at}
+use Rattle.gx_model.specs.Faults.{◌>>=◌}
+use Rattle.gx_model.specs.Faults.{IsFaultOf as RepoFaultOf, unless}
 use Rattle.gx_model.specs.Texts.RefNames.{is_ref_name}
-use Rattle.gx_model.specs.Histories.Values.{is_name_text}
+use Rattle.gx_model.specs.Texts.Digits.{is_name_text}
 use Rattle.gx_model.specs.Objects.Naming.{lower_name_in}
 use Rattle.gx_model.specs.Objects.{unhex}
-use Rattle.std.specs.Option.{option_and_then}
+use Rattle.std.specs.Option.{ok_or, option_and_then, option_or}
 use Rattle.gx_model.specs.Histories.{Record, Records}
 use Rattle.gx_model.specs.Records.Growth.{record_named}
-use Rattle.gx_model.specs.Replay.{byte_cmp}
-use Rattle.gx_model.specs.Stores.StoreReading.{Stored, if_ref, is_after, is_less, is_target, next_ref, next_refs, ref_line, stored_if, stored_line, unless}
+use Rattle.gx_model.specs.Stores.StoreReading.{Stored, if_ref, is_after, is_less, is_target, next_ref, next_refs, only_if, ref_line, stored_line}
 use Rattle.gx_repo.specs.declared.fault.PublishFault.{PublishFault}
 use Rattle.gx_repo.specs.declared.fault.PublishFault.TheVariants as publish
-use Rattle.gx_model.specs.Records.Publishing.{Ref, change_fault, changes_fault, first_fault, published, unless as unless_fault, with_changes}
+use Rattle.gx_model.specs.Records.Publishing.{Ref, change_fault, changes_fault, published, with_changes}
 use Rattle.gx_repo.specs.Publishing.{fault_of as published_fault}
 use Rattle.gx_model.proofs.Records.SortedRefs.{order}
 use Rattle.gx_model.specs.declared.store_faults.FileFault.{FileFault}
@@ -68,22 +67,22 @@ first_named text first e = by (stored_line text) e
 module _ (rs : List Record) where
   -- the checks of a ref after those of its line
   abbrev checked : Option Bytes → Ref × Bytes → Stored (Ref × Bytes)
-  checked last first = and_then (unless (is_target first.0.0 (record_named rs first.0.1)) model.BadRef) (λ _. and_then (unless (is_after last first.0.0) model.RefOrder) (λ _. Ok first))
+  checked last first = only_if (is_target first.0.0 (record_named rs first.0.1)) model.BadRef >>= λ _. only_if (is_after last first.0.0) model.RefOrder >>= λ _. Ok first
 
   -- A ref is read and then checked.
-  next_is_checked : (last : Option Bytes) (text : Bytes) → next_ref rs last text ≡ and_then (first_ref text) (checked last)
+  next_is_checked : (last : Option Bytes) (text : Bytes) → next_ref rs last text ≡ (first_ref text >>= checked last)
   unfolding first_ref
   next_is_checked last text = by (stored_line text)
     where
       line : (l : Bytes × Bytes) (o : Option Ref)
-          → and_then (stored_if model.BadRef o) (λ x. and_then (unless (is_target x.0 (record_named rs x.1)) model.BadRef) (λ _. and_then (unless (is_after last x.0) model.RefOrder) (λ _. Ok (x, l.1))))
-          ≡ and_then (with_rest l.1 o) (checked last)
+          → (ok_or o model.BadRef >>= λ x. only_if (is_target x.0 (record_named rs x.1)) model.BadRef >>= λ _. only_if (is_after last x.0) model.RefOrder >>= λ _. Ok (x, l.1))
+          ≡ (with_rest l.1 o >>= checked last)
       line l None = refl
       line l (Some ref) = refl
 
       by : (r : Stored (Bytes × Bytes))
-          → and_then r (λ l. and_then (stored_if model.BadRef (ref_line l.0)) (λ x. and_then (unless (is_target x.0 (record_named rs x.1)) model.BadRef) (λ _. and_then (unless (is_after last x.0) model.RefOrder) (λ _. Ok (x, l.1)))))
-          ≡ and_then (ref_of_line r) (checked last)
+          → (r >>= λ l. ok_or (ref_line l.0) model.BadRef >>= λ x. only_if (is_target x.0 (record_named rs x.1)) model.BadRef >>= λ _. only_if (is_after last x.0) model.RefOrder >>= λ _. Ok (x, l.1))
+          ≡ (ref_of_line r >>= checked last)
       by (Ok l) = line l (ref_line l.0)
       by (Err f) = refl
 
@@ -115,11 +114,11 @@ module _ (rs : List Record) where
 
   -- the refs and what follows them, unless one isn't set
   abbrev settled : Option Fault → Gathered → Stored (List Ref × Bytes)
-  settled None given = and_then given.1 (λ rest. Ok (given.0, rest))
+  settled None given = given.1 >>= λ rest. Ok (given.0, rest)
   settled (Some fault) given = Err model.BadRef
 
   -- A ref that is set stands in front of those behind it.
-  in_front : (ref : Ref) (o : Option Fault) (refs : List Ref) (end : Stored Bytes) → and_then (settled o (refs, end)) (λ xs. Ok (ref ∷ xs.0, xs.1)) ≡ settled o (ref ∷ refs, end)
+  in_front : (ref : Ref) (o : Option Fault) (refs : List Ref) (end : Stored Bytes) → (settled o (refs, end) >>= λ xs. Ok (ref ∷ xs.0, xs.1)) ≡ settled o (ref ∷ refs, end)
   in_front ref None refs (Ok rest) = refl
   in_front ref None refs (Err f) = refl
   in_front ref (Some f) refs end = refl
@@ -130,25 +129,25 @@ module _ (rs : List Record) where
 
   -- A ref that is read comes next where it passes its checks, and otherwise ends the refs.
   one_next : (n : ℕ) (last : Option Bytes) (first : Ref × Bytes) (t a : Bool) → is_ref_name first.0.0 ≡ true → is_target first.0.0 (record_named rs first.0.1) ≡ t → AreNext n (Some first.0.0) first.1
-      → and_then (and_then (unless t model.BadRef) (λ _. and_then (unless a model.RefOrder) (λ _. Ok first))) (λ x. and_then (next_refs n rs (Some x.0.0) x.1) (λ xs. Ok (x.0 ∷ xs.0, xs.1)))
+      → ((only_if t model.BadRef >>= λ _. only_if a model.RefOrder >>= λ _. Ok first) >>= λ x. next_refs n rs (Some x.0.0) x.1 >>= λ xs. Ok (x.0 ∷ xs.0, xs.1))
       ≡ settled (changes_fault rs (cond a (before first.0 (gathered n (Some first.0.0) first.1)) (first.0 ∷ [], Err model.RefOrder)).0) (cond a (before first.0 (gathered n (Some first.0.0) first.1)) (first.0 ∷ [], Err model.RefOrder))
   one_next n last first false true named e again =
       let f = not_fine first.0 named e in
       let g = gathered n (Some first.0.0) first.1 in
-      sym (ap (λ o. settled (first_fault o (changes_fault rs g.0)) (before first.0 g)) f.1)
+      sym (ap (λ o. settled (option_or o (changes_fault rs g.0)) (before first.0 g)) f.1)
   one_next n last first false false named e again =
       let f = not_fine first.0 named e in
-      sym (ap (λ o. settled (first_fault o None) (first.0 ∷ [], Err model.RefOrder)) f.1)
-  one_next n last first true false named e again = sym (ap (λ o. settled (first_fault o None) (first.0 ∷ [], Err model.RefOrder)) (fine first.0 named e))
+      sym (ap (λ o. settled (option_or o None) (first.0 ∷ [], Err model.RefOrder)) f.1)
+  one_next n last first true false named e again = sym (ap (λ o. settled (option_or o None) (first.0 ∷ [], Err model.RefOrder)) (fine first.0 named e))
   one_next n last first true true named e again =
       let g = gathered n (Some first.0.0) first.1 in
-      ap (λ r. and_then r (λ xs. Ok (first.0 ∷ xs.0, xs.1))) again
+      ap (λ r. r >>= λ xs. Ok (first.0 ∷ xs.0, xs.1)) again
       ∙ in_front first.0 (changes_fault rs g.0) g.0 g.1
-      ∙ sym (ap (λ o. settled (first_fault o (changes_fault rs g.0)) (before first.0 g)) (fine first.0 named e))
+      ∙ sym (ap (λ o. settled (option_or o (changes_fault rs g.0)) (before first.0 g)) (fine first.0 named e))
 
   -- So does whatever the first line has.
   next_from : (n : ℕ) (last : Option Bytes) (text : Bytes) (r : Stored (Ref × Bytes)) → first_ref text ≡ r → ((last : Option Bytes) (text : Bytes) → AreNext n last text)
-      → and_then (and_then r (checked last)) (λ x. and_then (next_refs n rs (Some x.0.0) x.1) (λ xs. Ok (x.0 ∷ xs.0, xs.1)))
+      → ((r >>= checked last) >>= λ x. next_refs n rs (Some x.0.0) x.1 >>= λ xs. Ok (x.0 ∷ xs.0, xs.1))
       ≡ settled (changes_fault rs (gathered_from last r (λ ref rest. gathered n ref rest)).0) (gathered_from last r (λ ref rest. gathered n ref rest))
   next_from n last text (Err f) e again = refl
   next_from n last text (Ok first) e again =
@@ -158,7 +157,7 @@ module _ (rs : List Record) where
   pub are_next : (n : ℕ) (last : Option Bytes) (text : Bytes) → AreNext n last text
   are_next zero last text = sym (ap (λ g. settled (changes_fault rs g.0) g) (no_more last text))
   are_next (suc n) last text =
-      ap (λ r. and_then r (λ x. and_then (next_refs n rs (Some x.0.0) x.1) (λ xs. Ok (x.0 ∷ xs.0, xs.1)))) (next_is_checked last text)
+      ap (λ r. r >>= λ x. next_refs n rs (Some x.0.0) x.1 >>= λ xs. Ok (x.0 ∷ xs.0, xs.1)) (next_is_checked last text)
       ∙ next_from n last text (first_ref text) refl (λ l t. are_next n l t)
       ∙ sym (ap (λ g. settled (changes_fault rs g.0) g) (first_gathered n last text (first_ref text) refl))
 
@@ -167,7 +166,7 @@ module _ (rs : List Record) where
   front_refuses [] others fault e = absurd (cc)
   front_refuses (r ∷ refs) others fault e = by (change_fault rs r) (λ h. front_refuses refs others fault h) e
     where
-      by : (o : Option Fault) → (changes_fault rs refs ≡ Some fault → changes_fault rs (refs ++ others) ≡ Some fault) → first_fault o (changes_fault rs refs) ≡ Some fault → first_fault o (changes_fault rs (refs ++ others)) ≡ Some fault
+      by : (o : Option Fault) → (changes_fault rs refs ≡ Some fault → changes_fault rs (refs ++ others) ≡ Some fault) → option_or o (changes_fault rs refs) ≡ Some fault → option_or o (changes_fault rs (refs ++ others)) ≡ Some fault
       by None again h = again h
       by (Some f) again h = h
 
@@ -249,7 +248,7 @@ module _ (r : Records) (none : r.refs ≡ []) (n : ℕ) (text : Bytes) (refs : L
   unfolding published
   bad_ref answer fault h e = by (changes_fault r.records refs) refl e
     where
-      by : (o : Option Fault) → changes_fault r.records refs ≡ o → unless_fault o (with_changes r.refs refs) ≡ Err fault → next_refs n r.records None text ≡ Err model.BadRef
+      by : (o : Option Fault) → changes_fault r.records refs ≡ o → unless o (with_changes r.refs refs) ≡ Err fault → next_refs n r.records None text ≡ Err model.BadRef
       by None f g = absurd (cc)
       by (Some w) f g =
           let all = is_front answer h in
@@ -269,7 +268,7 @@ module _ (r : Records) (none : r.refs ≡ []) (n : ℕ) (text : Bytes) (refs : L
   unfolding published
   are_set answer now h e = by (changes_fault r.records refs) refl e
     where
-      free : changes_fault r.records refs ≡ None → (end : Stored Bytes) → (gathered n None text).0 ≡ refs → (gathered n None text).1 ≡ end → next_refs n r.records None text ≡ and_then end (λ rest. Ok (refs, rest))
+      free : changes_fault r.records refs ≡ None → (end : Stored Bytes) → (gathered n None text).0 ≡ refs → (gathered n None text).1 ≡ end → next_refs n r.records None text ≡ (end >>= λ rest. Ok (refs, rest))
       free f end p q = are_next r.records n None text ∙ (λ i. settled r.records (changes_fault r.records (p i)) (p i, q i)) ∙ ap (λ o. settled r.records o (refs, end)) f
 
       read : (answer : Result (Bor Bytes) FileFault) → changes_fault r.records refs ≡ None → with_changes [] refs ≡ now → Gathers (gathered n None text) refs answer → Reads (λ rest. (now, rest.now)) answer (next_refs n r.records None text)
@@ -279,6 +278,6 @@ module _ (r : Records) (none : r.refs ≡ []) (n : ℕ) (text : Bytes) (refs : L
       read (Err OutOfMemory) f w h = tt
       read (Err _) f w h = free f _ h.0 h.1
 
-      by : (o : Option Fault) → changes_fault r.records refs ≡ o → unless_fault o (with_changes r.refs refs) ≡ Ok now → Reads (λ rest. (now, rest.now)) answer (next_refs n r.records None text)
+      by : (o : Option Fault) → changes_fault r.records refs ≡ o → unless o (with_changes r.refs refs) ≡ Ok now → Reads (λ rest. (now, rest.now)) answer (next_refs n r.records None text)
       by None f g = let set : with_changes r.refs refs ≡ now = cc in read answer f (ap (λ start. with_changes start refs) (sym none) ∙ set) h
       by (Some w) f g = absurd (cc)

@@ -8,7 +8,7 @@ use Rattle.gx_model.specs.declared.objects.Kind.{Kind}
 use Rattle.gx_model.specs.declared.store_versions.Version.{Version}
 use Rattle.gx_model.specs.declared.store_versions.Version.TheVariants.{Two}
 use Rattle.gx_model.specs.Texts.{Bytes, cut_at, same_bytes}
-use Rattle.gx_model.specs.Histories.Values.{is_name_text}
+use Rattle.gx_model.specs.Texts.Digits.{is_name_text}
 use Rattle.gx_model.specs.Objects.{unhex}
 use Rattle.gx_model.specs.Objects.Naming.{lower_name_in}
 use Rattle.gx_model.specs.Stores.StoreReading.{Length, kind_words, length_field, record_line, stored_number, with_digits, with_length}

@@ -1,5 +1,5 @@
 -- How answers of a store text's readers go with what the definitions give. Source: this project's own format.
-use Rattle.std.specs.Prelude.{◌≡◌, ◌≢◌, IfErr, Result, Ok, Err, ⊤}
+use Rattle.std.specs.Prelude.{◌≡◌, ◌≢◌, Result, Ok, Err, ⊤}
 use Rattle.gx_model.specs.declared.objects.Kind.{Kind}
 use Rattle.gx_model.specs.declared.store_versions.Version.{Version}
 use Rattle.gx_model.specs.declared.store_faults.FileFault.{FileFault}
@@ -19,10 +19,6 @@ IsFaultOf f given = given ≡ Err f
 abbrev pub Reads : {X Y : Type 0} → (X → Y) → Result X FileFault → Stored Y → Type 0
 Reads view (Ok x) given = given ≡ Ok (view x)
 Reads view (Err e) given = IsFaultOf e given
-
--- an answer for which no memory is taken: want of it is none of its faults
-abbrev pub NeedsNoMemory : {X : Type 0} → Result X FileFault → Type 0
-NeedsNoMemory answer = IfErr answer (λ fault. fault ≢ OutOfMemory)
 
 -- no sound repository has this text, in either version
 abbrev pub IsNoStoreText : (Kind → Bytes → Bytes) → Bytes → Type 0

@@ -6,13 +6,13 @@ use Rattle.gx_model.specs.declared.store_faults.FileFault.{FileFault}
 use Rattle.gx_model.specs.declared.store_faults.FileFault.TheVariants.{NameMismatch, OutOfMemory}
 use Rattle.gx_model.specs.declared.store_versions.Version.{Version}
 use Rattle.gx_model.specs.Histories.{Records, record_for}
-use Rattle.gx_model.specs.Stores.StoreReading.{is_named, next_record, next_records, next_refs, store_of, unless, with_record}
+use Rattle.gx_model.specs.Stores.StoreReading.{is_stated, next_record, next_records, next_refs, only_if, store_of, with_stored}
 use Rattle.gx_model.specs.Texts.{Bytes}
 use Rattle.gx_object.specs.declared.name.Name.{Name}
 use Rattle.gx_repo.specs.Records.{AddsRecord}
 use Rattle.gx_repo.specs.declared.fault.AddFault.{AddFault}
 use Rattle.gx_file.specs.Faults.{IsNoStoreText, Reads}
-use Rattle.gx_file.specs.Texts.{shown_name}
+use Rattle.gx_object.specs.Parts.{bytes_if}
 
 -- what is refused, but for want of memory, is the text of no sound repository
 abbrev pub RefusesOthers : {X : Type 0} → (Kind → Bytes → Bytes) → Bytes → Result X FileFault → Type 0
@@ -20,7 +20,7 @@ RefusesOthers name text result = IfErr result (λ why. why ≢ OutOfMemory → I
 
 -- a name is the one that is stated, where one is
 abbrev pub ChecksName : Option Name → Name → Result (Unit {0}) FileFault → Type 0
-ChecksName stated called result = Reads (λ done. done) result (unless (is_named (shown_name stated) called.bytes) NameMismatch)
+ChecksName stated called result = Reads (λ done. done) result (only_if (is_stated (bytes_if stated) called.bytes) NameMismatch)
 
 -- so many refs come next, and what follows them is answered
 abbrev pub ReadsRefs : Records → Records → ℕ → Bytes → Result (Bor Bytes) FileFault → Type 0
@@ -42,7 +42,7 @@ module _ {N : Type 0} (name_of : N → Kind → Bytes → Bytes) where
 
   -- a record is added that has the name that is stated, where one is
   abbrev pub AddsStated : N × Records → N × Records → Option Name → Kind → Bytes → Result (Unit {0}) FileFault → Type 0
-  AddsStated old new stated kind body result = Reads (λ _. new.1.records) result (with_record (name_of old.0) old.1.records (shown_name stated) kind body)
+  AddsStated old new stated kind body result = Reads (λ _. new.1.records) result (with_stored (name_of old.0) old.1.records (bytes_if stated) kind body)
 
   -- a record with this body is added, where nothing is against it
   abbrev pub AddsBody : N × Records → N × Records → Kind → Bytes → Result Name AddFault → Type 0

@@ -1,16 +1,12 @@
 -- Parts of store texts without where they lie in memory.
 use Rattle.std.specs.Borrow.{Bor}
 use Rattle.std.specs.Prelude.{ℕ, Option}
-use Rattle.std.specs.Option.{option_map}
 use Rattle.gx_model.specs.declared.objects.Kind.{Kind}
 use Rattle.gx_model.specs.declared.store_versions.Version.{Version}
 use Rattle.gx_model.specs.Texts.{Bytes}
 use Rattle.gx_model.specs.Stores.StoreReading.{Length}
 use Rattle.gx_object.specs.declared.name.Name.{Name}
-
--- a part and what follows it
-abbrev pub shown_pair : Bor Bytes × Bor Bytes → Bytes × Bytes
-shown_pair parts = (parts.0.now, parts.1.now)
+use Rattle.gx_object.specs.Parts.{bytes_if}
 
 -- a number and what follows its line
 abbrev pub shown_count : ℕ × Bor Bytes → ℕ × Bytes
@@ -20,13 +16,9 @@ shown_count parts = (parts.0, parts.1.now)
 abbrev pub shown_start : Version × Bor Bytes → Version × Bytes
 shown_start parts = (parts.0, parts.1.now)
 
--- a name by its bytes, where there is one
-abbrev pub shown_name : Option Name → Option Bytes
-shown_name name = option_map (λ n. n.bytes) name
-
 -- a length and the name behind it
 abbrev pub shown_length : ℕ × Option Name → Length
-shown_length field = (field.0, shown_name field.1)
+shown_length field = (field.0, bytes_if field.1)
 
 -- a kind with the length of a body
 abbrev pub shown_heading : Kind × (ℕ × Option Name) → Kind × Length

@@ -18,10 +18,6 @@ use Rattle.gx_file.specs.Sending.{Sent}
 abbrev pub record_called : Name → Kind → Bytes → Bytes
 record_called name kind body = stored_record Two (record { name = name.bytes; kind = kind; body = body })
 
--- the line of a ref of this name
-abbrev pub ref_called : Bytes → Name → Bytes
-ref_called name object = stored_ref (name, object.bytes)
-
 -- a text, and behind it the number of the records and the records
 abbrev pub with_all_records : Bytes → Records → Bytes
 with_all_records text repository = text ++ line (codes "objects") (decimal (length repository.records)) ++ flat_map (stored_record Two) repository.records

@@ -2,8 +2,10 @@
 ghost use Rattle.std.specs.Prelude.{◌≡◌, codes};
 ghost use Rattle.std.specs.Option.{option_and_then, option_map};
 ghost use Rattle.gx_model.specs.Stores.StoreReading.{after_magic, after_word, stored_count, stored_end, stored_line, stored_number, version_of};
-ghost use Rattle.gx_file.specs.Faults.{NeedsNoMemory, Reads};
-ghost use Rattle.gx_file.specs.Texts.{shown_count, shown_pair, shown_start};
+ghost use Rattle.gx_file.specs.Faults.{Reads};
+ghost use Rattle.gx_model.specs.Faults.{NeedsNoMemory};
+ghost use Rattle.gx_file.specs.Texts.{shown_count, shown_start};
+ghost use Rattle.gx_text.specs.Lent.{lent_pair};
 
 use crate::FileFault;
 use gx_model::Version;
@@ -11,8 +13,8 @@ use gx_text::{cut, decimal};
 
 /// The first line without its LF, and what follows it.
 pub(crate) fn read_line(text: &[u8]) -> Result<(&[u8], &[u8]), FileFault>
-    ensures line { Reads shown_pair result (stored_line text.now) }
-    ensures memory { NeedsNoMemory result }
+    ensures line { Reads lent_pair result (stored_line text.now) }
+    ensures memory { NeedsNoMemory FileFault.OutOfMemory result }
 {
     cut(text, b'\n').ok_or(FileFault::Truncated)
 }
@@ -37,7 +39,7 @@ pub(crate) fn read_number(text: &[u8]) -> Option<u64>
 /// The version, and what follows the first line, which tells what the text is.
 pub(crate) fn read_magic(text: &[u8]) -> Result<(Version, &[u8]), FileFault>
     ensures start { Reads shown_start result (after_magic text.now) }
-    ensures memory { NeedsNoMemory result }
+    ensures memory { NeedsNoMemory FileFault.OutOfMemory result }
 {
     let (line, rest) = read_line(text)?;
     let Some(word) = after_word(b"gxstore", line) else {
@@ -65,7 +67,7 @@ fn version_of(word: &[u8]) -> Option<Version>
 /// The number in a line that begins with this word, and what follows the line.
 pub(crate) fn read_count<'a>(word: &[u8], text: &'a [u8]) -> Result<(u64, &'a [u8]), FileFault>
     ensures count { Reads shown_count result (stored_count word.now text.now) }
-    ensures memory { NeedsNoMemory result }
+    ensures memory { NeedsNoMemory FileFault.OutOfMemory result }
 {
     let (line, rest) = read_line(text)?;
     let Some(count) = number_after(word, line) else {
@@ -84,7 +86,7 @@ fn number_after(word: &[u8], line: &[u8]) -> Option<u64>
 /// The last line, and nothing behind it.
 pub(crate) fn read_end(text: &[u8]) -> Result<(), FileFault>
     ensures end { Reads (λ done. done) result (stored_end text.now) }
-    ensures memory { NeedsNoMemory result }
+    ensures memory { NeedsNoMemory FileFault.OutOfMemory result }
 {
     let (line, rest) = read_line(text)?;
     if line != b"end".as_slice() {

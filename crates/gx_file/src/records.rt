@@ -4,10 +4,12 @@ ghost use Rattle.std.specs.Map.{lookup};
 ghost use Rattle.std.specs.Option.{option_map};
 ghost use Rattle.gx_model.specs.Texts.{same_bytes};
 ghost use Rattle.gx_model.specs.Stores.StoreReading.{kind_words, length_field, record_line, stored_body};
-ghost use Rattle.gx_file.specs.Faults.{NeedsNoMemory, Reads};
+ghost use Rattle.gx_file.specs.Faults.{Reads};
+ghost use Rattle.gx_model.specs.Faults.{NeedsNoMemory};
 ghost use Rattle.gx_file.specs.Reading.{AddsStated, ChecksName, ReadsRecord, ReadsRecords};
 ghost use Rattle.gx_file.specs.TextEnds.{IsEndOfText};
-ghost use Rattle.gx_file.specs.Texts.{shown_heading, shown_length, shown_pair};
+ghost use Rattle.gx_file.specs.Texts.{shown_heading, shown_length};
+ghost use Rattle.gx_text.specs.Lent.{lent_pair};
 
 use crate::FileFault;
 use crate::bodies::Bodies;
@@ -90,7 +92,7 @@ fn add<N: Namer, A: Allocator + Copy>(
 /// Answers `NameMismatch` where a name is stated that isn't this one.
 fn check_name(stated: Option<Name>, name: &Name) -> Result<(), FileFault>
     ensures name { ChecksName stated name.now result }
-    ensures memory { NeedsNoMemory result }
+    ensures memory { NeedsNoMemory FileFault.OutOfMemory result }
 {
     match stated {
         Some(stated) if stated != *name => Err(FileFault::NameMismatch),
@@ -140,8 +142,8 @@ fn kind_named(word: &[u8]) -> Option<Kind>
 
 /// So many bytes, and what follows the LF behind them.
 fn read_body(length: u64, text: &[u8]) -> Result<(&[u8], &[u8]), FileFault>
-    ensures body { Reads shown_pair result (stored_body length text.now) }
-    ensures memory { NeedsNoMemory result }
+    ensures body { Reads lent_pair result (stored_body length text.now) }
+    ensures memory { NeedsNoMemory FileFault.OutOfMemory result }
 {
     if length >= text.len() as u64 {
         return Err(FileFault::Truncated);

@@ -3,7 +3,8 @@ ghost use Rattle.std.specs.Prelude.{◌≡◌, [], None, map};
 ghost use Rattle.std.specs.Option.{option_map};
 ghost use Rattle.gx_model.specs.Stores.StoreReading.{is_after, ref_line};
 ghost use Rattle.gx_repo.specs.Refs.{shown_update};
-ghost use Rattle.gx_file.specs.Faults.{NeedsNoMemory, Reads};
+ghost use Rattle.gx_file.specs.Faults.{Reads};
+ghost use Rattle.gx_model.specs.Faults.{NeedsNoMemory};
 ghost use Rattle.gx_file.specs.Gathering.{Gathers, first_ref, gathered, shown_change};
 ghost use Rattle.gx_file.specs.Reading.{ReadsRefs};
 
@@ -62,7 +63,7 @@ fn gather<'a, A: Allocator + Copy>(
 #[tactic(auto, unfolding(crate::specs::Gathering::first_ref))]
 fn read_ref(text: &[u8]) -> Result<(RefChange<'_>, &[u8]), FileFault>
     ensures change { Reads shown_change result (first_ref text.now) }
-    ensures memory { NeedsNoMemory result }
+    ensures memory { NeedsNoMemory FileFault.OutOfMemory result }
 {
     let (line, rest) = read_line(text)?;
     let Some((name, target)) = ref_line(line) else {

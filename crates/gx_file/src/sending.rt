@@ -3,10 +3,10 @@ ghost use Rattle.std.specs.Prelude.{◌<◌, ◌^◌, length, IfOk};
 ghost use Rattle.std.specs.Fmt.{decimal};
 ghost use Rattle.gx_model.specs.Objects.{line};
 ghost use Rattle.gx_model.specs.declared.store_versions.Version.TheVariants.{Two};
-ghost use Rattle.gx_model.specs.Stores.StoreText.{store_text};
+ghost use Rattle.gx_model.specs.Stores.StoreText.{store_text, stored_ref};
 ghost use Rattle.gx_file.specs.Reading.{IsReadAs};
 ghost use Rattle.gx_file.specs.Sending.{HaveLengths, Sent};
-ghost use Rattle.gx_file.specs.Writing.{SendsBody, SendsParts, SendsRecord, SendsRecords, SendsRefs, ref_called};
+ghost use Rattle.gx_file.specs.Writing.{SendsBody, SendsParts, SendsRecord, SendsRecords, SendsRefs};
 
 use gx_object::{Kind, Name, Namer};
 use gx_repo::Repo;
@@ -100,7 +100,7 @@ fn send_refs<N: Namer, A: Allocator + Copy, W: Sink>(
 
 /// Sends a ref's line.
 fn send_ref<W: Sink>(sink: &mut W, name: &[u8], object: &Name) -> Result<(), Failed>
-    ensures { Sent (ref_called name.now object.now) (W.taken sink.old) (W.taken sink.new) result }
+    ensures { Sent (stored_ref (name.now, object.now.bytes)) (W.taken sink.old) (W.taken sink.new) result }
 {
     let digits = object.hex();
     send_all(sink, &[digits.as_slice(), b" ", name, b"\n"])

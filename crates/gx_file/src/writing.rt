@@ -3,9 +3,9 @@ ghost use Rattle.std.specs.Prelude.{◌≡◌, ◌∷◌, ◌++◌, IfOk, OnOk};
 ghost use Rattle.std.specs.Fmt.{decimal};
 ghost use Rattle.gx_model.specs.Objects.{line};
 ghost use Rattle.gx_model.specs.declared.store_versions.Version.TheVariants.{Two};
-ghost use Rattle.gx_model.specs.Stores.StoreText.{store_text};
+ghost use Rattle.gx_model.specs.Stores.StoreText.{store_text, stored_ref};
 ghost use Rattle.gx_file.specs.Reading.{IsReadAs};
-ghost use Rattle.gx_file.specs.Writing.{record_called, ref_called, with_all_records, with_all_refs};
+ghost use Rattle.gx_file.specs.Writing.{record_called, with_all_records, with_all_refs};
 
 use gx_model::store_laws::stores_are_read;
 use gx_object::{Kind, Name, Namer};
@@ -90,7 +90,7 @@ fn put_ref<A: Allocator + Copy>(
     name: &[u8],
     object: &Name,
 ) -> Result<(), AllocError>
-    ensures { OnOk result (text.new.items ≡ text.old.items ++ ref_called name.now object.now) }
+    ensures { OnOk result (text.new.items ≡ text.old.items ++ stored_ref (name.now, object.now.bytes)) }
 {
     text.extend_from_slice(object.hex().as_slice())?;
     text.push(b' ')?;

@@ -2,18 +2,18 @@
 use Rattle.std.proofs.Common.{◌≡◌, ◌⊎◌, Result, Ok, Err, inl, inr, refl}
 use Rattle.gx_model.specs.declared.faults.Fault.{Fault}
 use Rattle.gx_model.specs.declared.faults.Fault.TheVariants as fault
-use Rattle.gx_model.specs.Faults.{IsFaultOf, and_then}
+use Rattle.gx_model.specs.Faults.{IsFaultOf, ◌>>=◌}
 use Rattle.gx_import.specs.Answers.{AddsAs}
 use Rattle.gx_import.proofs.FaultSteps.{fault_then}
 
 -- what two steps give is what the second gives of the first's
-pub both_given : {X Y : Type 0} (given : Result X Fault) (next : X → Result Y Fault) (y : Y) → and_then given next ≡ Ok y → (x : X) × (given ≡ Ok x) × (next x ≡ Ok y)
+pub both_given : {X Y : Type 0} (given : Result X Fault) (next : X → Result Y Fault) (y : Y) → (given >>= next) ≡ Ok y → (x : X) × (given ≡ Ok x) × (next x ≡ Ok y)
 both_given (Ok x) next y h = (x, refl, h)
 both_given (Err e) next y h = absurd (cc h)
 
 -- a fault of the first of two steps, where a clash of its values is one of those of both
 pub adds_then : {X Y Z W : Type 0} (clash more : Type 0) → (clash → more) → (Is : Y → X → Type 0) (Be : Z → W → Type 0) (e : Fault) (given : Result Y Fault) (next : Y → Result Z Fault)
-    → AddsAs clash Is (Err e) given → AddsAs more Be (Err e) (and_then given next)
+    → AddsAs clash Is (Err e) given → AddsAs more Be (Err e) (given >>= next)
 adds_then clash more f Is Be fault.OutOfMemory given next h = fault_then fault.OutOfMemory given next h
 adds_then clash more f Is Be fault.ReadFailed given next h = fault_then fault.ReadFailed given next h
 adds_then clash more f Is Be fault.WriteFailed given next h = fault_then fault.WriteFailed given next h

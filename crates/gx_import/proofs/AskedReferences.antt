@@ -7,7 +7,7 @@ use Rattle.gx_model.specs.declared.objects.Kind.{Kind}
 use Rattle.gx_model.specs.declared.objects.Mode.{Mode}
 use Rattle.gx_model.specs.declared.faults.Fault.{Fault}
 use Rattle.gx_model.specs.declared.faults.Fault.TheVariants.{OutOfMemory}
-use Rattle.gx_model.specs.Faults.{IsFaultOf, and_then}
+use Rattle.gx_model.specs.Faults.{IsFaultOf, ◌>>=◌}
 use Rattle.gx_model.specs.Texts.{Bytes, same_bytes}
 use Rattle.gx_model.specs.Histories.Values.{Commit, Value}
 use Rattle.gx_model.specs.Streams.Commands.{CommitIsh, CommitParts, DataRef, Inline, Mark, Object}
@@ -67,12 +67,12 @@ refused_with clash never Is e given h = elim (adds_so clash Is e given h) as (λ
 memory_alone : {Y : Type 0} (e : Fault) (y : Y) → IsFaultOf e (Ok y) → e ≡ OutOfMemory
 memory_alone e y h = elim (fault_so e (Ok y) h) as (λ _. e ≡ OutOfMemory) [ inl memory ↦ memory | inr refused ↦ absurd (cc refused) ]
 
-first_alone : {X Y : Type 0} (e : Fault) (given : Result X Fault) (f : X → Y) → and_then given (λ x. Ok (f x)) ≡ Err e → given ≡ Err e
+first_alone : {X Y : Type 0} (e : Fault) (given : Result X Fault) (f : X → Y) → (given >>= λ x. Ok (f x)) ≡ Err e → given ≡ Err e
 first_alone e (Ok x) f h = absurd (cc h)
 first_alone e (Err d) f h = let k : d ≡ e = cc h in ap Err k
 
-first_with : {X Y : Type 0} (e : Fault) (given : Result X Fault) (f : X → Y) → IsFaultOf e (and_then given (λ x. Ok (f x))) → IsRefusedWith e given
-first_with e given f h = elim (fault_so e (and_then given (λ x. Ok (f x))) h) as (λ _. IsRefusedWith e given) [
+first_with : {X Y : Type 0} (e : Fault) (given : Result X Fault) (f : X → Y) → IsFaultOf e (given >>= λ x. Ok (f x)) → IsRefusedWith e given
+first_with e given f h = elim (fault_so e (given >>= λ x. Ok (f x)) h) as (λ _. IsRefusedWith e given) [
   | inl memory ↦ inl memory
   | inr refused ↦ inr (first_alone e given f refused)
 ]
@@ -109,7 +109,7 @@ module _ (name : Kind → Bytes → Bytes) where
     abbrev parent_by : Option CommitIsh → Result (Option Commit) Fault
     parent_by o = elim o [
       | None ↦ Ok (own_commit (lookup (same_bytes c.ref) s.branches))
-      | Some x ↦ and_then (committed_for name c.ref s x) (λ p. Ok (Some p))
+      | Some x ↦ committed_for name c.ref s x >>= λ p. Ok (Some p)
     ]
 
     -- that of a commit

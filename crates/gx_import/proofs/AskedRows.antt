@@ -9,7 +9,7 @@ use Rattle.gx_model.specs.Texts.{Bytes}
 use Rattle.gx_model.specs.Histories.Values.{Commit, commit, commit_value, commits_of}
 use Rattle.gx_model.specs.Streams.Commands.{Change, CommitIsh, Inline, Mark, Marked, Modify, Remove}
 use Rattle.gx_model.specs.Replay.{State, start}
-use Rattle.gx_model.specs.Rows.RowTexts.{nothing}
+use Rattle.gx_model.specs.Histories.{no_history}
 use Rattle.gx_import.specs.Asking.{AsksByChange, AsksByMerge, mark}
 
 abbrev one : Commit
@@ -17,7 +17,7 @@ one = commit [] (commits_of []) (record { author = []; committer = []; encoding 
 
 -- a state in which the mark 1 is a commit, and nothing has the mark 2
 abbrev marked_one : State
-marked_one = record (start nothing) { marks = (1, commit_value one) ∷ [] }
+marked_one = record (start no_history) { marks = (1, commit_value one) ∷ [] }
 
 abbrev two : List CommitIsh
 two = Marked 1 ∷ Marked 2 ∷ []
@@ -37,7 +37,7 @@ second_merge_is_asked_for name = record {
 abbrev three : List Change
 three = Modify File (Inline (codes "x")) (codes "f" ∷ []) ∷ Modify File (Mark 9) (codes "g" ∷ []) ∷ Remove (codes "f" ∷ []) ∷ []
 
-pub second_change_asks : (name : Kind → Bytes → Bytes) → AsksByChange name (start nothing) [] three UnknownMark (mark 9)
+pub second_change_asks : (name : Kind → Bytes → Bytes) → AsksByChange name (start no_history) [] three UnknownMark (mark 9)
 second_change_asks name = record {
   before = Modify File (Inline (codes "x")) (codes "f" ∷ []) ∷ [];
   change = Modify File (Mark 9) (codes "g" ∷ []);

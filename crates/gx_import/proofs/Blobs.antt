@@ -1,13 +1,13 @@
 -- A blob that is refused because its name is held has the name of another value.
 use Rattle.std.proofs.Common.{◌≡◌, List, [], ◌∷◌, Option, Some, None, Result, Err, map, refl, sym, ap, ◌∙◌}
-use Rattle.std.specs.Option.{option_map}
+use Rattle.std.specs.Option.{option_and_then, option_map}
 use Rattle.gx_model.specs.declared.objects.Kind.{Kind}
 use Rattle.gx_model.specs.declared.objects.Kind.TheVariants as kinds
 use Rattle.gx_model.specs.declared.faults.Fault.{Fault}
 use Rattle.gx_model.specs.Texts.{Bytes}
 use Rattle.gx_model.specs.Histories.Values.{Value, blob_value}
 use Rattle.gx_model.specs.Histories.{Record, Records, record_for, record_of}
-use Rattle.gx_model.specs.Records.Growth.{AreReady, and_some, put, put_all, with_values}
+use Rattle.gx_model.specs.Records.Growth.{AreReady, put, put_all, with_values}
 use Rattle.gx_model.specs.Laws.RepositoryLaws.{PutsGrow, values_of}
 use Rattle.gx_model.specs.Records.Sound.{IsSound}
 use Rattle.gx_store.specs.declared.fault.StoreFault.{StoreFault}
@@ -23,7 +23,7 @@ nothing_mapped f (Some x) e = absurd (cc)
 -- a value that can't be put has the name of another one
 pub name_held : (name : Kind → Bytes → Bytes) → PutsGrow name → (r : Records) → IsSound name r → (v : Value) → AreReady (values_of r) (v ∷ []) → put r.records (record_of name v) ≡ None → with_values name (values_of r) (v ∷ []) ≡ None
 name_held name law r sound v ready e =
-    nothing_mapped (map (record_of name)) (with_values name (values_of r) (v ∷ [])) (sym (law.adds r sound (v ∷ []) ready) ∙ ap (λ o. and_some o (λ now. put_all now [])) e)
+    nothing_mapped (map (record_of name)) (with_values name (values_of r) (v ∷ [])) (sym (law.adds r sound (v ∷ []) ready) ∙ ap (λ o. option_and_then (λ now. put_all now []) o) e)
 
 pub blob_refused : (name : Kind → Bytes → Bytes) → PutsGrow name → (r : Records) → IsSound name r → (new : List Record) (bytes : Bytes) {X Y : Type 0} (Is : Y → X → Type 0) (given : Result Y Fault) (f : StoreFault)
     → Adds r.records new (record_for name kinds.Blob bytes) (Err f) → AddsAs (with_values name (values_of r) (blob_value bytes ∷ []) ≡ None) Is (Err (of_store f)) given

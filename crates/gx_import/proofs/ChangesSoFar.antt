@@ -2,7 +2,7 @@
 use Rattle.std.proofs.Common.{◌≡◌, List, [], ◌∷◌, ◌++◌, map, Ok, Err, refl, sym, ap, subst, ◌∙◌, inl, inr, append_assoc, arith, length, ◌+◌, ℕ}
 use Rattle.gx_model.specs.declared.objects.Kind.{Kind}
 use Rattle.gx_model.specs.Texts.{Bytes}
-use Rattle.gx_model.specs.Faults.{and_then}
+use Rattle.gx_model.specs.Faults.{◌>>=◌}
 use Rattle.gx_model.specs.Histories.Files.{FileMap}
 use Rattle.gx_model.specs.Histories.{Records}
 use Rattle.gx_model.specs.Laws.RepositoryLaws.{values_of}
@@ -34,7 +34,7 @@ module _ (name : Kind → Bytes → Bytes) where
   changed_behind s f [] more r e = let k : (s, f) ≡ r = cc e in ap (λ z. all_changed name z.0 z.1 more) k
   changed_behind s f (c ∷ cs) more r e =
       let h = both_given (changed name s f c) (λ z. all_changed name z.0 z.1 cs) r e in
-      ap (λ z. and_then z (λ y. all_changed name y.0 y.1 (cs ++ more))) h.1 ∙ changed_behind h.0.0 h.0.1 cs more r h.2
+      ap (λ z. z >>= λ y. all_changed name y.0 y.1 (cs ++ more)) h.1 ∙ changed_behind h.0.0 h.0.1 cs more r h.2
 
 module _ (name : Kind → Bytes → Bytes) {A : Type 0} where
   -- Some of these changes were made from this state and these files on, and these are left. The repository and the names
@@ -66,8 +66,8 @@ module _ (name : Kind → Bytes → Bytes) {A : Type 0} where
       files = y.1;
       before = made.before ++ c ∷ [];
       parts = made.parts ∙ sym (append_assoc made.before (c ∷ []) left);
-      done = changed_behind name s f made.before (c ∷ []) (made.state, made.files) made.done ∙ ap (λ z. and_then z (λ r. all_changed name r.0 r.1 [])) e;
-      steps = made.steps ∙ ap (λ z. and_then z (λ r. all_changed name r.0 r.1 left)) e;
+      done = changed_behind name s f made.before (c ∷ []) (made.state, made.files) made.done ∙ ap (λ z. z >>= λ r. all_changed name r.0 r.1 []) e;
+      steps = made.steps ∙ ap (λ z. z >>= λ r. all_changed name r.0 r.1 left) e;
       follows = record { stands = follows.stands; progress = follows.progress ∙ made.follows.progress; held = follows.held ∙ made.follows.held };
       are = are;
       clash = λ k. made.clash (

@@ -6,13 +6,14 @@ use Rattle.gx_model.specs.declared.objects.Mode.TheVariants.{File, Exec, Link, G
 use Rattle.gx_model.specs.declared.faults.Fault.{Fault}
 use Rattle.gx_model.specs.Texts.{Bytes}
 use Rattle.gx_model.specs.Histories.Files.{FileMap}
-use Rattle.gx_model.specs.Faults.{and_then}
+use Rattle.gx_model.specs.Faults.{◌>>=◌}
 use Rattle.gx_model.specs.Histories.Values.{Value, blob_value}
 use Rattle.gx_model.specs.Histories.{IsIn, with_one}
 use Rattle.gx_model.specs.Records.Growth.{clashes, with_values}
 use Rattle.gx_model.specs.Histories.Edits.{copied, modified, removed, renamed}
 use Rattle.gx_model.specs.Streams.Commands.{Change, Clear, Copy, DataRef, Inline, Mark, Modify, Object, Remove, Rename}
-use Rattle.gx_model.specs.Revisions.Denotation.{base_value, lower}
+use Rattle.gx_model.specs.Revisions.Denotation.{base_value}
+use Rattle.gx_model.specs.Texts.Digits.{lower}
 use Rattle.gx_model.specs.Replay.{State, added, at, blob_bytes, changed, content}
 use Rattle.gx_import.specs.Additions.{Clash, blob_added, content_added}
 use Rattle.gx_import.proofs.AddedAnswers.{both_given}
@@ -29,7 +30,7 @@ content_keeps (Inline x) s u h = one_keeps s.history.values (blob_value x) u h
 content_keeps (Mark n) s u h = h
 content_keeps (Object x) s u h = h
 
-kept_state : {X : Type 0} (given : Result X Fault) (s : State) (r : State × X) → and_then given (λ x. Ok (s, x)) ≡ Ok r → r.0 ≡ s
+kept_state : {X : Type 0} (given : Result X Fault) (s : State) (r : State × X) → (given >>= λ x. Ok (s, x)) ≡ Ok r → r.0 ≡ s
 kept_state (Ok x) s r h = let e : (s, x) ≡ r = cc h in ap (λ z. z.0) (sym e)
 kept_state (Err f) s r h = absurd (cc h)
 
@@ -50,7 +51,7 @@ module _ (name : Kind → Bytes → Bytes) where
   -- ---- the state that a change gives
 
   abbrev marked_content : State → ℕ → Result (State × Bytes) Fault
-  marked_content s n = and_then (at s n) (λ v. and_then (blob_bytes v) (λ x. Ok (s, x)))
+  marked_content s n = at s n >>= λ v. blob_bytes v >>= λ x. Ok (s, x)
 
   content_of_mark : (s : State) (m : Mode) (n : ℕ) → content name s m (Mark n) ≡ marked_content s n
   content_of_mark s File n = refl
@@ -67,9 +68,9 @@ module _ (name : Kind → Bytes → Bytes) where
   content_inline s Dir x = refl
 
   abbrev digits_content : State → Bytes → Result (State × Bytes) Fault
-  digits_content s x = and_then (base_value name s.history x) (λ v. and_then (blob_bytes v) (λ y. Ok (s, y)))
+  digits_content s x = base_value name s.history x >>= λ v. blob_bytes v >>= λ y. Ok (s, y)
 
-  valued_state : (given : Result Value Fault) (s : State) (r : State × Bytes) → and_then given (λ v. and_then (blob_bytes v) (λ y. Ok (s, y))) ≡ Ok r → r.0 ≡ s
+  valued_state : (given : Result Value Fault) (s : State) (r : State × Bytes) → (given >>= λ v. blob_bytes v >>= λ y. Ok (s, y)) ≡ Ok r → r.0 ≡ s
   valued_state (Ok v) s r h = kept_state (blob_bytes v) s r h
   valued_state (Err e) s r h = absurd (cc h)
 
@@ -94,7 +95,7 @@ module _ (name : Kind → Bytes → Bytes) where
   -- of those behind a change
   pub change_later : (s : State) (f : FileMap Bytes) (c : Change) (r : State × FileMap Bytes) → changed name s f c ≡ Ok r → (ys : List Value) → Clash name r.0.history.values ys → Clash name s.history.values (blob_added c ++ ys)
   change_later s f (Modify m d p) r h ys k =
-      let y = both_given (content name s m d) (λ y. and_then (modified f p (m, y.1)) (λ g. Ok (y.0, g))) r h in
+      let y = both_given (content name s m d) (λ y. modified f p (m, y.1) >>= λ g. Ok (y.0, g)) r h in
       let t = kept_state (modified f p (m, y.0.1)) y.0.0 r y.2 in
       content_later d s ys (subst (λ z. Clash name z.history.values ys) (t ∙ content_state s m d y.0 y.1) k)
   change_later s f (Remove p) r h ys k = let e : (s, removed f p) ≡ r = cc h in subst (λ z. Clash name z.0.history.values ys) (sym e) k

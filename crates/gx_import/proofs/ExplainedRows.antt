@@ -8,7 +8,7 @@ use Rattle.gx_model.specs.Texts.{Bytes}
 use Rattle.gx_model.specs.Texts.Paths.{Path}
 use Rattle.gx_model.specs.Streams.Commands.{Change, Clear, Copy, Inline, Mark, Modify, Remove}
 use Rattle.gx_model.specs.Replay.{start}
-use Rattle.gx_model.specs.Rows.RowTexts.{nothing}
+use Rattle.gx_model.specs.Histories.{no_history}
 use Rattle.gx_import.specs.Explaining.{IsRefusedAt, path_of}
 
 abbrev f : Path
@@ -21,7 +21,7 @@ abbrev three : List Change
 three = Modify File (Inline (codes "x")) f ∷ Modify File (Mark 9) g ∷ Remove f ∷ []
 
 -- it is the second, at its path
-pub second_is_told : (name : Kind → Bytes → Bytes) → IsRefusedAt name (start nothing) [] three UnknownMark 2 (Some g)
+pub second_is_told : (name : Kind → Bytes → Bytes) → IsRefusedAt name (start no_history) [] three UnknownMark 2 (Some g)
 second_is_told name = record {
   before = Modify File (Inline (codes "x")) f ∷ [];
   change = Modify File (Mark 9) g;

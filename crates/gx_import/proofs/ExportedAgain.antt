@@ -11,12 +11,11 @@ use Rattle.gx_model.specs.Streams.Commands.{Command, no_features}
 use Rattle.gx_model.specs.Streams.Grammar.{commands_asked, commands_of}
 use Rattle.gx_model.specs.Streams.Items.{items_of}
 use Rattle.gx_model.proofs.ObjectTexts.OneTree.{all_left}
-use Rattle.gx_model.specs.Histories.Values.{Commit, Value}
+use Rattle.gx_model.specs.Histories.Values.{Commit, Value, commit_of}
 use Rattle.gx_model.specs.Records.{name_of}
-use Rattle.gx_model.specs.Histories.{History, IsIn, Records, StandsFor, Target, record_of, value_at}
+use Rattle.gx_model.specs.Histories.{History, IsIn, Records, StandsFor, Target, empty_repository, record_of, value_at}
 use Rattle.gx_model.specs.Records.HistoryOf.{history_of}
 use Rattle.gx_model.specs.Records.Sound.{AnyByRecursion, IsSound}
-use Rattle.gx_model.specs.Revisions.Ranges.{commit_of}
 use Rattle.gx_model.specs.Replay.{Kept, finished, imported, imported_asked, refused, replayed_commands, replayed_text, start}
 use Rattle.gx_model.specs.Export.{command_items, export_text, inner_commands, is_reached, item_text, reached_commits}
 use Rattle.gx_model.specs.declared.features.Features.{Features}
@@ -27,7 +26,7 @@ use Rattle.gx_model.specs.Texts.Sinks.{Taken}
 use Rattle.gx_text.specs.Devices.{Coming}
 use Rattle.gx_stream.specs.Heard.{heard, heard_upto}
 use Rattle.gx_command.specs.Reading.{commands_asked_from, commands_from}
-use Rattle.gx_import.specs.Exported.{ExportedOr, GivesExport, ImportsExport, IsExported, LeaveExports, nothing}
+use Rattle.gx_import.specs.Exported.{ExportedOr, GivesExport, ImportsExport, IsExported, LeaveExports}
 use Rattle.gx_import.specs.Imports.{Imports, LeavesBefore, Replays, replayed_on, report_of}
 use Rattle.gx_import.specs.declared.fault.ImportFault.{ImportFault}
 use Rattle.gx_import.specs.declared.report.Report.{Report}
@@ -127,7 +126,7 @@ module _ (name : Kind → Bytes → Bytes) where
     -- what the commands of an export's text give from nothing
     abbrev pub Replayed : Records → Coming → Type 0
     Replayed exported coming =
-        (k : History) × IsAgain (history_of exported) k × (replayed_commands name (history_of nothing) (commands_from coming) ≡ finished k [] (exported_report (history_of exported) k))
+        (k : History) × IsAgain (history_of exported) k × (replayed_commands name (history_of empty_repository) (commands_from coming) ≡ finished k [] (exported_report (history_of exported) k))
 
     export_replayed : (exported : Records) → IsSound name exported → HasNoNullGitlink (history_of exported) → (coming : Coming) → GivesExport exported coming → Replayed exported coming
     export_replayed exported sound links coming gives =
@@ -135,7 +134,7 @@ module _ (name : Kind → Bytes → Bytes) where
         let is = (histories.stands exported sound).history in
         let room = heard_short (2 ^ 63 - 1) coming (export_text h) gives in
         let q = imports name h is (readable h is links (omega (arith, room))) in
-        (q.0, q.1, (λ i. replayed_text name (history_of nothing) (gives i).bytes (gives i).fails) ∙ q.2)
+        (q.0, q.1, (λ i. replayed_text name (history_of empty_repository) (gives i).bytes (gives i).fails) ∙ q.2)
 
     -- the values of what an export gives have names of their own
     names_apart : (exported : Records) → IsSound name exported → (k : History) → IsAgain (history_of exported) k → HaveNames name k.values

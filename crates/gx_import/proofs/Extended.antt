@@ -2,7 +2,8 @@
 use Rattle.std.proofs.Common.{◌≡◌, true, false, cond, List, [], ◌∷◌, ◌++◌, Option, Some, None, Result, Ok, Err, append_assoc, append-nil, refl, sym, ap, ◌∙◌}
 use Rattle.gx_model.specs.Texts.{Bytes}
 use Rattle.gx_model.specs.Histories.{Record}
-use Rattle.gx_model.specs.Records.Growth.{and_some, put, put_all, put_under, record_named, same_object}
+use Rattle.gx_model.specs.Records.Growth.{put, put_all, put_under, record_named, same_object}
+use Rattle.std.specs.Option.{option_and_then}
 use Rattle.gx_object.specs.declared.name.Name.{Name}
 use Rattle.gx_store.specs.declared.fault.StoreFault.{StoreFault}
 use Rattle.gx_store.specs.declared.fault.StoreFault.TheVariants.{NameHeld, OutOfMemory}
@@ -24,7 +25,7 @@ extended_put (Some held) old r new e =
     ] e
 
 extended_next : (old : List Record) (rs new : List Record) → ((mid : List Record) → put_all mid rs ≡ Some new → Extends mid new) → (o : Option (List Record)) → ((mid : List Record) → o ≡ Some mid → Extends old mid)
-    → and_some o (λ now. put_all now rs) ≡ Some new → Extends old new
+    → option_and_then (λ now. put_all now rs) o ≡ Some new → Extends old new
 extended_next old rs new rest None one e = absurd (cc e)
 extended_next old rs new rest (Some mid) one e = extended_more old mid new (one mid refl) (rest mid e)
 

@@ -7,7 +7,7 @@ use Rattle.gx_model.specs.declared.objects.Kind.{Kind}
 use Rattle.gx_model.specs.declared.objects.Mode.{Mode}
 use Rattle.gx_model.specs.declared.objects.Mode.TheVariants.{File, Exec, Link, Gitlink, Dir}
 use Rattle.gx_model.specs.Texts.{Bytes}
-use Rattle.gx_model.specs.Faults.{and_then}
+use Rattle.gx_model.specs.Faults.{◌>>=◌}
 use Rattle.gx_model.specs.Histories.Files.{FileMap, depth}
 use Rattle.gx_model.specs.Histories.Edits.{copied, modified, renamed}
 use Rattle.gx_model.specs.Histories.Values.{Commit, Value, blob_value, sub_maps, tree_value}
@@ -16,7 +16,8 @@ use Rattle.gx_model.specs.Records.HistoryOf.{contents_of, named_values}
 use Rattle.gx_model.specs.Records.Growth.{all_trees, clashes, put_all, tree_records, with_values}
 use Rattle.gx_model.specs.Laws.RepositoryLaws.{NamesTree, PutsGrow, TreesGrow, values_of}
 use Rattle.gx_model.specs.Records.Sound.{IsNamedMap, IsSound}
-use Rattle.gx_model.specs.Revisions.Denotation.{base_value, lower}
+use Rattle.gx_model.specs.Revisions.Denotation.{base_value}
+use Rattle.gx_model.specs.Texts.Digits.{lower}
 use Rattle.gx_model.specs.Streams.Commands.{Change, Clear, Copy, DataRef, Inline, Mark, Modify, Object, Remove, Rename}
 use Rattle.gx_model.specs.Replay.{State, all_changed, at, blob_bytes, changed, content}
 use Rattle.gx_model.proofs.Records.GrownTrees.{trees_fold}
@@ -105,11 +106,11 @@ module _ (name : Kind → Bytes → Bytes) where
   abbrev Bytes_given : State → Bytes → Result (State × Bytes) Fault
   Bytes_given s x = Ok (s, x)
 
-  held_after : (s : State) (given : Result Value Fault) (r : State × Bytes) → and_then given (λ v. and_then (blob_bytes v) (λ x. Bytes_given s x)) ≡ Ok r → r.0 ≡ s
+  held_after : (s : State) (given : Result Value Fault) (r : State × Bytes) → (given >>= λ v. blob_bytes v >>= λ x. Bytes_given s x) ≡ Ok r → r.0 ≡ s
   held_after s (Err e) r k = absurd (cc k)
   held_after s (Ok v) r k = of (blob_bytes v) k
     where
-      of : (o : Result Bytes Fault) → and_then o (λ x. Bytes_given s x) ≡ Ok r → r.0 ≡ s
+      of : (o : Result Bytes Fault) → (o >>= λ x. Bytes_given s x) ≡ Ok r → r.0 ≡ s
       of (Err e) k = absurd (cc k)
       of (Ok x) k = let same : (let p : State × Bytes = (s, x) in p) ≡ r = cc k in sym (ap (λ (p : State × Bytes). p.0) same)
 
@@ -154,12 +155,12 @@ module _ (name : Kind → Bytes → Bytes) where
   abbrev Files_given : State → FileMap Bytes → Result (State × FileMap Bytes) Fault
   Files_given s g = Ok (s, g)
 
-  edit_after : (s : State) (given : Result (FileMap Bytes) Fault) (r : State × FileMap Bytes) → and_then given (λ g. Files_given s g) ≡ Ok r → r.0 ≡ s
+  edit_after : (s : State) (given : Result (FileMap Bytes) Fault) (r : State × FileMap Bytes) → (given >>= λ g. Files_given s g) ≡ Ok r → r.0 ≡ s
   edit_after s (Err e) r k = absurd (cc k)
   edit_after s (Ok g) r k = let same : (let p : State × FileMap Bytes = (s, g) in p) ≡ r = cc k in sym (ap (λ (p : State × FileMap Bytes). p.0) same)
 
   modify_after : (s : State) (d : DataRef) (given : Result (State × Bytes) Fault) (next : State × Bytes → Result (FileMap Bytes) Fault) (r : State × FileMap Bytes) → ((t : State × Bytes) → given ≡ Ok t → Adds_so s d t)
-      → and_then given (λ t. and_then (next t) (λ g. Files_given t.0 g)) ≡ Ok r → r.0.history.values ≡ fold with_one s.history.values (content_added d)
+      → (given >>= λ t. next t >>= λ g. Files_given t.0 g) ≡ Ok r → r.0.history.values ≡ fold with_one s.history.values (content_added d)
   modify_after s d (Err e) next r one k = absurd (cc k)
   modify_after s d (Ok t) next r one k = ap (λ u. u.history.values) (edit_after t.0 (next t) r k) ∙ one t refl
 
@@ -172,7 +173,7 @@ module _ (name : Kind → Bytes → Bytes) where
 
   more_after : (s : State) (c : Change) (cs : List Change) (given : Result (State × FileMap Bytes) Fault) (r : State × FileMap Bytes) → ((t : State × FileMap Bytes) → given ≡ Ok t → Adds_by s c t)
       → ((t : State × FileMap Bytes) → all_changed name t.0 t.1 cs ≡ Ok r → r.0.history.values ≡ fold with_one t.0.history.values (blobs_added name t.0 t.1 cs))
-      → and_then given (λ t. all_changed name t.0 t.1 cs) ≡ Ok r → r.0.history.values ≡ fold with_one s.history.values (blob_added c ++ unless_refused (λ t. blobs_added name t.0 t.1 cs) given)
+      → (given >>= λ t. all_changed name t.0 t.1 cs) ≡ Ok r → r.0.history.values ≡ fold with_one s.history.values (blob_added c ++ unless_refused (λ t. blobs_added name t.0 t.1 cs) given)
   more_after s c cs (Err e) r one rest k = absurd (cc k)
   more_after s c cs (Ok t) r one rest k =
       rest t k ∙ ap (λ vs. fold with_one vs (blobs_added name t.0 t.1 cs)) (one t refl) ∙ sym (fold_append with_one s.history.values (blob_added c) (blobs_added name t.0 t.1 cs))

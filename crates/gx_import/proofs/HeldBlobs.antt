@@ -13,15 +13,16 @@ use Rattle.gx_model.specs.declared.objects.Kind.TheVariants as kind
 use Rattle.gx_model.specs.declared.objects.Mode.{Mode}
 use Rattle.gx_model.specs.declared.objects.Mode.TheVariants.{File, Exec, Link, Gitlink, Dir}
 use Rattle.gx_model.specs.Texts.{Bytes}
-use Rattle.gx_model.specs.Faults.{Given, IsFaultOf, and_then}
-use Rattle.gx_model.specs.Histories.Values.{Value, blob_value, commit_value, is_hex_digit, is_name_text, tag_value, tree_value}
+use Rattle.gx_model.specs.Faults.{Given, IsFaultOf, ◌>>=◌}
+use Rattle.gx_model.specs.Histories.Values.{Value, blob_value, commit_value, tag_value, tree_value}
+use Rattle.gx_model.specs.Texts.Digits.{is_any_digit, is_lower_digit, is_name_text, lower}
 use Rattle.gx_model.specs.Objects.{IsNamer, unhex}
 use Rattle.gx_model.specs.Records.{kind_of, name_of}
 use Rattle.gx_model.specs.Histories.{History, IsIn, Record, Records, object_of}
 use Rattle.gx_model.specs.Records.HistoryOf.{history_of, value_of_name}
 use Rattle.gx_model.specs.Records.Growth.{record_named}
 use Rattle.gx_model.specs.Records.Sound.{IsSound}
-use Rattle.gx_model.specs.Revisions.Denotation.{base_value, begun_by, full_name, is_any_digit, lower}
+use Rattle.gx_model.specs.Revisions.Denotation.{base_value, begun_by, full_name}
 use Rattle.gx_model.specs.Streams.Commands.{Object}
 use Rattle.gx_model.specs.Replay.{State, blob_bytes, content}
 use Rattle.gx_object.specs.declared.name.Name.{Name}
@@ -61,7 +62,7 @@ module _ (name : Kind → Bytes → Bytes) (namer : IsNamer name) (r : Records) 
   base_is : (h : History) (x : Bytes) → (list_all is_any_digit x && nat_eq (length x) 40) ≡ true → base_value name h x ≡ full_name name (begun_by name h x)
   base_is h x e = rw e refl
 
-  plain : (s : State) (m : Mode) → (m ≡ Gitlink → ⊥) → (x : Bytes) → content name s m (Object x) ≡ and_then (base_value name s.history x) (λ v. and_then {B = State × Bytes} (blob_bytes v) (λ y. Ok (s, y)))
+  plain : (s : State) (m : Mode) → (m ≡ Gitlink → ⊥) → (x : Bytes) → content name s m (Object x) ≡ (base_value name s.history x >>= λ v. ◌>>=◌ {B = State × Bytes} (blob_bytes v) (λ y. Ok (s, y)))
   plain s File k x = refl
   plain s Exec k x = refl
   plain s Link k x = refl
@@ -69,20 +70,20 @@ module _ (name : Kind → Bytes → Bytes) (namer : IsNamer name) (r : Records) 
   plain s Dir k x = refl
 
   content_by : (s : State) → history_of r ≡ s.history → (m : Mode) → (m ≡ Gitlink → ⊥) → (x n : Bytes) → (list_all is_any_digit x && nat_eq (length x) 40) ≡ true → n ≡ unhex (map lower x)
-      → content name s m (Object x) ≡ and_then {B = State × Bytes} (bytes_held r n) (λ y. Ok (s, y))
+      → content name s m (Object x) ≡ ◌>>=◌ {B = State × Bytes} (bytes_held r n) (λ y. Ok (s, y))
   content_by s h m k x n d e =
-      plain s m k x ∙ ap (λ b. and_then b (λ v. and_then {B = State × Bytes} (blob_bytes v) (λ y. Ok (s, y)))) (ap (λ z. base_value name z x) (sym h) ∙ base_is (history_of r) x d) ∙ by (record_named r.records n) refl
+      plain s m k x ∙ ap (λ b. b >>= λ v. ◌>>=◌ {B = State × Bytes} (blob_bytes v) (λ y. Ok (s, y))) (ap (λ z. base_value name z x) (sym h) ∙ base_is (history_of r) x d) ∙ by (record_named r.records n) refl
     where
       by : (o : Option Record) → record_named r.records n ≡ o
-          → and_then (full_name name (begun_by name (history_of r) x)) (λ v. and_then {B = State × Bytes} (blob_bytes v) (λ y. Ok (s, y))) ≡ and_then {B = State × Bytes} (or_unknown (record_named r.records n) (blob_bytes (value_of_name r.records n))) (λ y. Ok (s, y))
+          → (full_name name (begun_by name (history_of r) x) >>= λ v. ◌>>=◌ {B = State × Bytes} (blob_bytes v) (λ y. Ok (s, y))) ≡ ◌>>=◌ {B = State × Bytes} (or_unknown (record_named r.records n) (blob_bytes (value_of_name r.records n))) (λ y. Ok (s, y))
       by None f =
           let w = whole_digits x d in
-          ap (λ b. and_then b (λ v. and_then {B = State × Bytes} (blob_bytes v) (λ y. Ok (s, y)))) (full_none name namer r sound x n w.1 w.0 e f)
-          ∙ sym (ap (λ o. and_then {B = State × Bytes} (or_unknown o (blob_bytes (value_of_name r.records n))) (λ y. Ok (s, y))) f)
+          ap (λ b. b >>= λ v. ◌>>=◌ {B = State × Bytes} (blob_bytes v) (λ y. Ok (s, y))) (full_none name namer r sound x n w.1 w.0 e f)
+          ∙ sym (ap (λ o. ◌>>=◌ {B = State × Bytes} (or_unknown o (blob_bytes (value_of_name r.records n))) (λ y. Ok (s, y))) f)
       by (Some held) f =
           let w = whole_digits x d in
-          ap (λ b. and_then b (λ v. and_then {B = State × Bytes} (blob_bytes v) (λ y. Ok (s, y)))) (full_found name namer r sound x n w.1 w.0 e (subst (λ o. IsTrue (is_some o)) (sym f) refl))
-          ∙ sym (ap (λ o. and_then {B = State × Bytes} (or_unknown o (blob_bytes (value_of_name r.records n))) (λ y. Ok (s, y))) f)
+          ap (λ b. b >>= λ v. ◌>>=◌ {B = State × Bytes} (blob_bytes v) (λ y. Ok (s, y))) (full_found name namer r sound x n w.1 w.0 e (subst (λ o. IsTrue (is_some o)) (sym f) refl))
+          ∙ sym (ap (λ o. ◌>>=◌ {B = State × Bytes} (or_unknown o (blob_bytes (value_of_name r.records n))) (λ y. Ok (s, y))) f)
 
   content_name_is : (s : State) (x : Bytes) (n : Name) (m : Mode) → (m ≡ Gitlink → ⊥) → (m ≡ Dir → ⊥) → n.bytes ≡ name_of name (blob_value x) → IsIn s.history.values (blob_value x) → IsContentName name s (s, x) m n
   content_name_is s x n File k l e i = record { same = refl; leaf = refl; named = e; known = i }
@@ -96,16 +97,16 @@ module _ (name : Kind → Bytes → Bytes) (namer : IsNamer name) (r : Records) 
       → (result : Result Name Fault) → GivesAs (IsBlobOf name (history_of r).values n) result (bytes_held r n.bytes) → GivesAs (λ y called. IsContentName name s y m called) result (content name s m (Object x))
   content_found s h m k l x n d e (Ok called) g = (
     (s, g.0),
-    content_by s h m k x n.bytes d e ∙ ap (λ b. and_then {B = State × Bytes} b (λ y. Ok (s, y))) g.1,
+    content_by s h m k x n.bytes d e ∙ ap (λ b. ◌>>=◌ {B = State × Bytes} b (λ y. Ok (s, y))) g.1,
     subst (IsContentName name s (s, g.0) m) (sym g.2.same) (content_name_is s g.0 n m k l g.2.named (subst (λ z. IsIn z.values (blob_value g.0)) h g.2.stands)),
   )
   content_found s h m k l x n d e (Err f) g =
       subst (IsFaultOf f) (sym (content_by s h m k x n.bytes d e)) (fault_then f (bytes_held r n.bytes) (λ y. Ok (s, y)) g)
 
-lower_digit : (d : ℕ) → is_any_digit d ≡ true → is_hex_digit (lower d) ≡ true
+lower_digit : (d : ℕ) → is_any_digit d ≡ true → is_lower_digit (lower d) ≡ true
 lower_digit d h = grind (arith, common_steps, h)
 
-lower_digits : (x : Bytes) → T (list_all is_any_digit x) → T (list_all is_hex_digit (map lower x))
+lower_digits : (x : Bytes) → T (list_all is_any_digit x) → T (list_all is_lower_digit (map lower x))
 lower_digits [] h = tt
 lower_digits (d ∷ x) h = both _ _ (passes _ (lower_digit d (is_true _ (first (is_any_digit d) (list_all is_any_digit x) h)))) (lower_digits x (second (is_any_digit d) (list_all is_any_digit x) h))
 

@@ -1,9 +1,9 @@
 -- Names of values that stand in the history are held, and give the values back: the parts of a commit and of a tag.
 use Rattle.std.proofs.Common.{◌≡◌, List, [], ◌∷◌, map, Option, Some, None, refl, sym, ap, subst, ◌∙◌}
 use Rattle.std.specs.Prelude.{T, IsTrue}
-use Rattle.std.specs.Option.{option_map}
+use Rattle.std.specs.Option.{option_map, unwrap_or}
 use Rattle.gx_model.specs.Texts.Idents.{is_ident}
-use Rattle.gx_model.specs.Replay.{or_else, text_made}
+use Rattle.gx_model.specs.Replay.{text_made}
 use Rattle.gx_command.specs.declared.commands.Commit.{Commit as GivenCommit}
 use Rattle.gx_command.specs.declared.commands.Tag.{Tag as GivenTag}
 use Rattle.gx_command.specs.declared.texts.Identity.{Identity}
@@ -132,7 +132,7 @@ tagger_proper t = by t.tagger
 pub text_proper : {A : Type 0} (c : GivenCommit A) → IsTrue (is_proper_text (text_made (commit_parts c)))
 text_proper c = is_true _ (both _ _ (both _ _ (author c.author c.committer) (passes _ c.committer.proper)) (passes _ (encoding c.encoding)))
   where
-    author : {A : Type 0} (o : Option (Identity A)) (i : Identity A) → T (is_ident (or_else (option_map (λ i. i.bytes.items) o) i.bytes.items))
+    author : {A : Type 0} (o : Option (Identity A)) (i : Identity A) → T (is_ident (unwrap_or (option_map (λ i. i.bytes.items) o) i.bytes.items))
     author None i = passes _ i.proper
     author (Some j) i = passes _ j.proper
 

@@ -11,7 +11,8 @@ use Rattle.gx_model.specs.declared.faults.Fault.{Fault}
 use Rattle.gx_model.specs.Texts.{Bytes}
 use Rattle.gx_model.specs.Texts.Paths.{Path, are_in_line, begins, is_file_path, path_cmp}
 use Rattle.gx_model.specs.Histories.Files.{FileMap, Leaf, are_apart, is_file_map, under}
-use Rattle.gx_model.specs.Histories.Edits.{copied, copy_fault, modified, moved, removed, renamed, unless, with_all, without, without_line}
+use Rattle.gx_model.specs.Histories.Edits.{copied, copy_fault, modified, moved, removed, renamed, with_all, without, without_line}
+use Rattle.gx_model.specs.Faults.{unless}
 use Rattle.gx_model.specs.Histories.Values.{Value, blob_of, blobs_of, is_leaf}
 use Rattle.gx_model.specs.Records.{content_name, named_map}
 use Rattle.gx_model.specs.Histories.{IsIn}

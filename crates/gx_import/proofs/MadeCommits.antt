@@ -4,7 +4,7 @@ use Rattle.std.specs.List.{fold}
 use Rattle.gx_model.specs.declared.faults.Fault.{Fault}
 use Rattle.gx_model.specs.declared.objects.Kind.{Kind}
 use Rattle.gx_model.specs.Texts.{Bytes}
-use Rattle.gx_model.specs.Faults.{IsFaultOf, and_then}
+use Rattle.gx_model.specs.Faults.{IsFaultOf, ◌>>=◌}
 use Rattle.gx_model.specs.Histories.Files.{FileMap}
 use Rattle.gx_model.specs.Histories.Values.{Commit, Value, commit_value}
 use Rattle.gx_model.specs.Histories.{IsIn, with_one}
@@ -25,10 +25,10 @@ module _ (name : Kind → Bytes → Bytes) (s : State) (c : CommitParts) where
   after_changes first others r = Ok (committed_to c (commit_made c first others r.1) r.0)
 
   abbrev pub after_others : Option Commit → List Commit → Result State Fault
-  after_others first others = and_then (all_changed name s (starting_files first) c.changes) (after_changes first others)
+  after_others first others = all_changed name s (starting_files first) c.changes >>= after_changes first others
 
   abbrev pub after_first : Option Commit → Result State Fault
-  after_first first = and_then (all_committed name c.ref s c.merges) (after_others first)
+  after_first first = all_committed name c.ref s c.merges >>= after_others first
 
   -- the first parent is refused
   pub first_refused : {Z : Type 0} (clash : Type 0) (Be : State → Z → Type 0) (e : Fault) → IsFaultOf e (first_parent name s c) → AddsAs clash Be (Err e) (step_commit name s c)
@@ -38,7 +38,7 @@ module _ (name : Kind → Bytes → Bytes) (s : State) (c : CommitParts) where
     -- another parent is
     pub others_refused : {Z : Type 0} (clash : Type 0) (Be : State → Z → Type 0) (e : Fault) → IsFaultOf e (all_committed name c.ref s c.merges) → AddsAs clash Be (Err e) (step_commit name s c)
     others_refused clash Be e h =
-        subst (AddsAs clash Be (Err e)) (sym (ap (λ o. and_then o after_first) k))
+        subst (AddsAs clash Be (Err e)) (sym (ap (λ o. o >>= after_first) k))
         (gives_refused clash Be e (all_committed name c.ref s c.merges) (after_others first) (merged_answer name c.ref s c.merges) h)
 
     module _ (others : List Commit) (l : all_committed name c.ref s c.merges ≡ Ok others) where
@@ -47,7 +47,7 @@ module _ (name : Kind → Bytes → Bytes) (s : State) (c : CommitParts) where
 
       -- and what is given
       pub stepped : step_commit name s c ≡ after_others first others
-      stepped = ap (λ o. and_then o after_first) k ∙ ap (λ o. and_then o (after_others first)) l
+      stepped = ap (λ o. o >>= after_first) k ∙ ap (λ o. o >>= after_others first) l
 
       -- what is said of a commit whose parents are known
       pub parents_known : {X : Type 0} (vs : List Value) (Is : State → X → Type 0) (answer : Result X Fault) → AddsAs (Clash name vs (values_made name s c first others)) Is answer (after_others first others)
@@ -81,7 +81,7 @@ module _ (name : Kind → Bytes → Bytes) (s : State) (c : CommitParts) where
 
       -- what the whole gives
       pub step_made : after_others first others ≡ Ok (committed_to c made r.0)
-      step_made = ap (λ o. and_then o (after_changes first others)) m
+      step_made = ap (λ o. o >>= after_changes first others) m
 
       abbrev then_set : State → Result State Fault
       then_set t = Ok (on_branch c.ref (Some made) (marked c.mark (commit_value made) t))

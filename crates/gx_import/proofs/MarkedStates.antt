@@ -7,12 +7,12 @@ use Rattle.std.specs.declared.cmp.Ordering.TheVariants.{Less, Equal, Greater}
 use Rattle.std.specs.FinMap.Entries.{by_order, is_sorted, is_sorted-put, put}
 use Rattle.gx_model.specs.declared.objects.Kind.{Kind}
 use Rattle.gx_model.specs.declared.objects.Kind.TheVariants as kinds
-use Rattle.gx_model.specs.Texts.{Bytes}
+use Rattle.gx_model.specs.Texts.{Bytes, byte_cmp}
 use Rattle.gx_model.specs.Texts.RefNames.{is_ref_name, tag_ref}
 use Rattle.gx_model.specs.Histories.Values.{Commit, Tag, Value, commit_value, tag_value}
 use Rattle.gx_model.specs.Records.{name_of}
 use Rattle.gx_model.specs.Histories.{IsIn, Records}
-use Rattle.gx_model.specs.Replay.{State, byte_cmp, marked, on_branch}
+use Rattle.gx_model.specs.Replay.{State, marked, on_branch}
 use Rattle.gx_model.proofs.Texts.PathTests.{is_true}
 use Rattle.gx_object.specs.declared.name.Name.{Name}
 use Rattle.gx_import.specs.declared.object.Object.{Object}

@@ -4,7 +4,7 @@ use Rattle.std.specs.List.{cons_option}
 use Rattle.gx_model.specs.declared.faults.Fault.{Fault}
 use Rattle.gx_model.specs.declared.objects.Kind.{Kind}
 use Rattle.gx_model.specs.Texts.{Bytes}
-use Rattle.gx_model.specs.Faults.{IsFaultOf, and_then}
+use Rattle.gx_model.specs.Faults.{IsFaultOf, ◌>>=◌}
 use Rattle.gx_model.specs.Histories.Values.{Commit}
 use Rattle.gx_model.specs.Streams.Commands.{CommitIsh}
 use Rattle.gx_model.specs.Replay.{State, all_committed, committed_for, with_first_parent}
@@ -34,14 +34,14 @@ module _ (name : Kind → Bytes → Bytes) (b : Bytes) (s : State) where
       → all_committed name b s (before ++ x ∷ []) ≡ Ok (done ++ c ∷ [])
   merged_behind [] x done c h k =
       let e : [] ≡ done = cc h in
-      subst (λ cs. all_committed name b s (x ∷ []) ≡ Ok (cs ++ c ∷ [])) e (ap (λ r. and_then r (λ d. Ok (d ∷ []))) k)
+      subst (λ cs. all_committed name b s (x ∷ []) ≡ Ok (cs ++ c ∷ [])) e (ap (λ r. r >>= λ d. Ok (d ∷ [])) k)
   merged_behind (y ∷ ys) x done c h k =
-      let p = both_given (committed_for name b s y) (λ d. and_then (all_committed name b s ys) (behind_first d)) done h in
+      let p = both_given (committed_for name b s y) (λ d. all_committed name b s ys >>= behind_first d) done h in
       let q = both_given (all_committed name b s ys) (behind_first p.0) done p.2 in
       let e : p.0 ∷ q.0 ≡ done = cc q.2 in
       subst (λ cs. all_committed name b s (y ∷ ys ++ x ∷ []) ≡ Ok (cs ++ c ∷ [])) e
-      (ap (λ r. and_then r (λ d. and_then (all_committed name b s (ys ++ x ∷ [])) (behind_first d))) p.1
-      ∙ ap (λ r. and_then r (behind_first p.0)) (merged_behind ys x q.0 c q.1 k))
+      (ap (λ r. r >>= λ d. all_committed name b s (ys ++ x ∷ []) >>= behind_first d) p.1
+      ∙ ap (λ r. r >>= behind_first p.0) (merged_behind ys x q.0 c q.1 k))
 
   -- one more
   pub next_passed : (whole rest : List CommitIsh) (x : CommitIsh) → ArePassed whole (x ∷ rest) → (c : Commit) → committed_for name b s x ≡ Ok c → ArePassed whole rest
@@ -70,9 +70,9 @@ module _ (name : Kind → Bytes → Bytes) (b : Bytes) (s : State) (made : Optio
   pub record ArePartOf (whole rest : List CommitIsh) (names : List Name) : Type 0 where
     pub done : List Commit
     pub are : AreAll (IsCommitOf name s.history.values) (with_first_parent made done) names
-    pub left : all_committed name b s whole ≡ and_then (all_committed name b s rest) (λ cs. Ok (done ++ cs))
+    pub left : all_committed name b s whole ≡ (all_committed name b s rest >>= λ cs. Ok (done ++ cs))
 
-  none_done : (given : Result (List Commit) Fault) → given ≡ and_then given (λ cs. Ok ([] ++ cs))
+  none_done : (given : Result (List Commit) Fault) → given ≡ (given >>= λ cs. Ok ([] ++ cs))
   none_done (Ok cs) = refl
   none_done (Err e) = refl
 
@@ -100,7 +100,7 @@ module _ (name : Kind → Bytes → Bytes) (b : Bytes) (s : State) (made : Optio
   abbrev put_first : Commit → List Commit → Result (List Commit) Fault
   put_first c cs = Ok (c ∷ cs)
 
-  moved_on : (done : List Commit) (c : Commit) (given : Result (List Commit) Fault) → and_then (and_then given (put_first c)) (λ cs. Ok (done ++ cs)) ≡ and_then given (λ cs. Ok ((done ++ c ∷ []) ++ cs))
+  moved_on : (done : List Commit) (c : Commit) (given : Result (List Commit) Fault) → ((given >>= put_first c) >>= λ cs. Ok (done ++ cs)) ≡ (given >>= λ cs. Ok ((done ++ c ∷ []) ++ cs))
   moved_on done c (Err e) = refl
   moved_on done c (Ok cs) = ap Ok (sym (append_assoc done (c ∷ []) cs))
 
@@ -111,7 +111,7 @@ module _ (name : Kind → Bytes → Bytes) (b : Bytes) (s : State) (made : Optio
       record {
         done = h.done ++ c ∷ [];
         are = subst (λ cs. AreAll (IsCommitOf name s.history.values) cs (names ++ n ∷ [])) (first_and made h.done c) (all_last (with_first_parent made h.done) names c n h.are is);
-        left = h.left ∙ ap (λ o. and_then (and_then o (λ d. and_then (all_committed name b s rest) (λ cs. Ok (d ∷ cs)))) (λ cs. Ok (h.done ++ cs))) e ∙ moved_on h.done c (all_committed name b s rest);
+        left = h.left ∙ ap (λ o. (o >>= λ d. all_committed name b s rest >>= λ cs. Ok (d ∷ cs)) >>= λ cs. Ok (h.done ++ cs)) e ∙ moved_on h.done c (all_committed name b s rest);
       }
 
   -- one is refused
@@ -119,7 +119,7 @@ module _ (name : Kind → Bytes → Bytes) (b : Bytes) (s : State) (made : Optio
       → IsFaultOf e (all_committed name b s whole)
   part_refused whole rest x names h e k =
       subst (IsFaultOf e) (sym h.left)
-      (fault_then e (all_committed name b s (x ∷ rest)) (λ cs. Ok (h.done ++ cs)) (fault_then e (committed_for name b s x) (λ c. and_then (all_committed name b s rest) (λ cs. Ok (c ∷ cs))) k))
+      (fault_then e (all_committed name b s (x ∷ rest)) (λ cs. Ok (h.done ++ cs)) (fault_then e (committed_for name b s x) (λ c. all_committed name b s rest >>= λ cs. Ok (c ∷ cs)) k))
 
   -- all of them
   pub part_all : (whole : List CommitIsh) (names : List Name) → ArePartOf whole [] names

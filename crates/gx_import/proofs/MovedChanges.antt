@@ -10,10 +10,10 @@ use Rattle.std.proofs.lemmas.Bool.{true≢false}
 use Rattle.std.proofs.lemmas.List.Sums.{fold-append}
 use Rattle.std.proofs.lemmas.Map.Text.{is_eq-slice_cmp}
 use Rattle.gx_model.specs.declared.faults.Fault.{Fault}
-use Rattle.gx_model.specs.Texts.{Bytes, same_bytes}
+use Rattle.gx_model.specs.Texts.{Bytes, byte_cmp, same_bytes}
 use Rattle.gx_model.specs.Histories.{Record}
-use Rattle.gx_model.specs.Records.Publishing.{Change, Ref, change_fault, changes_fault, first_fault, with_change, with_changes}
-use Rattle.gx_model.specs.Replay.{byte_cmp}
+use Rattle.gx_model.specs.Records.Publishing.{Change, Ref, change_fault, changes_fault, with_change, with_changes}
+use Rattle.std.specs.Option.{option_or}
 use Rattle.gx_model.proofs.Texts.PathTests.{both, first, second, same_is}
 use Rattle.gx_object.specs.declared.name.Name.{Name}
 use Rattle.gx_import.specs.declared.branches.Tip.{Tip}
@@ -185,7 +185,7 @@ moved_set refs tables s t u =
 
 -- ---- changes that are refused
 
-none_of : (why later : Option Fault) → first_fault why later ≡ None → (why ≡ None) × (later ≡ None)
+none_of : (why later : Option Fault) → option_or why later ≡ None → (why ≡ None) × (later ≡ None)
 none_of None later e = (refl, e)
 none_of (Some why) later e = absurd (cc)
 
@@ -196,7 +196,7 @@ fewer_free test records (c ∷ cs) others e =
     let free = none_of (change_fault records c) (changes_fault records (cs ++ others)) e in
     let rest = fewer_free test records cs others free.1 in
     elim (test c) as (λ b. changes_fault records (cond b (c ∷ filter test cs) (filter test cs) ++ others) ≡ None) [
-      | true ↦ ap (λ why. first_fault why (changes_fault records (filter test cs ++ others))) free.0 ∙ rest
+      | true ↦ ap (λ why. option_or why (changes_fault records (filter test cs ++ others))) free.0 ∙ rest
       | false ↦ rest
     ]
 
@@ -205,4 +205,4 @@ pub fewer_behind : (test : Change → Bool) (records : List Record) (front chang
 fewer_behind test records [] changes e = ap (changes_fault records) (sym (append-nil (filter test changes))) ∙ fewer_free test records changes [] (ap (changes_fault records) (append-nil changes) ∙ e)
 fewer_behind test records (c ∷ cs) changes e =
     let free = none_of (change_fault records c) (changes_fault records (cs ++ changes)) e in
-    ap (λ why. first_fault why (changes_fault records (cs ++ filter test changes))) free.0 ∙ fewer_behind test records cs changes free.1
+    ap (λ why. option_or why (changes_fault records (cs ++ filter test changes))) free.0 ∙ fewer_behind test records cs changes free.1

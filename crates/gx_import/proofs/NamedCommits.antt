@@ -2,7 +2,7 @@
 use Rattle.std.proofs.Common.{◌≡◌, Option, Some, None, Result, refl, sym, subst}
 use Rattle.std.specs.Map.{lookup}
 use Rattle.gx_model.specs.declared.objects.Kind.{Kind}
-use Rattle.gx_model.specs.Faults.{Given, and_then}
+use Rattle.gx_model.specs.Faults.{Given, ◌>>=◌}
 use Rattle.gx_model.specs.Texts.{Bytes, same_bytes}
 use Rattle.gx_model.specs.Histories.Values.{Commit, Value}
 use Rattle.gx_model.specs.Streams.Commands.{Named}
@@ -54,10 +54,10 @@ module _ (name : Kind → Bytes → Bytes) {A : Type 0} where
 
   -- and one that names none
   pub revision_named : (r : Records) (tables : Tables A) (s : State) → Stands name r tables s → (text : Bytes) → None ≡ lookup (same_bytes text) (rows_of tables.branches)
-      → (result : Result Object Fault) → GivesAs (IsOf name (history_of r).values) result (and_then (revision_of text) (λ v. value_denoted name (history_of r) v))
+      → (result : Result Object Fault) → GivesAs (IsOf name (history_of r).values) result (revision_of text >>= λ v. value_denoted name (history_of r) v)
       → GivesAs (IsOf name s.history.values) result (value_named name s (Named text))
   revision_named r tables s h text e result k =
       let none = none_found name A s.history.values (lookup (same_bytes text) s.branches)
       (subst (AreBoth (IsTip name s.history.values) (lookup (same_bytes text) s.branches)) (sym e) (related_found (IsTip name s.history.values) (same_bytes text) s.branches (rows_of tables.branches) h.branches)) in
       subst (λ o. GivesAs (IsOf name s.history.values) result (or_revision o (revision_value name s text))) (sym none)
-      (subst (λ z. GivesAs (IsOf name z.values) result (and_then (revision_of text) (λ v. value_denoted name z v))) h.history k)
+      (subst (λ z. GivesAs (IsOf name z.values) result (revision_of text >>= λ v. value_denoted name z v)) h.history k)

@@ -6,10 +6,10 @@ use Rattle.std.specs.declared.cmp.Ordering.TheVariants.{Less, Equal, Greater}
 use Rattle.std.specs.FinMap.Entries.{by_order, put}
 use Rattle.gx_model.specs.declared.faults.Fault.{Fault}
 use Rattle.gx_model.specs.declared.faults.Fault.TheVariants.{NoSuchPath, RootNotTree, PathTooLong}
-use Rattle.gx_model.specs.Faults.{and_then}
+use Rattle.gx_model.specs.Faults.{unless, ◌>>=◌}
 use Rattle.gx_model.specs.Texts.Paths.{Path, are_in_line, begins, is_short, path_cmp, same_path}
 use Rattle.gx_model.specs.Histories.Files.{file_at, under}
-use Rattle.gx_model.specs.Histories.Edits.{copied, copy_fault, is_root, modified, moved, removed, renamed, unless, with_all, without, without_line}
+use Rattle.gx_model.specs.Histories.Edits.{copied, copy_fault, is_root, modified, moved, removed, renamed, with_all, without, without_line}
 
 module _ {X Y : Type 0} (h : X → Y) where
   -- each leaf so
@@ -65,22 +65,22 @@ module _ {X Y : Type 0} (h : X → Y) where
       short : list_all (λ e. is_short e.0) (moved s d (under s (leafed f))) ≡ list_all (λ e. is_short e.0) (moved s d (under s f))
       short = ap (λ z. list_all (λ e. is_short e.0) (moved s d z)) (filter_leafed (begins s) f) ∙ ap (list_all (λ e. is_short e.0)) (moved_leafed s d (under s f)) ∙ all_leafed is_short (moved s d (under s f))
 
-  unless_leafed : (o : Option Fault) (g : List (Path × X)) → unless o (leafed g) ≡ and_then (unless o g) (λ z. Ok (leafed z))
+  unless_leafed : (o : Option Fault) (g : List (Path × X)) → unless o (leafed g) ≡ (unless o g >>= λ z. Ok (leafed z))
   unless_leafed None g = refl
   unless_leafed (Some e) g = refl
 
   -- the edits
-  pub modified_leafed : (f : List (Path × X)) (p : Path) (x : X) → modified (leafed f) p (h x) ≡ and_then (modified f p x) (λ z. Ok (leafed z))
+  pub modified_leafed : (f : List (Path × X)) (p : Path) (x : X) → modified (leafed f) p (h x) ≡ (modified f p x >>= λ z. Ok (leafed z))
   modified_leafed f [] x = refl
   modified_leafed f (c ∷ p) x = ap Ok (ap (put path_cmp (c ∷ p) (h x)) (filter_leafed (λ q. not (are_in_line (c ∷ p) q)) f) ∙ put_leafed (c ∷ p) x (without_line (c ∷ p) f))
 
   pub removed_leafed : (f : List (Path × X)) (p : Path) → removed (leafed f) p ≡ leafed (removed f p)
   removed_leafed f p = filter_leafed (λ q. not (begins p q)) f
 
-  pub copied_leafed : (f : List (Path × X)) (s d : Path) → copied (leafed f) s d ≡ and_then (copied f s d) (λ z. Ok (leafed z))
+  pub copied_leafed : (f : List (Path × X)) (s d : Path) → copied (leafed f) s d ≡ (copied f s d >>= λ z. Ok (leafed z))
   copied_leafed f s d = (λ i. unless (fault_leafed s d f i) (placed_leafed s d f f i)) ∙ unless_leafed (copy_fault f s d) _
 
-  pub renamed_leafed : (f : List (Path × X)) (s d : Path) → renamed (leafed f) s d ≡ and_then (renamed f s d) (λ z. Ok (leafed z))
+  pub renamed_leafed : (f : List (Path × X)) (s d : Path) → renamed (leafed f) s d ≡ (renamed f s d >>= λ z. Ok (leafed z))
   renamed_leafed f s d =
       (λ i. unless (fault_leafed s d f i) (with_all (moved s d (under s (leafed f))) (without_line d (filter_leafed (λ q. not (begins s q)) f i))))
       ∙ ap (unless (copy_fault f s d)) (placed_leafed s d f (without s f))

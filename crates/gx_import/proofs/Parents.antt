@@ -5,7 +5,7 @@ use Rattle.std.specs.FinMap.Entries.{is_sorted}
 use Rattle.std.specs.Map.{lookup}
 use Rattle.gx_model.specs.declared.objects.Kind.{Kind}
 use Rattle.gx_model.specs.declared.objects.Kind.TheVariants as kinds
-use Rattle.gx_model.specs.Texts.{Bytes, same_bytes}
+use Rattle.gx_model.specs.Texts.{Bytes, byte_cmp, same_bytes}
 use Rattle.gx_model.specs.Histories.Values.{Commit, Value, commit_value, files_of}
 use Rattle.gx_model.specs.Objects.{IsNamer}
 use Rattle.gx_model.specs.Records.{named_map}
@@ -13,7 +13,7 @@ use Rattle.gx_model.specs.Histories.{Records}
 use Rattle.gx_model.specs.Records.HistoryOf.{commit_of_value, history_of, value_of_name}
 use Rattle.gx_model.specs.Records.Sound.{IsSound}
 use Rattle.gx_model.specs.Records.RecordFaults.{is_held}
-use Rattle.gx_model.specs.Replay.{State, byte_cmp, own_commit, starting_files}
+use Rattle.gx_model.specs.Replay.{State, own_commit, starting_files}
 use Rattle.gx_object.specs.declared.name.Name.{Name}
 use Rattle.gx_model.proofs.Records.HeldValues.{value_held}
 use Rattle.gx_import.specs.declared.branches.Tip.{Tip}

@@ -8,7 +8,7 @@ use Rattle.gx_model.specs.declared.objects.Mode.TheVariants.{Gitlink}
 use Rattle.gx_model.specs.declared.faults.Fault.{Fault}
 use Rattle.gx_model.specs.declared.faults.Fault.TheVariants as fault
 use Rattle.gx_model.specs.declared.features.Feature.TheVariants as features
-use Rattle.gx_model.specs.Faults.{and_then}
+use Rattle.gx_model.specs.Faults.{◌>>=◌}
 use Rattle.gx_model.specs.Texts.{Bytes}
 use Rattle.gx_model.specs.Histories.Files.{FileMap}
 use Rattle.gx_model.specs.Revisions.Denotation.{base_value}
@@ -30,11 +30,11 @@ IsOther _ = Unit {0}
 
 -- ---- steps that may be refused
 
-then_has : {X Y : Type 0} (P : X → Type 0) (Q : Y → Type 0) (r : Result X Fault) (f : X → Result Y Fault) → IfOk r P → ((x : X) → P x → IfOk (f x) Q) → IfOk (and_then r f) Q
+then_has : {X Y : Type 0} (P : X → Type 0) (Q : Y → Type 0) (r : Result X Fault) (f : X → Result Y Fault) → IfOk r P → ((x : X) → P x → IfOk (f x) Q) → IfOk (r >>= f) Q
 then_has P Q (Ok x) f p h = h x p
 then_has P Q (Err e) f p h = tt
 
-next_has : {X Y : Type 0} (Q : Y → Type 0) (r : Result X Fault) (f : X → Result Y Fault) → ((x : X) → IfOk (f x) Q) → IfOk (and_then r f) Q
+next_has : {X Y : Type 0} (Q : Y → Type 0) (r : Result X Fault) (f : X → Result Y Fault) → ((x : X) → IfOk (f x) Q) → IfOk (r >>= f) Q
 next_has Q (Ok x) f h = h x
 next_has Q (Err e) f h = tt
 

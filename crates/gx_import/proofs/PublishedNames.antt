@@ -12,11 +12,11 @@ use Rattle.std.specs.FinMap.Entries.{find, find-put, find_tied, is_sorted, is_so
 use Rattle.std.proofs.lemmas.Bool.{false≢true}
 use Rattle.std.proofs.lemmas.Map.Text.{is_eq-slice_cmp}
 use Rattle.gx_model.specs.declared.objects.Kind.{Kind}
-use Rattle.gx_model.specs.Texts.{Bytes, same_bytes}
+use Rattle.gx_model.specs.Texts.{Bytes, byte_cmp, same_bytes}
 use Rattle.gx_model.specs.Histories.{Records, value_at}
 use Rattle.gx_model.specs.Records.{name_of}
 use Rattle.gx_model.specs.Records.Publishing.{Change, Ref, with_changes}
-use Rattle.gx_model.specs.Replay.{byte_cmp, overwritten}
+use Rattle.gx_model.specs.Replay.{overwritten}
 use Rattle.gx_model.proofs.Texts.PathTests.{is_true}
 use Rattle.gx_object.specs.declared.name.Name.{Name}
 use Rattle.gx_import.specs.Keeping.{AreNames, EntersChanges, EntersTables}

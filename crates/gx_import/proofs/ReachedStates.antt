@@ -8,14 +8,14 @@ use Rattle.gx_model.specs.declared.objects.Kind.{Kind}
 use Rattle.gx_model.specs.declared.faults.Fault.{Fault}
 use Rattle.gx_model.specs.declared.faults.Fault.TheVariants as fault
 use Rattle.gx_model.specs.declared.features.Features.{Features}
-use Rattle.gx_model.specs.Texts.{Bytes}
-use Rattle.gx_model.specs.Streams.Grammar.{stops, with_first}
+use Rattle.gx_model.specs.Texts.{Bytes, byte_cmp}
+use Rattle.gx_model.specs.Streams.Grammar.{stops, with_command}
 use Rattle.gx_model.specs.Streams.Gitlinks.{BringsNoNullGitlink, HoldsNoNullGitlink}
 use Rattle.gx_model.specs.Histories.{History, IsHistory, Record, Records}
 use Rattle.gx_model.specs.Records.HistoryOf.{history_of}
 use Rattle.gx_model.specs.Streams.Commands.{Command, Commands, Progress}
-use Rattle.gx_model.specs.Replay.{Outcome, State, byte_cmp, begun, imported_asked, refused, replayed, replayed_asked, start, step}
-use Rattle.gx_model.specs.Faults.{and_then}
+use Rattle.gx_model.specs.Replay.{Outcome, State, begun, imported_asked, refused, replayed, replayed_asked, start, step}
+use Rattle.gx_model.specs.Faults.{◌>>=◌}
 use Rattle.gx_model.specs.Laws.ExportLaws.{steps}
 use Rattle.gx_model.proofs.Export.CommitSteps.{steps_after}
 use Rattle.gx_model.proofs.Replay.GitlinkSteps.{IsFreeState, start_free, step_free}
@@ -56,7 +56,7 @@ abbrev behind : List Command → Commands → Commands
 behind before left = record { list = before ++ left.list; fault = left.fault }
 
 -- a command more before what is left
-behind_next : (before : List Command) (c : Command) (left : Commands) → behind (before ++ c ∷ []) left ≡ behind before (with_first c left)
+behind_next : (before : List Command) (c : Command) (left : Commands) → behind (before ++ c ∷ []) left ≡ behind before (with_command c left)
 behind_next before c left = ap (λ l. record { list = l; fault = left.fault }) (append_assoc before (c ∷ []) left.list)
 
 -- a replay that begins with this history, and whether its branches may lose commits
@@ -85,12 +85,12 @@ module _ (asks : Features) (name : Kind → Bytes → Bytes) where
   reached_next : (h : History) (before : List Command) (n : ℕ) (s : State) (c : Command) (was mid now : Option Taken) → HasReached h before n s was mid
       → (t : State) (text : Bytes) → step name s c ≡ Ok t → t.progress ≡ s.progress ++ text → t.held ≡ s.held → Took mid now text → HasReached h (before ++ c ∷ []) (n + 1) t was now
   reached_next h before n s c was mid now k t text e p held took = record {
-    outcome = λ left. ap (replayed_asked name asks h) (behind_next before c left) ∙ k.outcome (with_first c left)
+    outcome = λ left. ap (replayed_asked name asks h) (behind_next before c left) ∙ k.outcome (with_command c left)
         ∙ ap (λ r. elim r as (λ _. Outcome) [ Ok u ↦ replayed name (n + 1) u left.list left.fault | Err f ↦ refused (n + 1) f s.progress s.kept ]) e;
     clashes = λ left number i.
         let next = subst (λ r. elim r as (λ _. Type 0) [ Ok u ↦ ClashesAt name (n + 1) u left number | Err f ↦ ⊥ ]) (sym e) i in
         subst (λ l. ClashesAt name 0 (begun asks h) l number) (sym (append_assoc before (c ∷ []) left)) (k.clashes (c ∷ left) number (inr next));
-    reached = steps_after name (begun asks h) s before (c ∷ []) k.reached ∙ ap (λ r. and_then r (λ u. steps name u [])) e;
+    reached = steps_after name (begun asks h) s before (c ∷ []) k.reached ∙ ap (λ r. r >>= λ u. steps name u []) e;
     count = length-append before (c ∷ []) ∙ ap (λ m. m + 1) k.count;
     progress = subst (Took was now) (sym p) (took_both was mid now s.progress text k.progress took);
     held = held ∙ k.held;
@@ -141,19 +141,19 @@ module _ (asks : Features) (name : Kind → Bytes → Bytes) where
 
     module _ (c : Command) (left : Commands) (now : Option Taken) where
       -- the step that is refused ends the outcome
-      refused_here : (f : Fault) → step name s c ≡ Err f → replayed_on asks name old (behind before (with_first c left)) ≡ refused (n + 1) f s.progress s.kept
-      refused_here f e = k.outcome (with_first c left) ∙ ap (λ r. elim r as (λ _. Outcome) [ Ok u ↦ replayed name (n + 1) u left.list left.fault | Err g ↦ refused (n + 1) g s.progress s.kept ]) e
+      refused_here : (f : Fault) → step name s c ≡ Err f → replayed_on asks name old (behind before (with_command c left)) ≡ refused (n + 1) f s.progress s.kept
+      refused_here f e = k.outcome (with_command c left) ∙ ap (λ r. elim r as (λ _. Outcome) [ Ok u ↦ replayed name (n + 1) u left.list left.fault | Err g ↦ refused (n + 1) g s.progress s.kept ]) e
 
       -- and the sink is as it was
-      refused_as : (e : Fault) → (step name s c ≡ Err e) × (now ≡ mid) → Stops (with_first c left) now e
+      refused_as : (e : Fault) → (step name s c ≡ Err e) × (now ≡ mid) → Stops (with_command c left) now e
       refused_as e h = inl (s.progress, s.kept, refused_here e h.0, subst (λ m. Took was m s.progress) (sym h.1) k.progress, leaves)
 
       -- the sink failed within the text of a step
       failed_here : (t : State) (text : Bytes) → step name s c ≡ Ok t → t.progress ≡ s.progress ++ text → FailedWithin mid now text
-          → FailedWithin was now (progress_of (replayed_on asks name old (behind before (with_first c left))))
+          → FailedWithin was now (progress_of (replayed_on asks name old (behind before (with_command c left))))
       failed_here t text e p failed =
           let b = begins_outcome name (n + 1) t left.list left.fault in
-          let o = k.outcome (with_first c left) ∙ ap (λ r. elim r as (λ _. Outcome) [ Ok u ↦ replayed name (n + 1) u left.list left.fault | Err f ↦ refused (n + 1) f s.progress s.kept ]) e in
+          let o = k.outcome (with_command c left) ∙ ap (λ r. elim r as (λ _. Outcome) [ Ok u ↦ replayed name (n + 1) u left.list left.fault | Err f ↦ refused (n + 1) f s.progress s.kept ]) e in
           let whole = ap progress_of o ∙ b.1 ∙ ap (λ x. x ++ b.0) p in
           subst (FailedWithin was now) (sym whole) (failed_longer was now (s.progress ++ text) b.0 (failed_after was mid now s.progress text k.progress failed))
 
@@ -165,19 +165,19 @@ module _ (asks : Features) (name : Kind → Bytes → Bytes) where
           (before, text, left.list, ap (λ x. before ++ x ∷ left.list) e, sym (ap (λ m. m + 1) k.count), (mid, subst (Took was mid) (sym said) k.progress, failed))
 
       -- a command that isn't applied
-      stopped : {A : Type 0} (r now_r : Records) (tables : Tables A) (e : Fault) → Applies name r now_r tables s c mid now (Err e) → Stops (with_first c left) now e
-      stopped r now_r tables OutOfMemory h = subst (λ m. Stops (with_first c left) m OutOfMemory) (sym h) (out_of_memory (with_first c left))
+      stopped : {A : Type 0} (r now_r : Records) (tables : Tables A) (e : Fault) → Applies name r now_r tables s c mid now (Err e) → Stops (with_command c left) now e
+      stopped r now_r tables OutOfMemory h = subst (λ m. Stops (with_command c left) m OutOfMemory) (sym h) (out_of_memory (with_command c left))
       stopped r now_r tables WriteFailed h =
-          elim h as (λ _. Stops (with_first c left) now WriteFailed) [
+          elim h as (λ _. Stops (with_command c left) now WriteFailed) [
             | inl e ↦ refused_as WriteFailed e
-            | inr e ↦ inr (from_one n, number_within (with_first c left), inr (inr (refl, line_cut e.1 e.2 e.5, failed_here e.0 (line_of e.1) e.3 e.4.progress e.5)), left_before WriteFailed (c ∷ left.list))
+            | inr e ↦ inr (from_one n, number_within (with_command c left), inr (inr (refl, line_cut e.1 e.2 e.5, failed_here e.0 (line_of e.1) e.3 e.4.progress e.5)), left_before WriteFailed (c ∷ left.list))
           ]
       stopped r now_r tables NameHeld h =
-          elim h.0 as (λ _. Stops (with_first c left) now NameHeld) [
+          elim h.0 as (λ _. Stops (with_command c left) now NameHeld) [
             | inl e ↦ refused_as NameHeld (e, h.1)
             | inr e ↦
-                let front = subst (λ m. TookFront was m (progress_of (replayed_on asks name old (behind before (with_first c left))))) (sym h.1) (took_front (with_first c left)) in
-                inr (from_one n, number_within (with_first c left), inr (inl (refl, k.clashes (c ∷ left.list) (n + 1) (inl (refl, e)), front)), left_before NameHeld (c ∷ left.list))
+                let front = subst (λ m. TookFront was m (progress_of (replayed_on asks name old (behind before (with_command c left))))) (sym h.1) (took_front (with_command c left)) in
+                inr (from_one n, number_within (with_command c left), inr (inl (refl, k.clashes (c ∷ left.list) (n + 1) (inl (refl, e)), front)), left_before NameHeld (c ∷ left.list))
           ]
       stopped r now_r tables ReadFailed h = refused_as ReadFailed h
       stopped r now_r tables UnknownCommand h = refused_as UnknownCommand h
@@ -240,10 +240,10 @@ module _ (asks : Features) (name : Kind → Bytes → Bytes) where
       → (count : ℕ) → Leaves last count s.kept → Imports asks name old last coming was now (Err (record { command = n + 1; kind = e; checkpoints = count }))
   at_stopped old last r new tables None n s c ahead later was mid now k reads e h count leaves =
       let left = stops None in
-      (behind k.0 (with_first (shown_command c) left), tt, stopped asks name old last k.0 n s was mid k.1 count leaves (shown_command c) left now r new tables e h)
+      (behind k.0 (with_command (shown_command c) left), tt, stopped asks name old last k.0 n s was mid k.1 count leaves (shown_command c) left now r new tables e h)
   at_stopped {A} old last r new tables (Some coming) n s c ahead later was mid now k reads e h count leaves =
       let q = subst (λ o. Reads {A = A} o later (Ok (Some c))) k.2 reads in
-      told old last coming (behind k.0 (with_first (shown_command c) q.0)) was now (record { command = n + 1; kind = e; checkpoints = count }) (k.3 ∙ ap (behind k.0) q.1)
+      told old last coming (behind k.0 (with_command (shown_command c) q.0)) was now (record { command = n + 1; kind = e; checkpoints = count }) (k.3 ∙ ap (behind k.0) q.1)
       (stopped asks name old last k.0 n s was mid k.4 count leaves (shown_command c) q.0 now r new tables e h)
 
   pub at_refused : (A : Type 0) (old last : Records) (coming : Option Coming) (n : ℕ) (s : State) (ahead later : Option Commands) (was now : Option Taken) → IsAt old coming n s ahead was now
@@ -284,7 +284,7 @@ module _ (asks : Features) (name : Kind → Bytes → Bytes) where
       → IsAt old coming n s ahead was now → Reads ahead later (Ok (Some c)) → (e : Fault) (explanation : Explanation B) → TellsAll name {X = Unit {0}} s (shown_command c) (Err e) explanation
       → (count : ℕ) → ExplainsFault name asks old coming (record { command = n + 1; kind = e; checkpoints = count }) explanation
   told_stopped old None n s c ahead later was now k reads e explanation h count =
-      (behind k.0 (with_first (shown_command c) (stops None)), tt, record { before = k.0; after = shown_command c ∷ []; all = refl; number = sym (ap (λ m. m + 1) k.1.count); state = s; reached = k.1.reached; tells = h })
+      (behind k.0 (with_command (shown_command c) (stops None)), tt, record { before = k.0; after = shown_command c ∷ []; all = refl; number = sym (ap (λ m. m + 1) k.1.count); state = s; reached = k.1.reached; tells = h })
   told_stopped {A} old (Some coming) n s c ahead later was now k reads e explanation h count =
       let q = subst (λ o. Reads {A = A} o later (Ok (Some c))) k.2 reads in
       record { before = k.0; after = shown_command c ∷ q.0.list; all = ap (λ cs. cs.list) (k.3 ∙ ap (behind k.0) q.1); number = sym (ap (λ m. m + 1) k.4.count); state = s; reached = k.4.reached; tells = h }

@@ -10,14 +10,15 @@ use Rattle.gx_model.specs.Texts.{Bytes, cut_at, same_bytes}
 use Rattle.gx_model.specs.Texts.Numbers.{decimal_of}
 use Rattle.gx_model.specs.Texts.RefNames.{is_ref_name}
 use Rattle.gx_model.specs.Texts.Paths.{Path, is_component, parts_of, path_of}
-use Rattle.gx_model.specs.Faults.{and_then, or_fault}
+use Rattle.gx_model.specs.Faults.{◌>>=◌}
+use Rattle.std.specs.Option.{ok_or}
 use Rattle.gx_model.specs.Histories.Files.{FileMap, Leaf, file_at, sub_map}
 use Rattle.gx_model.specs.Histories.Values.{Commit, Value, blob_value, commit_value, list_of, parents_of, tag_value, tree_value}
 use Rattle.gx_model.specs.Histories.{History, Target, value_at}
 use Rattle.gx_model.specs.Revisions.{Revision, Suffix, ancestor, as_blob, as_commit, as_tag, as_tree, base_and_suffixes, base_of, braced_or_parent, braced_suffixes, itself, number_or_one, optional_path, parent, peeled, revision_in, revision_of, suffix_of, suffixes_of, with_path}
-use Rattle.gx_model.specs.Revisions.Denotation.{Shown, all_suffixed, are_digits, at_path, base_value, begun_by, commit_in, denoted, files_in, find_ref, full_name, nth_ancestor, nth_parent, object, of_leaf, of_sub_map, only_blob, only_commit, only_tag, or_no_parent, peel, shown_at, shown_value, submodule, suffixed, the_one, value_denoted}
+use Rattle.gx_model.specs.Revisions.Denotation.{Shown, all_suffixed, are_digits, at_path, base_value, begun_by, commit_in, denoted, files_in, find_ref, full_name, nth_ancestor, nth_parent, object, of_leaf, of_sub_map, only_blob, only_commit, only_tag, peel, shown_at, shown_value, submodule, suffixed, the_one, value_denoted}
 use Rattle.gx_model.specs.Streams.Commands.{CommitIsh, CommitParts, Marked, Named}
-use Rattle.gx_model.specs.Replay.{State, all_committed, at, commit_alone, committed, committed_for, first_parent, is_itself, ok_or_mark, or_branch}
+use Rattle.gx_model.specs.Replay.{State, all_committed, at, commit_alone, committed, committed_for, first_parent, names_itself, or_branch}
 
 -- a fault that isn't for a held name
 abbrev pub IsOther : Fault → Type 0
@@ -29,11 +30,11 @@ abbrev pub IsAnswer : {X : Type 0} → Result X Fault → Type 0
 IsAnswer (Ok x) = ⊤
 IsAnswer (Err e) = IsOther e
 
-pub then_answers : {X Y : Type 0} (o : Result X Fault) (f : X → Result Y Fault) → IsAnswer o → ((x : X) → IsAnswer (f x)) → IsAnswer (and_then o f)
+pub then_answers : {X Y : Type 0} (o : Result X Fault) (f : X → Result Y Fault) → IsAnswer o → ((x : X) → IsAnswer (f x)) → IsAnswer (o >>= f)
 then_answers (Ok x) f h k = k x
 then_answers (Err e) f h k = h
 
-or_answers : {X : Type 0} (o : Option X) (e : Fault) → IsOther e → IsAnswer (or_fault o e)
+or_answers : {X : Type 0} (o : Option X) (e : Fault) → IsOther e → IsAnswer (ok_or o e)
 or_answers None e h = h
 or_answers (Some x) e h = tt
 
@@ -55,7 +56,7 @@ braced_answers (Some s) x = tt
 
 suffix_answers : (x : Bytes) → IsAnswer (suffix_of x)
 suffix_answers [] = tt
-suffix_answers (b ∷ x) = elim (b == 94) as (λ t. IsAnswer (cond t (braced_or_parent (lookup (same_bytes x) braced_suffixes) x) (and_then (number_or_one x) (λ n. Ok (ancestor n))))) [
+suffix_answers (b ∷ x) = elim (b == 94) as (λ t. IsAnswer (cond t (braced_or_parent (lookup (same_bytes x) braced_suffixes) x) (number_or_one x >>= λ n. Ok (ancestor n)))) [
   | true ↦ braced_answers (lookup (same_bytes x) braced_suffixes) x
   | false ↦ then_answers (number_or_one x) (λ n. Ok (ancestor n)) (number_answers x) (λ n. tt)
 ]
@@ -123,7 +124,7 @@ files_answer (tree_value f) = tt
 files_answer (commit_value c) = tt
 files_answer (tag_value t) = tt
 
-parent_or : (o : Option Commit) → IsAnswer (or_no_parent o)
+parent_or : (o : Option Commit) → IsAnswer (ok_or o fault.NoParent)
 parent_or None = tt
 parent_or (Some c) = tt
 
@@ -188,10 +189,10 @@ module _ (name : Kind → Bytes → Bytes) where
   unfolding denoted
   denoted_answers h r = then_answers (base_value name h r.base) _ (value_answers name h r.base) (λ v. then_answers (all_suffixed v r.suffixes) _ (all_answer v r.suffixes) (λ w. shown_answers w r.path))
 
-  revision_value_answers : (s : State) (x : Bytes) → IsAnswer (and_then (revision_of x) (λ r. value_denoted name s.history r))
+  revision_value_answers : (s : State) (x : Bytes) → IsAnswer (revision_of x >>= λ r. value_denoted name s.history r)
   revision_value_answers s x = then_answers (revision_of x) _ (revision_answers x) (λ r. then_answers (denoted name s.history r) _ (denoted_answers s.history r) object_answers)
 
-  mark_answers : (o : Option Value) → IsAnswer (ok_or_mark o)
+  mark_answers : (o : Option Value) → IsAnswer (ok_or o fault.UnknownMark)
   mark_answers None = tt
   mark_answers (Some v) = tt
 
@@ -203,7 +204,7 @@ module _ (name : Kind → Bytes → Bytes) where
   -- a commit-ish
   pub committed_answers : (kind : Value → Result Commit Fault) → ((v : Value) → IsAnswer (kind v)) → (s : State) (x : CommitIsh) → IsAnswer (committed name kind s x)
   committed_answers kind k s (Marked n) = then_answers (at s n) kind (mark_answers (lookup (nat_eq n) s.marks)) k
-  committed_answers kind k s (Named x) = branch_answers (lookup (same_bytes x) s.branches) _ (then_answers (and_then (revision_of x) (λ r. value_denoted name s.history r)) kind (revision_value_answers s x) k)
+  committed_answers kind k s (Named x) = branch_answers (lookup (same_bytes x) s.branches) _ (then_answers (revision_of x >>= λ r. value_denoted name s.history r) kind (revision_value_answers s x) k)
 
   alone_answers : (v : Value) → IsAnswer (commit_alone v)
   alone_answers (blob_value x) = tt
@@ -217,7 +218,7 @@ module _ (name : Kind → Bytes → Bytes) where
 
   -- a parent
   pub parent_is_answer : (b : Bytes) (s : State) (x : CommitIsh) → IsAnswer (committed_for name b s x)
-  parent_is_answer b s x = elim (is_itself b x) as (λ t. IsAnswer (cond t (Err fault.FromItself) (committed name commit_in s x))) [ true ↦ tt | false ↦ committed_answers commit_in peeled_answers s x ]
+  parent_is_answer b s x = elim (names_itself b x) as (λ t. IsAnswer (cond t (Err fault.FromItself) (committed name commit_in s x))) [ true ↦ tt | false ↦ committed_answers commit_in peeled_answers s x ]
 
   -- all that are merged
   pub merged_answer : (b : Bytes) (s : State) (xs : List CommitIsh) → IsAnswer (all_committed name b s xs)
@@ -228,6 +229,6 @@ module _ (name : Kind → Bytes → Bytes) where
   pub first_answers : (s : State) (c : CommitParts) → IsAnswer (first_parent name s c)
   first_answers s c = by c.parent
     where
-      by : (o : Option CommitIsh) → IsAnswer (elim o [ None ↦ Ok (elim (lookup (same_bytes c.ref) s.branches) [ Some d ↦ d | None ↦ None ]) | Some x ↦ and_then (committed_for name c.ref s x) (λ p. Ok (Some p)) ])
+      by : (o : Option CommitIsh) → IsAnswer (elim o [ None ↦ Ok (elim (lookup (same_bytes c.ref) s.branches) [ Some d ↦ d | None ↦ None ]) | Some x ↦ committed_for name c.ref s x >>= λ p. Ok (Some p) ])
       by None = tt
       by (Some x) = then_answers (committed_for name c.ref s x) _ (parent_is_answer c.ref s x) (λ p. tt)

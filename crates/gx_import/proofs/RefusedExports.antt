@@ -3,7 +3,7 @@ use Rattle.std.proofs.Common.{◌≡◌, ℕ, ◌-◌, ◌^◌, Option, Some, No
 use Rattle.gx_model.specs.declared.faults.Fault.TheVariants as model
 use Rattle.gx_model.specs.declared.objects.Kind.{Kind}
 use Rattle.gx_model.specs.Texts.{Bytes}
-use Rattle.gx_model.specs.Histories.{Records}
+use Rattle.gx_model.specs.Histories.{Records, empty_repository}
 use Rattle.gx_model.specs.Streams.Commands.{no_features}
 use Rattle.gx_model.specs.Records.HistoryOf.{history_of}
 use Rattle.gx_model.specs.Replay.{Kept, refused, imported, replayed_commands, replayed_text, start}
@@ -16,7 +16,7 @@ use Rattle.gx_model.specs.Texts.Sinks.{Taken}
 use Rattle.gx_text.specs.Devices.{Coming}
 use Rattle.gx_stream.specs.Heard.{heard}
 use Rattle.gx_command.specs.Reading.{commands_from}
-use Rattle.gx_import.specs.Exported.{LeaveExports, RefusesItsExport, UnsupportedOr, nothing}
+use Rattle.gx_import.specs.Exported.{LeaveExports, RefusesItsExport, UnsupportedOr}
 use Rattle.gx_import.specs.Imports.{Imports}
 use Rattle.gx_import.specs.declared.fault.ImportFault.{ImportFault}
 use Rattle.gx_model.specs.declared.faults.Fault.{Fault}
@@ -80,11 +80,11 @@ module _ (name : Kind → Bytes → Bytes) where
       let text = export_text (history_of exported) in
       let room = heard_short (2 ^ 63 - 1) coming text gives in
       let q = nulls name (history_of exported) (histories.stands exported sound).history links (omega (arith, room)) in
-      let same : imported name (history_of old) (heard coming).bytes (heard coming).fails ≡ replayed_commands name (history_of nothing) (commands_from coming) =
+      let same : imported name (history_of old) (heard coming).bytes (heard coming).fails ≡ replayed_commands name (history_of empty_repository) (commands_from coming) =
       imported_is no_features name (history_of old) coming ∙ ap (λ r. replayed_commands name (history_of r) (commands_from coming)) empty in
-      let known : replayed_commands name (history_of nothing) (commands_from coming) ≡ refused q.0 model.Unsupported [] (start (history_of nothing)).kept =
-      (λ i. replayed_text name (history_of nothing) (gives i).bytes (gives i).fails) ∙ q.1 in
-      answered old new coming was now q.0 (start (history_of nothing)).kept result (same ∙ known) h
+      let known : replayed_commands name (history_of empty_repository) (commands_from coming) ≡ refused q.0 model.Unsupported [] (start (history_of empty_repository)).kept =
+      (λ i. replayed_text name (history_of empty_repository) (gives i).bytes (gives i).fails) ∙ q.1 in
+      answered old new coming was now q.0 (start (history_of empty_repository)).kept result (same ∙ known) h
 
   -- the same, where features are asked for that leave it so
   pub null_refused : HistoriesOf name → NullGitlinksAreRefused → ExportsAskOnce → (asks : Features) → LeaveExports asks → (old new : Records) (coming : Option Coming) (was now : Option Taken) (result : Result Report ImportFault)

@@ -11,16 +11,16 @@ use Rattle.std.proofs.lemmas.List.Sums.{fold-append}
 use Rattle.gx_model.specs.declared.faults.Fault.TheVariants.{WrongKind}
 use Rattle.gx_model.specs.declared.objects.Kind.{Kind}
 use Rattle.gx_model.specs.declared.objects.Kind.TheVariants as kinds
-use Rattle.gx_model.specs.Texts.{Bytes}
+use Rattle.gx_model.specs.Texts.{Bytes, byte_cmp}
 use Rattle.gx_model.specs.Texts.RefNames.{is_ref_name, tag_ref}
 use Rattle.gx_model.specs.Histories.Values.{Commit, Tag, Value, is_optional_ident, is_proper, tag_value}
 use Rattle.gx_model.specs.Objects.{IsNamer, TagParts}
 use Rattle.gx_model.specs.Records.{body_of, commit_body, kind_of, name_of, tag_body}
-use Rattle.gx_model.specs.Faults.{IsFaultOf}
+use Rattle.gx_model.specs.Faults.{IsFaultOf, unless}
 use Rattle.gx_model.specs.Histories.{History, IsIn, IsRefOf, Records, StandsFor, Target, at_commit, at_tag, record_of, value_at}
 use Rattle.gx_model.specs.Records.HistoryOf.{history_of}
 use Rattle.gx_model.specs.Records.Sound.{IsSound}
-use Rattle.gx_model.specs.Replay.{State, byte_cmp, final, overwritten, with_branch}
+use Rattle.gx_model.specs.Replay.{State, final, overwritten, with_branch}
 use Rattle.gx_model.specs.Laws.RepositoryLaws.{HistoriesOf, with_refs}
 use Rattle.gx_model.specs.Stores.StoreReading.{is_target_of_kind}
 use Rattle.gx_model.proofs.ObjectTexts.BodiesReadBack.{tag_read}
@@ -30,7 +30,8 @@ use Rattle.gx_model.proofs.Records.LinkedValues.{proper_in}
 use Rattle.gx_model.proofs.Texts.PathTests.{both, first, is_same, is_true, second}
 use Rattle.gx_object.specs.declared.name.Name.{Name}
 use Rattle.gx_repo.specs.Publishing.{fault_of}
-use Rattle.gx_model.specs.Records.Publishing.{Change, change_fault, changes_fault, first_fault, published, unless, with_changes}
+use Rattle.gx_model.specs.Records.Publishing.{Change, change_fault, changes_fault, published, with_changes}
+use Rattle.std.specs.Option.{option_or}
 use Rattle.gx_repo.specs.declared.fault.PublishFault.{PublishFault}
 use Rattle.gx_repo.specs.declared.fault.PublishFault.TheVariants as faults
 use Rattle.gx_model.proofs.Records.ChangedRefs.{fault_shown}
@@ -231,7 +232,7 @@ module _ (name : Kind → Bytes → Bytes) (namer : IsNamer name) (r : Records) 
   -- good refs are not refused
   pub all_free : (ts : Targets) → AllByRecursion (IsGood (history_of r).values) ts → changes_fault r.records (map (seen name) ts) ≡ None
   all_free [] h = refl
-  all_free (t ∷ ts) h = (λ i. first_fault (one_free t h.0 i) (changes_fault r.records (map (seen name) ts))) ∙ all_free ts h.1
+  all_free (t ∷ ts) h = (λ i. option_or (one_free t h.0 i) (changes_fault r.records (map (seen name) ts))) ∙ all_free ts h.1
 
   -- with good refs put, a repository stands for the history with these refs
   stands_set : (h : History) → StandsFor name r h → (ts : Targets) → AllByRecursion (IsGood h.values) ts

@@ -7,12 +7,12 @@ use Rattle.std.specs.Map.{lookup}
 use Rattle.std.specs.declared.cmp.Ordering.TheVariants.{Less, Equal, Greater}
 use Rattle.std.specs.FinMap.Entries.{by_order, is_sorted, is_sorted-put, put}
 use Rattle.gx_model.specs.declared.objects.Kind.{Kind}
-use Rattle.gx_model.specs.Texts.{Bytes}
+use Rattle.gx_model.specs.Texts.{Bytes, byte_cmp}
 use Rattle.gx_model.specs.Texts.RefNames.{is_ref_name}
 use Rattle.gx_model.specs.Histories.Values.{Commit, Tag, Value}
 use Rattle.gx_model.specs.Histories.{IsIn, Records, is_in, with_one, with_value}
 use Rattle.gx_model.specs.Laws.RepositoryLaws.{values_of}
-use Rattle.gx_model.specs.Replay.{State, added, byte_cmp, marked, on_branch}
+use Rattle.gx_model.specs.Replay.{State, added, marked, on_branch}
 use Rattle.gx_model.proofs.Texts.PathTests.{first, second, is_true}
 use Rattle.gx_model.proofs.Histories.AddedValues.{in_left, in_right, is_in_is}
 use Rattle.gx_object.specs.declared.name.Name.{Name}

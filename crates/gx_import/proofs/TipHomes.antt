@@ -7,10 +7,9 @@ use Rattle.std.specs.declared.cmp.Ordering.TheVariants.{Less, Equal, Greater}
 use Rattle.std.specs.FinMap.Entries.{by_order, put}
 use Rattle.std.proofs.lemmas.Bool.{cases_Bool}
 use Rattle.gx_model.specs.declared.objects.Kind.{Kind}
-use Rattle.gx_model.specs.Texts.{Bytes, same_bytes}
+use Rattle.gx_model.specs.Texts.{Bytes, byte_cmp, same_bytes}
 use Rattle.gx_model.specs.Histories.{Record}
 use Rattle.gx_model.specs.Histories.Values.{Commit}
-use Rattle.gx_model.specs.Replay.{byte_cmp}
 use Rattle.gx_object.specs.declared.name.Name.{Name}
 use Rattle.gx_tree.specs.Homes.{IfThere}
 use Rattle.gx_tree.specs.Loaded.{AreLoaded, IsLoaded, directory_at}

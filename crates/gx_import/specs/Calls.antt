@@ -7,7 +7,7 @@ use Rattle.std.specs.declared.vec.Vec.{Vec}
 use Rattle.gx_model.specs.declared.objects.Kind.{Kind}
 use Rattle.gx_model.specs.declared.objects.Mode.{Mode}
 use Rattle.gx_model.specs.Texts.{Bytes, same_bytes}
-use Rattle.gx_model.specs.Faults.{and_then}
+use Rattle.gx_model.specs.Faults.{◌>>=◌}
 use Rattle.gx_model.specs.Histories.Files.{FileMap}
 use Rattle.gx_model.specs.Histories.Values.{Commit, Value, commit, commit_value, commits_of, tag_value}
 use Rattle.gx_model.specs.Records.{name_of, named_map, parts_of_commit}
@@ -49,8 +49,8 @@ use Rattle.gx_import.specs.declared.object.Object.{Object}
 use Rattle.gx_import.specs.declared.tables.Tables.{Tables}
 
 -- the commit that a command makes with these files and parents
-abbrev pub commit_of : CommitParts → FileMap Bytes → List Commit → Commit
-commit_of parts files parents = commit files (commits_of parents) (text_made parts)
+abbrev pub commit_with : CommitParts → FileMap Bytes → List Commit → Commit
+commit_with parts files parents = commit files (commits_of parents) (text_made parts)
 
 -- where a call is accepted, the files at hand stay at home
 abbrev pub KeepsTipsAtHome : {A X : Type 0} → Tables A → Tables A → Result X Fault → Type 0
@@ -61,7 +61,7 @@ module _ {N : Type 0} (names : N → Kind → Bytes → Bytes) where
   -- the object that a text shows as a revision
   abbrev pub ShowsRevision : Repository N → Bytes → Result Object Fault → Type 0
   ShowsRevision repository text answer =
-      GivesAs (IsOf (names repository.0) (values_of repository.1)) answer (and_then (revision_of text) (λ r. value_denoted (names repository.0) (history_of repository.1) r))
+      GivesAs (IsOf (names repository.0) (values_of repository.1)) answer (revision_of text >>= λ r. value_denoted (names repository.0) (history_of repository.1) r)
 
   -- the commit of an object, or why it is none
   abbrev pub ShowsCommit : Repository N → Object → Result Name Fault → Type 0
@@ -181,18 +181,18 @@ module _ {N : Type 0} (names : N → Kind → Bytes → Bytes) {A : Type 0} wher
   AddsWithTrees old new tree parents command answer =
       (tables : Tables A) (s : State) (files : FileMap Bytes) (made : List Commit) → Stands (names old.0) old.1 tables s
       → AreFiles (names old.0) s.history.values files tree.files → AreAll (IsCommitOf (names old.0) s.history.values) made parents
-      → AddsAs (Clash (names old.0) (values_of old.1) (commit_added files (commit_of (commit_parts command) files made)))
-      (λ t called. Follows (names old.0) new.1 tables s t × (called.bytes ≡ name_of (names old.0) (commit_value (commit_of (commit_parts command) files made))))
-      answer (Ok (added (commit_value (commit_of (commit_parts command) files made)) s))
+      → AddsAs (Clash (names old.0) (values_of old.1) (commit_added files (commit_with (commit_parts command) files made)))
+      (λ t called. Follows (names old.0) new.1 tables s t × (called.bytes ≡ name_of (names old.0) (commit_value (commit_with (commit_parts command) files made))))
+      answer (Ok (added (commit_value (commit_with (commit_parts command) files made)) s))
 
   -- a commit of this tree and these parents, without its trees
   abbrev pub AddsCommitAlone : Repository N → Repository N → Name → List Name → CommitCommand A → Result Name Fault → Type 0
   AddsCommitAlone old new tree parents command answer =
       (tables : Tables A) (s : State) (files : FileMap Bytes) (made : List Commit) → Stands (names old.0) old.1 tables s
       → IsTreeOf (names old.0) s.history.values files tree → AreAll (IsCommitOf (names old.0) s.history.values) made parents
-      → AddsAs (Clash (names old.0) (values_of old.1) (commit_value (commit_of (commit_parts command) files made) ∷ []))
-      (λ t called. Follows (names old.0) new.1 tables s t × (called.bytes ≡ name_of (names old.0) (commit_value (commit_of (commit_parts command) files made))))
-      answer (Ok (added_alone (commit_value (commit_of (commit_parts command) files made)) s))
+      → AddsAs (Clash (names old.0) (values_of old.1) (commit_value (commit_with (commit_parts command) files made) ∷ []))
+      (λ t called. Follows (names old.0) new.1 tables s t × (called.bytes ≡ name_of (names old.0) (commit_value (commit_with (commit_parts command) files made))))
+      answer (Ok (added_alone (commit_value (commit_with (commit_parts command) files made)) s))
 
   -- a tag of this commit
   abbrev pub AddsTagOf : Repository N → Repository N → Name → TagCommand A → Result Name Fault → Type 0

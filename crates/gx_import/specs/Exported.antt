@@ -4,7 +4,7 @@ use Rattle.std.specs.Prelude.{◌≡◌, ◌⊎◌, [], Option, Some, None, Resu
 use Rattle.std.specs.List.{AllByRecursion}
 use Rattle.gx_model.specs.declared.objects.Kind.{Kind}
 use Rattle.gx_model.specs.Texts.{Bytes}
-use Rattle.gx_model.specs.Histories.{IsHistory, Records}
+use Rattle.gx_model.specs.Histories.{IsHistory, Records, empty_repository}
 use Rattle.gx_model.specs.Records.HistoryOf.{history_of}
 use Rattle.gx_model.specs.Records.Sound.{AnyByRecursion, IsSound}
 use Rattle.gx_model.specs.Export.{export_text}
@@ -17,10 +17,6 @@ use Rattle.gx_repo.specs.Repositories.{Repository}
 use Rattle.gx_import.specs.declared.fault.ImportFault.{ImportFault}
 use Rattle.gx_model.specs.declared.faults.Fault.TheVariants.{NameHeld, OutOfMemory, Unsupported, WriteFailed}
 use Rattle.gx_import.specs.declared.report.Report.{Report}
-
--- a repository without objects and refs
-abbrev pub nothing : Records
-nothing = record { records = []; refs = [] }
 
 -- where no commit had a gitlink of forty zeros, none has one
 abbrev pub KeepsNoNullGitlink : Records → Records → Type 0
@@ -56,7 +52,7 @@ ExportedOr exported new (Err fault) = ((fault.kind ≡ OutOfMemory) ⊎ (fault.k
 abbrev pub ImportsExport : (Kind → Bytes → Bytes) → Records → Records → Option Coming → Result Report ImportFault → Type 0
 ImportsExport name old new None result = ⊤
 ImportsExport name old new (Some coming) result =
-    (exported : Records) → IsSound name exported → HasNoNullGitlink (history_of exported) → GivesExport exported coming → old ≡ nothing → ExportedOr exported new result
+    (exported : Records) → IsSound name exported → HasNoNullGitlink (history_of exported) → GivesExport exported coming → old ≡ empty_repository → ExportedOr exported new result
 
 -- refused as not supported, or memory ran out, the sink of progress texts failed, or a value had the name of another one
 abbrev pub UnsupportedOr : Result Report ImportFault → Type 0
@@ -67,7 +63,7 @@ UnsupportedOr (Err fault) = (fault.kind ≡ Unsupported) ⊎ ((fault.kind ≡ Ou
 abbrev pub RefusesItsExport : (Kind → Bytes → Bytes) → Records → Option Coming → Result Report ImportFault → Type 0
 RefusesItsExport name old None result = ⊤
 RefusesItsExport name old (Some coming) result =
-    (exported : Records) → IsSound name exported → (HasNoNullGitlink (history_of exported) → ⊥) → GivesExport exported coming → old ≡ nothing → UnsupportedOr result
+    (exported : Records) → IsSound name exported → (HasNoNullGitlink (history_of exported) → ⊥) → GivesExport exported coming → old ≡ empty_repository → UnsupportedOr result
 
 module _ {N : Type 0} (names : N → Kind → Bytes → Bytes) where
   -- an empty repository imports the export of any sound one whose refs reach no gitlink of forty zeros

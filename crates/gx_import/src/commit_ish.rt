@@ -1,7 +1,7 @@
 //! What names a commit. Source: git-fast-import(1), "from".
 
 ghost use Rattle.std.specs.Prelude.{◌≡◌};
-ghost use Rattle.gx_model.specs.Replay.{is_itself};
+ghost use Rattle.gx_model.specs.Replay.{names_itself};
 ghost use Rattle.gx_command.specs.Views.{shown_commit_ish};
 ghost use Rattle.gx_rev.specs.FirstParents.{AreFirstParents};
 ghost use Rattle.gx_import.specs.Objects.{branch_object};
@@ -119,7 +119,7 @@ pub(crate) fn committed_with<N: Namer, A: Allocator + Copy>(
 
 /// Whether a commit-ish is the name of the branch.
 fn is_itself<A: Allocator + Copy>(branch: &[u8], commit_ish: &CommitIsh<A>) -> bool
-    ensures { result ≡ is_itself branch.now (shown_commit_ish commit_ish.now) }
+    ensures { result ≡ names_itself branch.now (shown_commit_ish commit_ish.now) }
 {
     match commit_ish {
         CommitIsh::Mark(_) => false,

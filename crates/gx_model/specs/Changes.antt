@@ -14,7 +14,7 @@ use Rattle.gx_model.specs.Objects.{hex}
 use Rattle.gx_model.specs.Records.{name_of}
 use Rattle.gx_model.specs.Revisions.Ranges.{Word, listing, reaches, span}
 use Rattle.gx_model.specs.Replay.{peeled_at}
-use Rattle.gx_model.specs.Export.{blob_commands, carrier, command_items, commit_on, contents, file_change, is_reached, item_text, marked_in, reached_commits, ref_by, reset_before, to_nothing, with_blobs}
+use Rattle.gx_model.specs.Export.{blob_commands, carrier, command_items, commit_on, contents, file_change, is_reached, items_text, marked_in, reached_commits, ref_by, reset_before, to_nothing, with_blobs}
 
 -- ---- the ref that a commit goes out on
 
@@ -128,8 +128,8 @@ module _ (name : Kind → Bytes → Bytes) where
 
   -- the text of a history's export of changes
   abbrev pub changes_text : Bool → History → Bytes
-  changes_text closed h = flat_map item_text (flat_map command_items (changes_commands closed h))
+  changes_text closed h = items_text (flat_map command_items (changes_commands closed h))
 
   -- the text of an export of the changes that range words list
   abbrev pub range_text : Bool → History → List Word → Bytes
-  range_text closed h words = flat_map item_text (flat_map command_items (range_commands closed h words))
+  range_text closed h words = items_text (flat_map command_items (range_commands closed h words))

@@ -12,9 +12,9 @@ use Rattle.gx_model.specs.Texts.Paths.{Path, path_text, printed}
 use Rattle.gx_model.specs.Streams.Items.{Data, Item, Line}
 use Rattle.gx_model.specs.Streams.Commands.{Asks, Blob, Change, Checkpoint, Clear, Command, CommitIsh, Copy, DataRef, Done, Inline, Mark, Marked, Modify, Named, Object, OptionLine, Progress, Remove, Rename, Reset}
 use Rattle.gx_model.specs.Histories.Files.{FileMap, Leaf}
-use Rattle.gx_model.specs.Histories.Values.{Commit, Value, blob_value, commit_value, files_of, list_of, parents_of, same_value, text_of}
+use Rattle.gx_model.specs.Histories.Values.{Commit, Value, blob_value, commit_of, commit_value, files_of, list_of, parents_of, same_value, text_of, unless_gitlink}
 use Rattle.gx_model.specs.Histories.{History, Target, at_commit, at_tag, is_in}
-use Rattle.gx_model.specs.Revisions.Ranges.{commit_of, reaches}
+use Rattle.gx_model.specs.Revisions.Ranges.{reaches}
 use Rattle.gx_model.specs.Replay.{peeled_at}
 
 -- ---- the commits, in the order in which they were first made
@@ -40,14 +40,9 @@ marked_in ws v = Marked (number_in ws v)
 
 -- ---- one commit
 
--- the bytes of a file that is no gitlink
-abbrev pub content_in : Mode → Bytes → Option Bytes
-content_in Gitlink x = None
-content_in _ x = Some x
-
 -- the bytes of the files that are no gitlinks
 abbrev pub contents : FileMap Bytes → List Bytes
-contents f = filter_map (λ e. content_in e.1.0 e.1.1) f
+contents f = filter_map (λ e. unless_gitlink e.1.0 e.1.1) f
 
 -- each blob that wasn't written yet
 abbrev pub blob_commands : List Value → List Bytes → List Command
@@ -89,12 +84,12 @@ others_by names [] = []
 others_by names (p ∷ ps) = map names ps
 
 -- the mark of the first parent
-abbrev pub first_parent : List Value → List Commit → Option CommitIsh
-first_parent ws ps = first_by (λ p. marked_in ws (commit_value p)) ps
+abbrev pub first_parent_mark : List Value → List Commit → Option CommitIsh
+first_parent_mark ws ps = first_by (λ p. marked_in ws (commit_value p)) ps
 
 -- the marks of the other parents
-abbrev pub other_parents : List Value → List Commit → List CommitIsh
-other_parents ws ps = others_by (λ q. marked_in ws (commit_value q)) ps
+abbrev pub other_parent_marks : List Value → List Commit → List CommitIsh
+other_parent_marks ws ps = others_by (λ q. marked_in ws (commit_value q)) ps
 
 -- what a file's line names: a mark, or a gitlink's digits
 abbrev pub dataref_in : List Value → Mode → Bytes → DataRef
@@ -173,9 +168,9 @@ abbrev pub word_line : Bytes → Bytes → Item
 word_line word rest = Line (word ++ 32 ∷ rest)
 
 -- a line that may be left out
-abbrev pub optional_line : Bytes → Option Bytes → List Item
-optional_line word None = []
-optional_line word (Some x) = word_line word x ∷ []
+abbrev pub word_line_if : Bytes → Option Bytes → List Item
+word_line_if word None = []
+word_line_if word (Some x) = word_line word x ∷ []
 
 -- a mark as a text
 abbrev pub mark_text : ℕ → Bytes
@@ -233,11 +228,11 @@ reset_items (Some c) = word_line (codes "from") (commit_ish_text c) ∷ Line [] 
 abbrev pub command_items : Command → List Item
 command_items (command.Blob b) = Line (codes "blob") ∷ mark_line b.mark ++ Data b.bytes ∷ []
 command_items (command.Commit c) =
-    word_line (codes "commit") c.ref ∷ (mark_line c.mark ++ (optional_line (codes "author") c.author ++ (word_line (codes "committer") c.committer
-    ∷ (optional_line (codes "encoding") c.encoding ++ (Data c.message ∷ (from_line c.parent ++ (map (λ p. word_line (codes "merge") (commit_ish_text p)) c.merges
+    word_line (codes "commit") c.ref ∷ (mark_line c.mark ++ (word_line_if (codes "author") c.author ++ (word_line (codes "committer") c.committer
+    ∷ (word_line_if (codes "encoding") c.encoding ++ (Data c.message ∷ (from_line c.parent ++ (map (λ p. word_line (codes "merge") (commit_ish_text p)) c.merges
     ++ (flat_map change_items c.changes ++ Line [] ∷ []))))))))
 command_items (command.Tag t) =
-    word_line (codes "tag") t.name ∷ mark_line t.mark ++ word_line (codes "from") (commit_ish_text t.target) ∷ optional_line (codes "tagger") t.tagger ++ Data t.message ∷ []
+    word_line (codes "tag") t.name ∷ mark_line t.mark ++ word_line (codes "from") (commit_ish_text t.target) ∷ word_line_if (codes "tagger") t.tagger ++ Data t.message ∷ []
 command_items (command.Reset r) = word_line (codes "reset") r.ref ∷ reset_items r.parent
 command_items (command.Asks f) = Line (codes "feature done") ∷ []
 command_items command.Done = Line (codes "done") ∷ []
@@ -256,6 +251,10 @@ abbrev pub item_text : Item → Bytes
 item_text (Line l) = l ++ 10 ∷ []
 item_text (Data x) = codes "data " ++ decimal (length x) ++ 10 ∷ x ++ 10 ∷ []
 
+-- items as a text
+abbrev pub items_text : List Item → Bytes
+items_text items = flat_map item_text items
+
 -- the export text of a history
 abbrev pub export_text : History → Bytes
-export_text h = flat_map item_text (export_items h)
+export_text h = items_text (export_items h)

@@ -2,7 +2,7 @@
 -- Source: this project's own.
 pub mod FaultWords
 pub mod StoreFaults
-use Rattle.std.specs.Prelude.{◌≡◌, Option, Some, None, Result, Ok, Err}
+use Rattle.std.specs.Prelude.{◌≡◌, ◌≢◌, Option, Some, None, Result, Ok, Err, IfErr}
 use Rattle.gx_model.specs.declared.faults.Fault.{Fault}
 use Rattle.gx_model.specs.declared.faults.Fault.TheVariants.{OutOfMemory}
 
@@ -16,21 +16,21 @@ abbrev pub Gives : {X Y E : Type 0} → (E → Fault) → (X → Y) → Result X
 Gives fault view (Ok x) given = given ≡ Ok (view x)
 Gives fault view (Err e) given = IsFaultOf (fault e) given
 
+-- an answer for which no memory is taken: want of it, as its own faults call it, is none of them
+abbrev pub NeedsNoMemory : {X E : Type 0} → E → Result X E → Type 0
+NeedsNoMemory want answer = IfErr answer (λ fault. fault ≢ want)
+
 -- what a part gives, or the fault
 abbrev pub Given : Type 0 → Type 0
 Given A = Result A Fault
 
 -- the first step, and with what it gives the second; or the first fault
-abbrev pub and_then : {A B E : Type 0} → Result A E → (A → Result B E) → Result B E
-and_then (Ok x) f = f x
-and_then (Err e) f = Err e
-
--- and_then, between two steps
 infixl 10 ◌>>=◌
-abbrev pub ◌>>=◌ : {A B : Type 0} → Result A Fault → (A → Result B Fault) → Result B Fault
-r >>= f = and_then r f
+abbrev pub ◌>>=◌ : {A B E : Type 0} → Result A E → (A → Result B E) → Result B E
+Ok x >>= f = f x
+Err e >>= f = Err e
 
--- a value, or this fault where there is none
-abbrev pub or_fault : {A : Type 0} → Option A → Fault → Result A Fault
-or_fault (Some x) f = Ok x
-or_fault None f = Err f
+-- a value, unless there is a fault
+abbrev pub unless : {A : Type 0} → Option Fault → A → Result A Fault
+unless None x = Ok x
+unless (Some f) x = Err f

@@ -5,11 +5,9 @@ pub mod Marks
 pub mod Values
 use Rattle.std.specs.Prelude.{◌≡◌, ℕ, zero, suc, Bool, false, if◌then◌else◌, List, [], ◌∷◌, ◌++◌, map, IsTrue, ⊤, ◌⊎◌}
 use Rattle.std.specs.List.{fold, list_any, list_all, AllByRecursion}
-use Rattle.std.specs.Ordering.{nat_cmp}
-use Rattle.std.specs.Cmp.Lexicographic.{slice_cmp}
 use Rattle.std.specs.FinMap.Entries.{is_sorted}
 use Rattle.gx_model.specs.declared.objects.Kind.{Kind}
-use Rattle.gx_model.specs.Texts.{Bytes, same_bytes}
+use Rattle.gx_model.specs.Texts.{Bytes, byte_cmp, same_bytes}
 use Rattle.gx_model.specs.Texts.RefNames.{is_ref_name, tag_ref}
 use Rattle.gx_model.specs.Histories.Files.{FileMap, depth}
 use Rattle.gx_model.specs.Histories.Values.{Commit, Tag, Value, blob_value, commit_value, files_of, is_proper, parts, same_value, sub_maps, tag_value, tree_value}
@@ -60,6 +58,10 @@ pub record History : Type 0 where
   -- in byte order of names
   pub refs : List (Bytes × Target)
 
+-- the history without values and refs
+abbrev pub no_history : History
+no_history = record { values = []; refs = [] }
+
 -- the value stands among these
 abbrev pub IsIn : List Value → Value → Type 0
 IsIn [] value = ⊥
@@ -90,7 +92,7 @@ IsRefOf ref (at_tag tag) = ref ≡ tag_ref tag.name
 pub record IsHistory (history : History) : Type 0 where
   pub proper : IsTrue (list_all is_proper history.values)
   pub closed : IsClosedAfter [] history.values
-  pub sorted : IsTrue (is_sorted (slice_cmp nat_cmp) history.refs)
+  pub sorted : IsTrue (is_sorted byte_cmp history.refs)
   pub ref_names : IsTrue (list_all (λ ref. is_ref_name ref.0) history.refs)
   pub held : AllByRecursion (λ ref. IsIn history.values (value_at ref.1)) history.refs
   pub own : AllByRecursion (λ ref. IsRefOf ref.0 ref.1) history.refs
@@ -111,6 +113,10 @@ object_of held = (held.kind, held.body)
 pub record Records : Type 0 where
   pub records : List Record
   pub refs : List (Bytes × Bytes)
+
+-- the repository without objects and refs, which is that of an empty store
+abbrev pub empty_repository : Records
+empty_repository = record { records = []; refs = [] }
 
 -- no two names are equal
 abbrev pub AreDistinct : List Bytes → Type 0

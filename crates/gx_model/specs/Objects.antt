@@ -3,13 +3,11 @@ pub mod NameMaps
 pub mod Naming
 use Rattle.std.specs.Prelude.{◌≡◌, ℕ, ◌+◌, ◌*◌, ◌-◌, ◌/◌, ◌%◌, Bool, true, false, not, ◌&&◌, nat_lt, nat_eq, if◌then◌else◌, List, [], ◌∷◌, ◌++◌, map, length, IsTrue, Option, None, Some, codes}
 use Rattle.std.specs.List.{flat_map, list_all, list_any}
-use Rattle.std.specs.Ordering.{nat_cmp}
-use Rattle.std.specs.Cmp.Lexicographic.{slice_cmp}
 use Rattle.std.specs.FinMap.Entries.{is_sorted}
 use Rattle.gx_model.specs.declared.objects.Kind.{Kind}
 use Rattle.gx_model.specs.declared.objects.Mode.{Mode}
 use Rattle.gx_model.specs.declared.objects.Mode.TheVariants.{File, Exec, Link, Gitlink, Dir}
-use Rattle.gx_model.specs.Texts.{Bytes, same_bytes}
+use Rattle.gx_model.specs.Texts.{Bytes, byte_cmp, same_bytes}
 use Rattle.gx_model.specs.Texts.RefNames.{is_tag_name}
 use Rattle.gx_model.specs.Texts.Paths.{is_component}
 use Rattle.gx_model.specs.Histories.Values.{CommitText, is_optional_ident, is_proper_text}
@@ -114,7 +112,7 @@ are_different (c ∷ cs) = not (list_any (same_bytes c) cs) && are_different cs
 -- components, in Git's order, each once
 abbrev pub is_canonical : List Entry → Bool
 is_canonical entries =
-    list_all (λ entry. is_component entry.component) entries && is_sorted (slice_cmp nat_cmp) (map (λ entry. (entry_key entry, entry.component)) entries)
+    list_all (λ entry. is_component entry.component) entries && is_sorted byte_cmp (map (λ entry. (entry_key entry, entry.component)) entries)
     && are_different (map (λ entry. entry.component) entries)
 
 -- 20 bytes

@@ -1,26 +1,20 @@
 -- Which objects the refs of a repository reach, and the repository with these alone.
 -- Source: git-prune(1), and gitglossary(7), "reachable" and "unreachable object".
-use Rattle.std.specs.Prelude.{Bool, ◌&&◌, ◌||◌, List, [], ◌∷◌, Option, None, Some}
+use Rattle.std.specs.Prelude.{Bool, ◌&&◌, ◌||◌, List, [], ◌∷◌, Option}
 use Rattle.std.specs.List.{filter, filter_map, list_any}
 use Rattle.gx_model.specs.declared.objects.Kind.{Kind}
 use Rattle.gx_model.specs.declared.objects.Kind.TheVariants as kind
-use Rattle.gx_model.specs.declared.objects.Mode.{Mode}
-use Rattle.gx_model.specs.declared.objects.Mode.TheVariants.{Gitlink}
 use Rattle.gx_model.specs.Texts.{Bytes, same_bytes}
 use Rattle.gx_model.specs.Objects.{Entry}
 use Rattle.gx_model.specs.Histories.{Record, Records}
 use Rattle.gx_model.specs.Records.HistoryOf.{commit_parts_in, entries_in, tag_parts_in}
+use Rattle.gx_model.specs.Histories.Values.{unless_gitlink}
 
 -- ---- what an object names
 
--- the object that an entry with this mode and name names; a gitlink names none
-abbrev pub linked : Mode → Bytes → Option Bytes
-linked Gitlink name = None
-linked _ name = Some name
-
--- the name of the object that an entry names
+-- the name of the object that an entry names; a gitlink names none
 abbrev pub link_of : Entry → Option Bytes
-link_of entry = linked entry.mode entry.name
+link_of entry = unless_gitlink entry.mode entry.name
 
 -- the names of the objects that a body of this kind names: a tree's entries, a commit's tree and parents, a tag's object
 abbrev pub links_of : Kind → Bytes → List Bytes

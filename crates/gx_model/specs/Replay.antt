@@ -5,10 +5,8 @@ use Rattle.std.specs.declared.result.Result.{Result}
 use Rattle.std.specs.declared.result.Result.TheVariants.{Ok, Err}
 use Rattle.std.specs.List.{list_all, fold}
 use Rattle.std.specs.Map.{lookup}
-use Rattle.std.specs.Ordering.{nat_cmp}
-use Rattle.std.specs.Cmp.Lexicographic.{slice_cmp}
+use Rattle.std.specs.Option.{ok_or, unwrap_or}
 use Rattle.std.specs.FinMap.Entries.{put}
-use Rattle.std.specs.declared.cmp.Ordering.{Ordering}
 use Rattle.gx_model.specs.declared.objects.Kind.{Kind}
 use Rattle.gx_model.specs.declared.objects.Mode.{Mode}
 use Rattle.gx_model.specs.declared.objects.Mode.TheVariants.{Gitlink}
@@ -17,24 +15,20 @@ use Rattle.gx_model.specs.declared.faults.Fault.TheVariants as fault
 use Rattle.gx_model.specs.declared.features.Feature.TheVariants as features
 use Rattle.gx_model.specs.declared.features.Features.{Features}
 use Rattle.gx_model.specs.Streams.Commands as command
-use Rattle.gx_model.specs.Texts.{Bytes, same_bytes}
+use Rattle.gx_model.specs.Texts.{Bytes, byte_cmp, same_bytes}
 use Rattle.gx_model.specs.Texts.RefNames.{tag_ref}
-use Rattle.gx_model.specs.Faults.{and_then, ◌>>=◌}
+use Rattle.gx_model.specs.Faults.{◌>>=◌}
 use Rattle.gx_model.specs.Revisions.{revision_of}
 use Rattle.gx_model.specs.Streams.Items.{items_of}
 use Rattle.gx_model.specs.Streams.Commands.{Asks, Blob, Change, Checkpoint, Clear, Command, Commands, CommitIsh, CommitParts, Copy, DataRef, Done, Inline, Mark, Marked, Modify, Named, Object, OptionLine, Progress, Remove, Rename, Reset, TagParts, no_features}
 use Rattle.gx_model.specs.Streams.Grammar.{commands_asked}
 use Rattle.gx_model.specs.Histories.Files.{FileMap}
 use Rattle.gx_model.specs.Histories.Edits.{copied, modified, removed, renamed}
-use Rattle.gx_model.specs.Histories.Values.{Commit, CommitText, Tag, Value, blob_value, commit, commit_value, commits_of, files_of, tag_value}
+use Rattle.gx_model.specs.Histories.Values.{Commit, CommitText, Tag, Value, blob_value, commit, commit_of, commit_value, commits_of, files_of, tag_value}
 use Rattle.gx_model.specs.Histories.{History, Target, at_commit, at_tag, with_value}
-use Rattle.gx_model.specs.Revisions.Denotation.{base_value, commit_in, lower, ref_at, value_denoted}
+use Rattle.gx_model.specs.Revisions.Denotation.{base_value, commit_in, ref_at, value_denoted}
+use Rattle.gx_model.specs.Texts.Digits.{lower}
 use Rattle.gx_model.specs.Revisions.Ranges.{reaches}
-
--- a text, or another where there is none
-abbrev pub or_else : Option Bytes → Bytes → Bytes
-or_else None x = x
-or_else (Some y) x = y
 
 -- ---- the state of a replay
 
@@ -79,10 +73,6 @@ start h = record {
 abbrev pub begun : Features → History → State
 begun f h = record (start h) { is_forced = f.force }
 
--- the byte order of texts
-abbrev pub byte_cmp : Bytes → Bytes → Ordering
-byte_cmp = slice_cmp nat_cmp
-
 -- a value added to the history
 abbrev pub added : Value → State → State
 added v s = record s { history = record { values = with_value s.history.values v; refs = s.history.refs } }
@@ -98,39 +88,28 @@ on_branch n c s = record s { branches = put byte_cmp n c s.branches }
 
 -- ---- what a commit-ish gives
 
--- a value, or UnknownMark
-abbrev pub ok_or_mark : Option Value → Result Value Fault
-ok_or_mark None = Err fault.UnknownMark
-ok_or_mark (Some v) = Ok v
-
--- the value of a mark
+-- the value of a mark, or UnknownMark
 abbrev pub at : State → ℕ → Result Value Fault
-at s n = ok_or_mark (lookup (nat_eq n) s.marks)
+at s n = ok_or (lookup (nat_eq n) s.marks) fault.UnknownMark
 
 -- a commit or a reset peels a tag (`commit_in`); the target of a tag is a commit itself
 abbrev pub commit_alone : Value → Result Commit Fault
-commit_alone (commit_value c) = Ok c
-commit_alone _ = Err fault.WrongKind
+commit_alone v = ok_or (commit_of v) fault.WrongKind
 
 -- the commit that a ref holds, or that its tag names
 abbrev pub peeled_at : Target → Commit
 peeled_at (at_commit c) = c
 peeled_at (at_tag t) = t.target
 
--- a branch's commit, or EmptyBranch
-abbrev pub branch_commit : Option Commit → Result Commit Fault
-branch_commit None = Err fault.EmptyBranch
-branch_commit (Some c) = Ok c
-
--- a branch of this name, and otherwise what comes next
+-- the commit of a branch of this name, where there is one, and otherwise what comes next
 abbrev pub or_branch : Option (Option Commit) → Result Commit Fault → Result Commit Fault
 or_branch None r = r
-or_branch (Some c) r = branch_commit c
+or_branch (Some c) r = ok_or c fault.EmptyBranch
 
 -- for the commits and resets of a branch: itself is refused first
-abbrev pub is_itself : Bytes → CommitIsh → Bool
-is_itself b (Marked n) = false
-is_itself b (Named x) = same_bytes b x
+abbrev pub names_itself : Bytes → CommitIsh → Bool
+names_itself b (Marked n) = false
+names_itself b (Named x) = same_bytes b x
 
 -- ---- what a file's content and a commit are made of
 
@@ -146,7 +125,7 @@ own_commit None = None
 
 -- a missing author is the committer
 abbrev pub text_made : CommitParts → CommitText
-text_made c = record { author = or_else c.author c.committer; committer = c.committer; encoding = c.encoding; message = c.message }
+text_made c = record { author = unwrap_or c.author c.committer; committer = c.committer; encoding = c.encoding; message = c.message }
 
 -- the files that a commit starts from
 abbrev pub starting_files : Option Commit → FileMap Bytes
@@ -226,43 +205,43 @@ ended n s None = if is_fast_forward s then finished (final s) s.progress (report
 module _ (name : Kind → Bytes → Bytes) where
   -- over the refs as last published and the values so far
   abbrev pub revision_value : State → Bytes → Result Value Fault
-  revision_value s x = and_then (revision_of x) (λ r. value_denoted name s.history r)
+  revision_value s x = revision_of x >>= λ r. value_denoted name s.history r
 
   -- the commit that is named: a branch, a mark or a revision
   abbrev pub committed : (Value → Result Commit Fault) → State → CommitIsh → Result Commit Fault
-  committed kind s (Marked n) = and_then (at s n) kind
-  committed kind s (Named x) = or_branch (lookup (same_bytes x) s.branches) (and_then (revision_value s x) kind)
+  committed kind s (Marked n) = at s n >>= kind
+  committed kind s (Named x) = or_branch (lookup (same_bytes x) s.branches) (revision_value s x >>= kind)
 
   -- the same for a command of a branch, which may not name itself
   abbrev pub committed_for : Bytes → State → CommitIsh → Result Commit Fault
-  committed_for b s x = if is_itself b x then Err fault.FromItself else committed commit_in s x
+  committed_for b s x = if names_itself b x then Err fault.FromItself else committed commit_in s x
 
   -- the commits that are named, or the first fault
   abbrev pub all_committed : Bytes → State → List CommitIsh → Result (List Commit) Fault
   all_committed b s [] = Ok []
-  all_committed b s (x ∷ xs) = and_then (committed_for b s x) (λ c. and_then (all_committed b s xs) (λ cs. Ok (c ∷ cs)))
+  all_committed b s (x ∷ xs) = committed_for b s x >>= λ c. all_committed b s xs >>= λ cs. Ok (c ∷ cs)
 
   -- ---- changes: the state, where inline bytes are added, and the files
 
   -- a gitlink's digits are kept in lower case
   abbrev pub content : State → Mode → DataRef → Result (State × Bytes) Fault
   content s Gitlink (Object x) = Ok (s, map lower x)
-  content s m (Mark n) = and_then (at s n) (λ v. and_then (blob_bytes v) (λ x. Ok (s, x)))
-  content s m (Object x) = and_then (base_value name s.history x) (λ v. and_then (blob_bytes v) (λ y. Ok (s, y)))
+  content s m (Mark n) = at s n >>= λ v. blob_bytes v >>= λ x. Ok (s, x)
+  content s m (Object x) = base_value name s.history x >>= λ v. blob_bytes v >>= λ y. Ok (s, y)
   content s m (Inline x) = Ok (added (blob_value x) s, x)
 
   -- what one change makes of the files
   abbrev pub changed : State → FileMap Bytes → Change → Result (State × FileMap Bytes) Fault
-  changed s f (Modify m d p) = and_then (content s m d) (λ r. and_then (modified f p (m, r.1)) (λ g. Ok (r.0, g)))
+  changed s f (Modify m d p) = content s m d >>= λ r. modified f p (m, r.1) >>= λ g. Ok (r.0, g)
   changed s f (Remove p) = Ok (s, removed f p)
-  changed s f (Copy p q) = and_then (copied f p q) (λ g. Ok (s, g))
-  changed s f (Rename p q) = and_then (renamed f p q) (λ g. Ok (s, g))
+  changed s f (Copy p q) = copied f p q >>= λ g. Ok (s, g)
+  changed s f (Rename p q) = renamed f p q >>= λ g. Ok (s, g)
   changed s f Clear = Ok (s, [])
 
   -- what changes make of the files, in order
   abbrev pub all_changed : State → FileMap Bytes → List Change → Result (State × FileMap Bytes) Fault
   all_changed s f [] = Ok (s, f)
-  all_changed s f (c ∷ cs) = and_then (changed s f c) (λ r. all_changed r.0 r.1 cs)
+  all_changed s f (c ∷ cs) = changed s f c >>= λ r. all_changed r.0 r.1 cs
 
   -- ---- one command
 
@@ -270,7 +249,7 @@ module _ (name : Kind → Bytes → Bytes) where
   abbrev pub first_parent : State → CommitParts → Result (Option Commit) Fault
   first_parent s c = elim c.parent [
     | None ↦ Ok (own_commit (lookup (same_bytes c.ref) s.branches))
-    | Some x ↦ and_then (committed_for c.ref s x) (λ p. Ok (Some p))
+    | Some x ↦ committed_for c.ref s x >>= λ p. Ok (Some p)
   ]
 
   -- what a commit command does
@@ -284,7 +263,7 @@ module _ (name : Kind → Bytes → Bytes) where
   -- what a tag command does
   abbrev pub step_tag : State → TagParts → Result State Fault
   step_tag s t =
-      and_then (committed commit_alone s t.target) (λ c.
+      (committed commit_alone s t.target >>= λ c.
       let v : Tag = record { target = c; name = t.name; tagger = t.tagger; message = t.message } in
       let s' : State = marked t.mark (tag_value v) (added (tag_value v) s) in
       Ok (record s' { tags = put byte_cmp (tag_ref t.name) v s'.tags }))
@@ -292,7 +271,7 @@ module _ (name : Kind → Bytes → Bytes) where
   -- what a reset command does
   abbrev pub step_reset : State → Bytes → Option CommitIsh → Result State Fault
   step_reset s b None = Ok (on_branch b None s)
-  step_reset s b (Some x) = and_then (committed_for b s x) (λ c. Ok (on_branch b (Some c) s))
+  step_reset s b (Some x) = committed_for b s x >>= λ c. Ok (on_branch b (Some c) s)
 
   -- what one command does
   abbrev pub step : State → Command → Result State Fault

@@ -2,7 +2,7 @@
 pub mod Denotation
 pub mod Ranges
 use Rattle.std.specs.Prelude.{ℕ, ◌-◌, ◌==◌, ◌&&◌, ◌||◌, codes, nat_eq, List, [], ◌∷◌, length, take, drop, Option, Some, None, Ok, Err, if◌then◌else◌}
-use Rattle.std.specs.Option.{option_map}
+use Rattle.std.specs.Option.{ok_or, option_map}
 use Rattle.std.specs.List.{starts_with, ends_with, suffix_len}
 use Rattle.std.specs.Char.{is_ascii_digit}
 use Rattle.std.specs.Map.{lookup}
@@ -10,7 +10,7 @@ use Rattle.gx_model.specs.Texts.{Bytes, cut_at, same_bytes}
 use Rattle.gx_model.specs.Texts.Numbers.{decimal_of}
 use Rattle.gx_model.specs.Texts.RefNames.{is_ref_name}
 use Rattle.gx_model.specs.Texts.Paths.{Path, path_of}
-use Rattle.gx_model.specs.Faults.{Given, ◌>>=◌, or_fault}
+use Rattle.gx_model.specs.Faults.{Given, ◌>>=◌}
 use Rattle.gx_model.specs.declared.faults.Fault.TheVariants.{BadRevision}
 
 -- ---- what the texts say
@@ -60,7 +60,7 @@ base_of x = if same_bytes x (codes "@") then Ok head else (if is_ref_name x then
 -- a number in decimal, and 1 where it is left out
 abbrev pub number_or_one : Bytes → Given ℕ
 number_or_one [] = Ok 1
-number_or_one (d ∷ ds) = or_fault (decimal_of (d ∷ ds)) BadRevision
+number_or_one (d ∷ ds) = ok_or (decimal_of (d ∷ ds)) BadRevision
 
 -- the suffixes in braces, by what stands behind the `^`
 abbrev pub braced_suffixes : List (Bytes × Suffix)

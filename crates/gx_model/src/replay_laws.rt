@@ -1,7 +1,6 @@
 //! Laws of replays: what commands make of a history is a history.
-ghost use Rattle.gx_model.specs.Laws.ExportLaws.{nothing};
 ghost use Rattle.gx_model.specs.Laws.FeatureLaws.{ChangesAskOnce, CommandsAreAsked, ExportsAskOnce, ReplaysAreAsked};
-ghost use Rattle.gx_model.specs.Histories.{IsHistory};
+ghost use Rattle.gx_model.specs.Histories.{IsHistory, no_history};
 ghost use Rattle.gx_model.specs.Replay.ProperReplays.{RefusalsKeepHistories, ReplaysGiveHistories, StreamsAreProper, TextsGiveHistories};
 
 /// The commands that a stream has are proper: their ref names, tag names, identities, encodings, new paths and gitlink digits
@@ -15,7 +14,7 @@ pub fn streams_are_proper()
 /// are refused, and so what any text makes. Whatever names objects have, and however revisions are read.
 #[tactic(auto, using(crate::proofs::Replay::HistorySteps::nothing_is, crate::proofs::Replay::HistorySteps::replays_give, crate::proofs::Replay::HistorySteps::refusals_keep, crate::proofs::Replay::HistorySteps::texts_give))]
 pub fn replays_give_histories()
-    ensures empty { IsHistory nothing }
+    ensures empty { IsHistory no_history }
     ensures replays { ReplaysGiveHistories }
     ensures refused { RefusalsKeepHistories }
     ensures texts { TextsGiveHistories }

@@ -14,7 +14,8 @@ use Rattle.std.specs.Iterator.{MakesProgress, item_count}
 use Rattle.gx_object.specs.declared.entry.Entry.{Entry as Read}
 use Rattle.gx_object.specs.Entries.{shown}
 use Rattle.gx_model.specs.Objects.{Entry, entry_text, mode_text}
-use Rattle.gx_object.specs.Trees.{◌>>=◌, mode_of, entry_at, entries_within, entries_of, entries_left}
+use Rattle.gx_object.specs.Trees.{mode_of, entry_at, entries_within, entries_of, entries_left}
+use Rattle.gx_object.specs.Lines.{◌>>=◌}
 
 -- the value of a step that did not fail
 pub bind_some : {A B : Type 0} (o : Option A) (f : A → Option B) (y : B) → (o >>= f) ≡ Some y → (x : A) × (o ≡ Some x) × (f x ≡ Some y)

@@ -8,7 +8,7 @@ use Rattle.gx_model.specs.Texts.Idents.{is_ident}
 use Rattle.gx_model.specs.Histories.Values.{CommitText, is_optional_encoding}
 use Rattle.gx_model.specs.Objects.{CommitParts, IsCommitText, commit_text, hex, line, optional_line, text_lines}
 use Rattle.gx_object.specs.Lines.{field, ident_field, name_field, or_absent, stripped}
-use Rattle.gx_object.specs.Commits.{commit_of, encoding_field, parent_lines, parents_of}
+use Rattle.gx_object.specs.Commits.{commit_parts_of, encoding_field, parent_lines, parents_of}
 use Rattle.gx_object.proofs.Fields.{bind_some, refused_some, field_spelled, field_again, ident_spelled, ident_again, name_spelled, name_field_again, stripped_spelled, stripped_again}
 use Rattle.gx_object.proofs.Parents.{parents_spelled, parents_again}
 
@@ -61,8 +61,8 @@ text_flat t =
 commit_flat : (p : CommitParts) → commit_text p ≡ line (codes "tree") (hex p.tree) ++ (parent_lines p.parents ++ text_lines p.text)
 commit_flat p = append_assoc (line (codes "tree") (hex p.tree)) (parent_lines p.parents) (text_lines p.text)
 
-commit_takes : (body : Bytes) (p : CommitParts) → commit_of body ≡ Some p → IsCommitText p body
-unfolding commit_of
+commit_takes : (body : Bytes) (p : CommitParts) → commit_parts_of body ≡ Some p → IsCommitText p body
+unfolding commit_parts_of
 commit_takes body p e =
     let tree = bind_some (name_field (codes "tree") body) _ p e in
     let author = bind_some (ident_field (codes "author") (parents_of tree.0.1).1) _ p tree.2 in
@@ -89,8 +89,8 @@ no_parent : (t : CommitText) → name_field (codes "parent") (text_lines t) ≡ 
 unfolding name_field field stripped
 no_parent t = refl
 
-commit_again : (body : Bytes) (p : CommitParts) → IsCommitText p body → commit_of body ≡ Some p
-unfolding commit_of
+commit_again : (body : Bytes) (p : CommitParts) → IsCommitText p body → commit_parts_of body ≡ Some p
+unfolding commit_parts_of
 commit_again body p h =
     let t = p.text in
     let idents = and_parts (is_ident t.author && is_ident t.committer) _ h.3 in
@@ -99,7 +99,7 @@ commit_again body p h =
     let later = line (codes "committer") t.committer ++ ending in
     let start = h.0 ∙ commit_flat p in
     let author : ident_field (codes "author") (text_lines t) ≡ Some (t.author, later) = ap (ident_field (codes "author")) (text_flat t) ∙ ident_again (codes "author") t.author later ident.0 in
-    ap commit_of start
+    ap commit_parts_of start
     ∙ rw (
       name_field_again (codes "tree") p.tree (parent_lines p.parents ++ text_lines t) h.1,
       parents_again p.parents (text_lines t) h.2 (no_parent t),
@@ -109,10 +109,10 @@ commit_again body p h =
       stripped_again (10 ∷ []) t.message,
     ) refl
 
-pub commit_found : {E : Type 0} (body : Bytes) (r : Result CommitParts E) → commit_of body ≡ result_ok r → IfOk r (λ p. IsCommitText p body)
+pub commit_found : {E : Type 0} (body : Bytes) (r : Result CommitParts E) → commit_parts_of body ≡ result_ok r → IfOk r (λ p. IsCommitText p body)
 commit_found body (Ok p) e = commit_takes body p e
 commit_found body (Err d) e = tt
 
-pub commit_only : {E : Type 0} (body : Bytes) (r : Result CommitParts E) → commit_of body ≡ result_ok r → (p : CommitParts) → IsCommitText p body → IsOkAnd r (λ found. found ≡ p)
+pub commit_only : {E : Type 0} (body : Bytes) (r : Result CommitParts E) → commit_parts_of body ≡ result_ok r → (p : CommitParts) → IsCommitText p body → IsOkAnd r (λ found. found ≡ p)
 commit_only body (Ok q) e p h = cc (commit_again body p h)
 commit_only body (Err d) e p h = cc (commit_again body p h)

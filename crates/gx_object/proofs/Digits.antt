@@ -12,9 +12,8 @@ use Rattle.hex.specs.Hex.{encode_with, encode_lower, lower_digits, decode_pairs,
 use Rattle.hex.specs.declared.error.FromHexError.{FromHexError}
 use Rattle.hex.proofs.HexLemmas.{decode_of-even, decode_sized-twice, IsOk-decode_sized}
 use Rattle.gx_model.specs.Texts.{Bytes}
-use Rattle.gx_model.specs.Histories.Values.{is_hex_digit as is_lower_digit}
+use Rattle.gx_model.specs.Texts.Digits.{is_any_digit, is_lower_digit, lower}
 use Rattle.gx_model.specs.Objects.{hex, hex_digit, digit_value, unhex}
-use Rattle.gx_model.specs.Revisions.Denotation.{is_any_digit, lower}
 use Rattle.gx_model.specs.Objects.Naming.{name_in, lower_name_in}
 use Rattle.gx_model.proofs.ObjectTexts.NameDigits.{AreBytes}
 

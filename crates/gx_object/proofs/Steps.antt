@@ -9,7 +9,8 @@ use Rattle.gx_model.specs.Texts.{Bytes, same_bytes}
 use Rattle.gx_model.specs.Texts.Paths.{is_component}
 use Rattle.gx_model.specs.Objects.{Entry, is_canonical, is_dir}
 use Rattle.gx_object.specs.Order.{are_ordered, leads, meets, meets_any}
-use Rattle.gx_object.specs.Trees.{◌>>=◌, entry_at, entries_within, entries_of, entries_left, goes_on_past, is_tree}
+use Rattle.gx_object.specs.Trees.{entry_at, entries_within, entries_of, entries_left, goes_on_past, is_tree}
+use Rattle.gx_object.specs.Lines.{◌>>=◌}
 use Rattle.gx_object.proofs.Bodies.{entries_step, entries_stop}
 use Rattle.gx_object.proofs.MetFiles.{meets_nothing}
 use Rattle.gx_object.proofs.Orders.{ordered_is}

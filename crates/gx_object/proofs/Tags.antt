@@ -11,7 +11,7 @@ use Rattle.gx_model.specs.Objects.{IsTagText, TagParts, hex, line, optional_line
 use Rattle.gx_model.proofs.ObjectTexts.BodiesReadBack.{tag_text_flat}
 use Rattle.gx_model.proofs.Texts.LineTexts.{tag_is_line}
 use Rattle.gx_object.specs.Lines.{field, ident_field, name_field, or_absent, stripped}
-use Rattle.gx_object.specs.Tags.{tag_field, tag_of}
+use Rattle.gx_object.specs.Tags.{tag_field, tag_parts_of}
 use Rattle.gx_object.proofs.Fields.{bind_some, test_some, field_spelled, field_again, ident_spelled, ident_again, name_spelled, name_field_again, stripped_spelled, stripped_again}
 use Rattle.gx_object.proofs.Commits.{HasOptional}
 
@@ -95,8 +95,8 @@ tag_name_again x r h = rw (field_again (codes "tag") x r (tag_is_line x h), h) r
 
 -- ---- the whole body
 
-tag_takes : (body : Bytes) (p : TagParts) → tag_of body ≡ Some p → IsTagText p body
-unfolding tag_of
+tag_takes : (body : Bytes) (p : TagParts) → tag_parts_of body ≡ Some p → IsTagText p body
+unfolding tag_parts_of
 tag_takes body p e =
     let object = bind_some (name_field (codes "object") body) _ p e in
     let kind = bind_some (stripped (codes "type commit\n") object.0.1) _ p object.2 in
@@ -116,13 +116,13 @@ tag_takes body p e =
     ∙ sym (tag_text_flat made) in
     subst (λ (q : TagParts). IsTagText q body) is (whole, o.name, n.tag, t.proper)
 
-tag_again : (body : Bytes) (p : TagParts) → IsTagText p body → tag_of body ≡ Some p
-unfolding tag_of
+tag_again : (body : Bytes) (p : TagParts) → IsTagText p body → tag_parts_of body ≡ Some p
+unfolding tag_parts_of
 tag_again body p h =
     let ending = optional_line (codes "tagger") p.tagger ++ (10 ∷ p.message) in
     let named = line (codes "tag") p.name ++ ending in
     let start = h.0 ∙ tag_text_flat p in
-    ap tag_of start
+    ap tag_parts_of start
     ∙ rw (
       name_field_again (codes "object") p.object (line (codes "type") (codes "commit") ++ named) h.1,
       stripped_again (codes "type commit\n") named,
@@ -131,10 +131,10 @@ tag_again body p h =
       stripped_again (10 ∷ []) p.message,
     ) refl
 
-pub tag_found : {E : Type 0} (body : Bytes) (r : Result TagParts E) → tag_of body ≡ result_ok r → IfOk r (λ p. IsTagText p body)
+pub tag_found : {E : Type 0} (body : Bytes) (r : Result TagParts E) → tag_parts_of body ≡ result_ok r → IfOk r (λ p. IsTagText p body)
 tag_found body (Ok p) e = tag_takes body p e
 tag_found body (Err d) e = tt
 
-pub tag_only : {E : Type 0} (body : Bytes) (r : Result TagParts E) → tag_of body ≡ result_ok r → (p : TagParts) → IsTagText p body → IsOkAnd r (λ found. found ≡ p)
+pub tag_only : {E : Type 0} (body : Bytes) (r : Result TagParts E) → tag_parts_of body ≡ result_ok r → (p : TagParts) → IsTagText p body → IsOkAnd r (λ found. found ≡ p)
 tag_only body (Ok q) e p h = cc (tag_again body p h)
 tag_only body (Err d) e p h = cc (tag_again body p h)

@@ -49,8 +49,8 @@ encoding_field bytes = do
 abbrev pub encoding_and_rest : Bytes → Option Bytes × Bytes
 encoding_and_rest bytes = or_absent (encoding_field bytes) bytes
 
-unfoldable pub commit_of : Bytes → Option CommitParts
-commit_of body = do
+unfoldable pub commit_parts_of : Bytes → Option CommitParts
+commit_parts_of body = do
   tree ← name_field (codes "tree") body
   author ← ident_field (codes "author") (parents_of tree.1).1
   committer ← ident_field (codes "committer") author.1

@@ -1,19 +1,15 @@
 -- The lines of a commit's or a tag's body, read from the left: a word, a space, and the rest of the line.
 use Rattle.std.specs.Prelude.{nat_eq, if◌then◌else◌, [], ◌∷◌, length, take, drop, Option, None, Some}
 use Rattle.std.specs.Cmp.Lexicographic.{pointwise}
-use Rattle.std.specs.Borrow.{Bor}
-use Rattle.std.specs.Option.{option_and_then, option_map}
+use Rattle.std.specs.Option.{option_and_then}
 use Rattle.gx_model.specs.Texts.{Bytes, cut_at}
 use Rattle.gx_model.specs.Texts.Idents.{is_ident}
 use Rattle.gx_model.specs.Objects.Naming.{lower_name_in}
 
+-- the first step, and with what it gives the second, where both are there
 infixl 10 ◌>>=◌
 abbrev pub ◌>>=◌ : {A B : Type 0} → Option A → (A → Option B) → Option B
 o >>= f = option_and_then f o
-
--- a text that may be absent, without where it lies in memory
-abbrev pub optional_bytes : Option (Bor Bytes) → Option Bytes
-optional_bytes text = option_map (λ text. text.now) text
 
 -- what follows this front
 unfoldable pub stripped : Bytes → Bytes → Option Bytes

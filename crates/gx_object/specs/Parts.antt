@@ -1,12 +1,11 @@
 -- The parts of commits and tags without where they lie in memory.
 use Rattle.std.specs.Prelude.{◌≡◌, Option, Result, IsOkAnd}
 use Rattle.std.specs.Borrow.{Bor}
-use Rattle.std.specs.Option.{option_map}
+use Rattle.std.specs.Option.{option_copied, option_map}
 use Rattle.gx_model.specs.Objects.{CommitParts, TagParts}
 use Rattle.gx_model.specs.Texts.{Bytes}
 use Rattle.gx_text.specs.Idents.{ident_bytes}
 use Rattle.gx_object.specs.Commits.{bytes_of_names, parents_of}
-use Rattle.gx_object.specs.Lines.{optional_bytes}
 use Rattle.gx_object.specs.declared.name.Name.{Name}
 use Rattle.gx_object.specs.declared.commit.CommitParts.{CommitParts as GivenCommit}
 use Rattle.gx_object.specs.declared.tag.TagParts.{TagParts as GivenTag}
@@ -15,6 +14,10 @@ use Rattle.gx_object.specs.declared.tag.TagParts.{TagParts as GivenTag}
 abbrev pub FindsEach : {T E : Type 0} → (T → Bytes → Type 0) → Bytes → Result T E → Type 0
 FindsEach {T} is_text body result = (written : T) → is_text written body → IsOkAnd result (λ found. found ≡ written)
 
+-- the bytes of a name that may be absent
+abbrev pub bytes_if : Option Name → Option Bytes
+bytes_if name = option_map (λ name. name.bytes) name
+
 abbrev pub commit_parts : GivenCommit → CommitParts
 commit_parts p = record {
   tree = p.tree.bytes;
@@ -22,7 +25,7 @@ commit_parts p = record {
   text = record {
     author = ident_bytes p.author;
     committer = ident_bytes p.committer;
-    encoding = optional_bytes p.encoding;
+    encoding = option_copied p.encoding;
     message = p.message.now;
   };
 }
@@ -38,11 +41,11 @@ shown_commit tree parents author committer encoding message = record {
   text = record {
     author = author.now;
     committer = committer.now;
-    encoding = optional_bytes encoding;
+    encoding = option_copied encoding;
     message = message.now;
   };
 }
 
 -- what a tag's body was cut into
 abbrev pub shown_tag : Name → Bor Bytes → Option (Bor Bytes) → Bor Bytes → TagParts
-shown_tag object name tagger message = record { object = object.bytes; name = name.now; tagger = optional_bytes tagger; message = message.now }
+shown_tag object name tagger message = record { object = object.bytes; name = name.now; tagger = option_copied tagger; message = message.now }

@@ -15,8 +15,8 @@ tag_field bytes = do
 abbrev pub tagger_and_rest : Bytes → Option Bytes × Bytes
 tagger_and_rest bytes = or_absent (ident_field (codes "tagger") bytes) bytes
 
-unfoldable pub tag_of : Bytes → Option TagParts
-tag_of body = do
+unfoldable pub tag_parts_of : Bytes → Option TagParts
+tag_parts_of body = do
   object ← name_field (codes "object") body
   rest ← stripped (codes "type commit\n") object.1
   name ← tag_field rest

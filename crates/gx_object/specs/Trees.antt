@@ -1,15 +1,12 @@
 -- The body of a tree, read from the left.
 use Rattle.std.specs.Prelude.{Bool, false, not, ◌&&◌, ℕ, zero, suc, nat_lt, IsTrue, List, [], ◌∷◌, length, take, drop, Option, Some, None, if◌then◌else◌}
-use Rattle.std.specs.Option.{is_some, option_and_then, option_map, unwrap_or}
+use Rattle.std.specs.Option.{is_some, option_map, unwrap_or}
 use Rattle.gx_model.specs.declared.objects.Mode.{Mode}
 use Rattle.gx_model.specs.declared.objects.Mode.TheVariants.{File, Exec, Link, Gitlink, Dir}
 use Rattle.gx_model.specs.Texts.{Bytes, cut_at, same_bytes}
 use Rattle.gx_model.specs.Objects.{Entry, is_canonical, mode_text}
+use Rattle.gx_object.specs.Lines.{◌>>=◌}
 use Rattle.gx_object.specs.Order.{are_ordered, meets_any}
-
-infixl 10 ◌>>=◌
-abbrev pub ◌>>=◌ : {A B : Type 0} → Option A → (A → Option B) → Option B
-o >>= f = option_and_then f o
 
 abbrev pub mode_of : Bytes → Option Mode
 mode_of ds =

@@ -2,12 +2,11 @@
 
 ghost use Rattle.std.specs.Prelude.{◌≡◌, length, slice_get, IsTrue, IfOk, OnOk};
 ghost use Rattle.std.specs.List.{list_all};
-ghost use Rattle.std.specs.Option.{option_map};
+ghost use Rattle.std.specs.Option.{option_copied, option_map};
 ghost use Rattle.gx_model.specs.Histories.Values.{is_optional_encoding};
 ghost use Rattle.gx_model.specs.Objects.{IsCommitText, is_name};
 ghost use Rattle.gx_text.specs.Buffers.{GrowsBy};
-ghost use Rattle.gx_object.specs.Lines.{optional_bytes};
-ghost use Rattle.gx_object.specs.Commits.{FindsParent, bytes_of_names, commit_of, encoding_and_rest, encoding_field, parent_lines, parents_of};
+ghost use Rattle.gx_object.specs.Commits.{FindsParent, bytes_of_names, commit_parts_of, encoding_and_rest, encoding_field, parent_lines, parents_of};
 ghost use Rattle.gx_object.specs.Parts.{FindsEach, commit_parts};
 
 use crate::line::{append_line, append_optional_line, cut_ident, cut_line, cut_name, strip};
@@ -146,9 +145,9 @@ pub fn decode_commit(body: &[u8]) -> Result<CommitView<'_>, BadObject>
     read_commit(body).ok_or(BadObject)
 }
 
-#[tactic(auto, unfolding(crate::specs::Commits::commit_of))]
+#[tactic(auto, unfolding(crate::specs::Commits::commit_parts_of))]
 fn read_commit(body: &[u8]) -> Option<CommitView<'_>>
-    ensures { result ≡ commit_of body.now }
+    ensures { result ≡ commit_parts_of body.now }
 {
     let (tree, rest) = cut_name(body, b"tree")?;
     let (parents, rest) = split_parents(rest);
@@ -181,7 +180,7 @@ fn split_parents(bytes: &[u8]) -> (&[u8], &[u8])
 
 /// What the line of an encoding has, where there is one, and what follows.
 fn split_encoding(bytes: &[u8]) -> (Option<&[u8]>, &[u8])
-    ensures text { optional_bytes result.0 ≡ (encoding_and_rest bytes.now).0 }
+    ensures text { option_copied result.0 ≡ (encoding_and_rest bytes.now).0 }
     ensures rest { result.1.now ≡ (encoding_and_rest bytes.now).1 }
 {
     match cut_encoding(bytes) {

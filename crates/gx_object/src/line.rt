@@ -1,10 +1,10 @@
 //! The lines of the bodies of commits and tags: a word, a space, and the rest of the line.
 
 ghost use Rattle.std.specs.Prelude.{◌≡◌};
-ghost use Rattle.std.specs.Option.{option_map};
+ghost use Rattle.std.specs.Option.{option_copied, option_map};
 ghost use Rattle.gx_model.specs.Objects.{line, optional_line};
 ghost use Rattle.gx_text.specs.Buffers.{GrowsBy};
-ghost use Rattle.gx_object.specs.Lines.{field, ident_field, name_field, optional_bytes, stripped};
+ghost use Rattle.gx_object.specs.Lines.{field, ident_field, name_field, stripped};
 
 use crate::Name;
 use gx_text::{Ident, cut};
@@ -29,7 +29,7 @@ pub(crate) fn append_optional_line<A: Allocator + Copy>(
     word: &[u8],
     rest: Option<&[u8]>,
 ) -> Result<(), AllocError>
-    ensures { GrowsBy body.old body.new (optional_line word.now (optional_bytes rest.entry)) result }
+    ensures { GrowsBy body.old body.new (optional_line word.now (option_copied rest.entry)) result }
 {
     match rest {
         Some(rest) => append_line(body, word, rest),

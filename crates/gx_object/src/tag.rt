@@ -1,11 +1,10 @@
 //! The bodies of tags. Source: gitglossary(7), "tag object".
 
 ghost use Rattle.std.specs.Prelude.{◌≡◌, IsTrue, IfOk};
-ghost use Rattle.std.specs.Option.{option_map};
+ghost use Rattle.std.specs.Option.{option_copied, option_map};
 ghost use Rattle.gx_model.specs.Texts.RefNames.{is_tag_name};
 ghost use Rattle.gx_model.specs.Objects.{IsTagText};
-ghost use Rattle.gx_object.specs.Lines.{optional_bytes};
-ghost use Rattle.gx_object.specs.Tags.{tag_field, tag_of, tagger_and_rest};
+ghost use Rattle.gx_object.specs.Tags.{tag_field, tag_parts_of, tagger_and_rest};
 ghost use Rattle.gx_object.specs.Parts.{FindsEach, tag_parts};
 
 use crate::line::{append_line, append_optional_line, cut_ident, cut_line, cut_name, strip};
@@ -101,9 +100,9 @@ pub fn decode_tag(body: &[u8]) -> Result<TagView<'_>, BadObject>
     read_tag(body).ok_or(BadObject)
 }
 
-#[tactic(auto, unfolding(crate::specs::Tags::tag_of))]
+#[tactic(auto, unfolding(crate::specs::Tags::tag_parts_of))]
 fn read_tag(body: &[u8]) -> Option<TagView<'_>>
-    ensures { result ≡ tag_of body.now }
+    ensures { result ≡ tag_parts_of body.now }
 {
     let (object, rest) = cut_name(body, b"object")?;
     let rest = strip(rest, b"type commit\n")?;
@@ -140,7 +139,7 @@ fn is_tag_name(name: &[u8]) -> bool
 
 /// What the line of a tagger has, where there is one, and what follows.
 fn split_tagger(bytes: &[u8]) -> (Option<&[u8]>, &[u8])
-    ensures text { optional_bytes result.0 ≡ (tagger_and_rest bytes.now).0 }
+    ensures text { option_copied result.0 ≡ (tagger_and_rest bytes.now).0 }
     ensures rest { result.1.now ≡ (tagger_and_rest bytes.now).1 }
 {
     match cut_ident(bytes, b"tagger") {

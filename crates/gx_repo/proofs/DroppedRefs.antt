@@ -10,16 +10,16 @@ use Rattle.std.specs.List.{AllByRecursion, filter, list_all, list_any}
 use Rattle.std.proofs.lemmas.List.{drop_more, length-map, length-take-le, map-append, take_all, take_more}
 use Rattle.std.proofs.lemmas.Map.Text.{is_eq-slice_cmp}
 use Rattle.gx_model.specs.declared.objects.Kind.{Kind}
-use Rattle.gx_model.specs.Texts.{Bytes, same_bytes}
+use Rattle.gx_model.specs.Texts.{Bytes, byte_cmp, same_bytes}
 use Rattle.gx_model.specs.Texts.RefNames.{is_ref_name}
 use Rattle.gx_model.specs.Histories.{Record, Records}
 use Rattle.gx_model.specs.Laws.RepositoryLaws.{PartsChange, values_of, with_refs}
 use Rattle.gx_model.specs.Records.Publishing.{Ref}
 use Rattle.gx_model.specs.Records.Sound.{IsSound, IsTarget}
-use Rattle.gx_model.specs.Replay.{byte_cmp}
 use Rattle.gx_model.proofs.Texts.PathTests.{both, first, second, is_true}
-use Rattle.gx_repo.specs.Dropping.{AreIn, DropsFrom, EntersNames, dropped, is_among, is_in, lent_names, unknown_behind, unless_unknown, without}
-use Rattle.gx_repo.specs.Refs.{is_held, shown_ref}
+use Rattle.gx_repo.specs.Dropping.{AreIn, DropsFrom, EntersNames, dropped, is_among, is_entered, unknown_behind, unless_unknown, without}
+use Rattle.gx_text.specs.Lent.{lent_texts}
+use Rattle.gx_repo.specs.Refs.{is_ref_held, shown_ref}
 use Rattle.gx_repo.specs.declared.fault.DropFault.{DropFault}
 use Rattle.gx_repo.specs.declared.fault.DropFault.TheVariants.{OutOfMemory, UnknownRef}
 use Rattle.gx_repo.specs.declared.refs.Ref.{Ref as HeldRef}
@@ -38,11 +38,11 @@ among-push (x ∷ xs) n name = by (same_bytes x name) (same_bytes n name) (among
 
 -- what was kept of the refs as they are held
 pub kept : {A : Type 0} (held : BTreeSet (Bor Bytes)) (names : List Bytes) (refs : List (HeldRef A)) → AreIn held names
-    → map shown_ref (filter (λ ref. not (is_in held ref.name.items)) refs) ≡ without names (map shown_ref refs)
+    → map shown_ref (filter (λ ref. not (is_entered held ref.name.items)) refs) ≡ without names (map shown_ref refs)
 kept held names [] h = refl
-kept {A} held names (r ∷ rs) h = by (is_in held r.name.items) (is_among names r.name.items) (h r.name.items) (kept held names rs h) where
-  by : (a b : Bool) → a ≡ b → map shown_ref (filter (λ (ref : HeldRef A). not (is_in held ref.name.items)) rs) ≡ without names (map shown_ref rs)
-      → map shown_ref (cond (not a) (r ∷ filter (λ (ref : HeldRef A). not (is_in held ref.name.items)) rs) (filter (λ (ref : HeldRef A). not (is_in held ref.name.items)) rs))
+kept {A} held names (r ∷ rs) h = by (is_entered held r.name.items) (is_among names r.name.items) (h r.name.items) (kept held names rs h) where
+  by : (a b : Bool) → a ≡ b → map shown_ref (filter (λ (ref : HeldRef A). not (is_entered held ref.name.items)) rs) ≡ without names (map shown_ref rs)
+      → map shown_ref (cond (not a) (r ∷ filter (λ (ref : HeldRef A). not (is_entered held ref.name.items)) rs) (filter (λ (ref : HeldRef A). not (is_entered held ref.name.items)) rs))
       ≡ cond (not b) (shown_ref r ∷ without names (map shown_ref rs)) (without names (map shown_ref rs))
   by true true e k = k
   by false false e k = ap (λ rs. shown_ref r ∷ rs) k
@@ -53,15 +53,15 @@ kept {A} held names (r ∷ rs) h = by (is_in held r.name.items) (is_among names 
 
 -- the first names are held, and the others are left
 pub record Entered (refs : List Ref) (held : BTreeSet (Bor Bytes)) (names : List (Bor Bytes)) (i : ℕ) : Type 0 where
-  pub are : AreIn held (lent_names (take i names))
-  pub rest : unknown_behind refs (lent_names (take i names)) (lent_names (drop i names)) ≡ unknown_behind refs [] (lent_names names)
+  pub are : AreIn held (lent_texts (take i names))
+  pub rest : unknown_behind refs (lent_texts (take i names)) (lent_texts (drop i names)) ≡ unknown_behind refs [] (lent_texts names)
 
 pub Entered-none : (refs : List Ref) (held : BTreeSet (Bor Bytes)) (names : List (Bor Bytes)) → held.keys ≡ [] → Entered refs held names 0
 Entered-none refs held names e = record { are = λ name. ap (list_any (is_at (λ (n : Bor Bytes). byte_cmp name n.now))) e; rest = refl }
 
-pub Entered-all : (refs : List Ref) (held : BTreeSet (Bor Bytes)) (names : List (Bor Bytes)) (i : ℕ) → length names ≤ i → Entered refs held names i → (unknown_behind refs [] (lent_names names) ≡ None) × AreIn held (lent_names names)
+pub Entered-all : (refs : List Ref) (held : BTreeSet (Bor Bytes)) (names : List (Bor Bytes)) (i : ℕ) → length names ≤ i → Entered refs held names i → (unknown_behind refs [] (lent_texts names) ≡ None) × AreIn held (lent_texts names)
 Entered-all refs held names i le h =
-    (sym h.rest ∙ ap (λ ns. unknown_behind refs (lent_names (take i names)) (lent_names ns)) (drop_of_length-le names le), subst (λ ns. AreIn held (lent_names ns)) (take_all i names le) h.are)
+    (sym h.rest ∙ ap (λ ns. unknown_behind refs (lent_texts (take i names)) (lent_texts ns)) (drop_of_length-le names le), subst (λ ns. AreIn held (lent_texts ns)) (take_all i names le) h.are)
 
 abbrev lent : Bytes → Bor Bytes
 lent name = record { ref_ptr = (0, 0); now = name }
@@ -71,37 +71,37 @@ module _ (refs : List Ref) (names : List (Bor Bytes)) (i : ℕ) (d : Bor Bytes) 
   next = get_or names i d
 
   abbrev done : List Bytes
-  done = lent_names (take i names)
+  done = lent_texts (take i names)
 
-  done_more : lent_names (take (i + 1) names) ≡ done ++ next.now ∷ []
-  done_more = ap lent_names (take_more names i d lt) ∙ map-append (λ n. n.now) (take i names) (next ∷ [])
+  done_more : lent_texts (take (i + 1) names) ≡ done ++ next.now ∷ []
+  done_more = ap lent_texts (take_more names i d lt) ∙ map-append (λ n. n.now) (take i names) (next ∷ [])
 
-  at_next : (b : Bool) → (is_held refs next.now && not (is_among done next.now)) ≡ b
-      → unknown_behind refs done (lent_names (drop i names)) ≡ cond b (unknown_behind refs (done ++ next.now ∷ []) (lent_names (drop (i + 1) names))) (Some (i + 1))
+  at_next : (b : Bool) → (is_ref_held refs next.now && not (is_among done next.now)) ≡ b
+      → unknown_behind refs done (lent_texts (drop i names)) ≡ cond b (unknown_behind refs (done ++ next.now ∷ []) (lent_texts (drop (i + 1) names))) (Some (i + 1))
   at_next b e =
-      ap (λ ns. unknown_behind refs done (lent_names ns)) (drop_more names i d lt)
-      ∙ ap (λ t. cond t (unknown_behind refs (done ++ next.now ∷ []) (lent_names (drop (i + 1) names))) (Some (length done + 1))) e
-      ∙ ap (λ n. cond b (unknown_behind refs (done ++ next.now ∷ []) (lent_names (drop (i + 1) names))) (Some (n + 1))) (length-map (take i names) (λ n. n.now) ∙ length-take-le i names (omega (arith, lt)))
+      ap (λ ns. unknown_behind refs done (lent_texts ns)) (drop_more names i d lt)
+      ∙ ap (λ t. cond t (unknown_behind refs (done ++ next.now ∷ []) (lent_texts (drop (i + 1) names))) (Some (length done + 1))) e
+      ∙ ap (λ n. cond b (unknown_behind refs (done ++ next.now ∷ []) (lent_texts (drop (i + 1) names))) (Some (n + 1))) (length-map (take i names) (λ n. n.now) ∙ length-take-le i names (omega (arith, lt)))
 
-  refused : (held : BTreeSet (Bor Bytes)) → Entered refs held names i → (is_held refs next.now && not (is_among done next.now)) ≡ false → unknown_behind refs [] (lent_names names) ≡ Some (i + 1)
+  refused : (held : BTreeSet (Bor Bytes)) → Entered refs held names i → (is_ref_held refs next.now && not (is_among done next.now)) ≡ false → unknown_behind refs [] (lent_texts names) ≡ Some (i + 1)
   refused held h e = sym h.rest ∙ at_next false e
 
   -- no ref has the next name
-  pub refused_new : (held : BTreeSet (Bor Bytes)) → Entered refs held names i → is_held refs next.now ≡ false → unknown_behind refs [] (lent_names names) ≡ Some (i + 1)
+  pub refused_new : (held : BTreeSet (Bor Bytes)) → Entered refs held names i → is_ref_held refs next.now ≡ false → unknown_behind refs [] (lent_texts names) ≡ Some (i + 1)
   refused_new held h e = refused held h (ap (λ b. b && not (is_among done next.now)) e)
 
   -- the next name was given before
-  pub refused_again : (held : BTreeSet (Bor Bytes)) → Entered refs held names i → is_held refs next.now ≡ true → not (is_in held next.now) ≡ false → unknown_behind refs [] (lent_names names) ≡ Some (i + 1)
+  pub refused_again : (held : BTreeSet (Bor Bytes)) → Entered refs held names i → is_ref_held refs next.now ≡ true → not (is_entered held next.now) ≡ false → unknown_behind refs [] (lent_texts names) ≡ Some (i + 1)
   refused_again held h e f = refused held h (ap (λ b. b && not (is_among done next.now)) e ∙ sym (ap not (h.are next.now)) ∙ f)
 
   -- the next name is entered
-  pub Entered-next : (held now : BTreeSet (Bor Bytes)) → Entered refs held names i → is_held refs next.now ≡ true → not (is_in held next.now) ≡ true
-      → ((name : Bor Bytes) → is_in now name.now ≡ cond (is_at (λ (n : Bor Bytes). byte_cmp next.now n.now) name) true (is_in held name.now)) → Entered refs now names (i + 1)
+  pub Entered-next : (held now : BTreeSet (Bor Bytes)) → Entered refs held names i → is_ref_held refs next.now ≡ true → not (is_entered held next.now) ≡ true
+      → ((name : Bor Bytes) → is_entered now name.now ≡ cond (is_at (λ (n : Bor Bytes). byte_cmp next.now n.now) name) true (is_entered held name.now)) → Entered refs now names (i + 1)
   Entered-next held now h e f g = record {
     are = λ name.
-        g (lent name) ∙ ap (λ b. cond b true (is_in held name)) (is_eq-slice_cmp next.now name) ∙ ap (λ b. cond (same_bytes next.now name) true b) (h.are name)
+        g (lent name) ∙ ap (λ b. cond b true (is_entered held name)) (is_eq-slice_cmp next.now name) ∙ ap (λ b. cond (same_bytes next.now name) true b) (h.are name)
         ∙ sym (among-push done next.now name) ∙ ap (λ ns. is_among ns name) (sym done_more);
-    rest = ap (λ ns. unknown_behind refs ns (lent_names (drop (i + 1) names))) done_more ∙ sym (at_next true (ap (λ b. b && not (is_among done next.now)) e ∙ sym (ap not (h.are next.now)) ∙ f)) ∙ h.rest;
+    rest = ap (λ ns. unknown_behind refs ns (lent_texts (drop (i + 1) names))) done_more ∙ sym (at_next true (ap (λ b. b && not (is_among done next.now)) e ∙ sym (ap not (h.are next.now)) ∙ f)) ∙ h.rest;
   }
 
 -- ---- what is left
@@ -146,13 +146,13 @@ module _ {A : Type 0} (seen refs now : List (HeldRef A)) (held : BTreeSet (Bor B
   -- a name is unknown
   pub none_dropped : (fault : DropFault) → EntersNames (map shown_ref seen) held names (Err fault) → DropsFrom refs now names (Err fault)
   none_dropped OutOfMemory h = tt
-  none_dropped (UnknownRef number) h = one_unknown (lent_names names) (map shown_ref refs) number (ap (λ rs. unknown_behind (map shown_ref rs) [] (lent_names names)) (sym same) ∙ h)
+  none_dropped (UnknownRef number) h = one_unknown (lent_texts names) (map shown_ref refs) number (ap (λ rs. unknown_behind (map shown_ref rs) [] (lent_texts names)) (sym same) ∙ h)
 
   -- and otherwise those of all names are dropped
-  pub all_dropped : EntersNames (map shown_ref seen) held names (Ok tt) → now ≡ filter (λ ref. not (is_in held ref.name.items)) refs → dropped (lent_names names) (map shown_ref refs) ≡ Ok (map shown_ref now)
+  pub all_dropped : EntersNames (map shown_ref seen) held names (Ok tt) → now ≡ filter (λ ref. not (is_entered held ref.name.items)) refs → dropped (lent_texts names) (map shown_ref refs) ≡ Ok (map shown_ref now)
   all_dropped h e =
-      none_unknown (lent_names names) (map shown_ref refs) (ap (λ rs. unknown_behind (map shown_ref rs) [] (lent_names names)) (sym same) ∙ h.0)
-      ∙ ap Ok (sym (ap (map shown_ref) e ∙ kept held (lent_names names) refs h.1))
+      none_unknown (lent_texts names) (map shown_ref refs) (ap (λ rs. unknown_behind (map shown_ref rs) [] (lent_texts names)) (sym same) ∙ h.0)
+      ∙ ap Ok (sym (ap (map shown_ref) e ∙ kept held (lent_texts names) refs h.1))
 
 -- ---- the repository
 

@@ -10,7 +10,8 @@ use Rattle.gx_model.specs.Histories.Files.{FileMap, depth}
 use Rattle.gx_model.specs.Histories.Values.{sub_maps}
 use Rattle.gx_model.specs.Histories.{Record}
 use Rattle.gx_model.specs.Records.Sound.{AnyByRecursion, Holds, Keeps}
-use Rattle.gx_model.specs.Records.Growth.{all_trees_to, and_some, put, put_all, put_under, record_named, same_kind, same_object, tree_record, tree_records}
+use Rattle.gx_model.specs.Records.Growth.{all_trees_to, put, put_all, put_under, record_named, same_kind, same_object, tree_record, tree_records}
+use Rattle.std.specs.Option.{option_and_then}
 use Rattle.gx_model.proofs.Texts.PathTests.{first, is_true}
 use Rattle.gx_tree.specs.Writes.{map_name}
 use Rattle.gx_model.proofs.Records.Puts.{put_all-append}
@@ -81,11 +82,11 @@ put_last old new r e l = elim (put_cases old new r e) [
 
 -- ---- trees
 
-last_put : (o : Option (List Record)) (new : List Record) (r : Record) → and_some o (λ rs. put_all rs (r ∷ [])) ≡ Some new → Holds new r.kind r.name
+last_put : (o : Option (List Record)) (new : List Record) (r : Record) → option_and_then (λ rs. put_all rs (r ∷ [])) o ≡ Some new → Holds new r.kind r.name
 last_put None new r e = absurd (cc)
 last_put (Some rs) new r e = by (put rs r) refl e
   where
-    by : (o : Option (List Record)) → put rs r ≡ o → and_some o (λ now. put_all now []) ≡ Some new → Holds new r.kind r.name
+    by : (o : Option (List Record)) → put rs r ≡ o → option_and_then (λ now. put_all now []) o ≡ Some new → Holds new r.kind r.name
     by None f e = absurd (cc)
     by (Some now) f e = let same : now ≡ new = cc in put_holds rs new r (f ∙ ap Some same)
 

@@ -10,13 +10,12 @@ use Rattle.std.specs.declared.cmp.Ordering.{Ordering}
 use Rattle.std.specs.declared.cmp.Ordering.TheVariants.{Less, Equal, Greater}
 use Rattle.std.proofs.lemmas.Map.Text.{is_eq-slice_cmp}
 use Rattle.std.proofs.lemmas.List.{drop_more}
-use Rattle.gx_model.specs.Texts.{Bytes, same_bytes}
+use Rattle.gx_model.specs.Texts.{Bytes, byte_cmp, same_bytes}
 use Rattle.gx_model.specs.Records.Publishing.{Change, with_change, with_changes}
-use Rattle.gx_model.specs.Replay.{byte_cmp}
 use Rattle.gx_model.proofs.Texts.PathTests.{both, first, second, is_same, is_true}
 use Rattle.gx_model.proofs.Records.SortedRefs.{answers_rise, found_at, not_parted, order, put_there, same_text}
 use Rattle.gx_object.specs.declared.name.Name.{Name}
-use Rattle.gx_repo.specs.Refs.{IsNamedAt, are_held, shown_update, is_held, shown_ref}
+use Rattle.gx_repo.specs.Refs.{IsNamedAt, are_held, shown_update, shown_ref, is_ref_held}
 use Rattle.gx_repo.specs.declared.refs.Ref.{Ref}
 use Rattle.gx_repo.specs.declared.publishing.RefChange.{RefChange}
 
@@ -50,13 +49,13 @@ module _ {A : Type 0} (n : Bytes) (refs : List (Ref A)) where
       put_there shown_ref n object.bytes refs place past (record { name = (get_or refs place past).name; object = object }) (passes _ sorted) at.0 (same_cmp _ (at.1 past)) refl
 
 -- a ref whose place is known is held
-held_at : {A : Type 0} (n : Bytes) (refs : List (Ref A)) (place : ℕ) → IsTrue (is_sorted byte_cmp (map shown_ref refs)) → IsNamedAt refs n place → true ≡ is_held (map shown_ref refs) n
+held_at : {A : Type 0} (n : Bytes) (refs : List (Ref A)) (place : ℕ) → IsTrue (is_sorted byte_cmp (map shown_ref refs)) → IsNamedAt refs n place → true ≡ is_ref_held (map shown_ref refs) n
 held_at n [] place sorted at = let lt = at.0 in absurd (omega arith)
 held_at n (r ∷ rs) place sorted at = ap is_some (object_at n (r ∷ rs) place r sorted at)
 
 -- so a search tells whether one is held
 pub held_where : {A : Type 0} (n : Bytes) (refs : List (Ref A)) (r : Result ℕ ℕ) → IsTrue (is_sorted byte_cmp (map shown_ref refs)) → IfOk r (IsNamedAt refs n)
-    → OnErr r (lookup (same_bytes n) (map shown_ref refs) ≡ None) → is_ok r ≡ is_held (map shown_ref refs) n
+    → OnErr r (lookup (same_bytes n) (map shown_ref refs) ≡ None) → is_ok r ≡ is_ref_held (map shown_ref refs) n
 held_where n refs (Ok place) sorted at none = held_at n refs place sorted at
 held_where n refs (Err place) sorted at none = sym (ap is_some none)
 
@@ -64,14 +63,14 @@ held_where n refs (Err place) sorted at none = sym (ap is_some none)
 pub still_held : (n object : Bytes) (refs : List (Bytes × Bytes)) (changes : List Change) → are_held refs changes ≡ true → are_held (put byte_cmp n object refs) changes ≡ true
 still_held n object refs [] h = refl
 still_held n object refs (c ∷ cs) h =
-    let at : T (is_held (put byte_cmp n object refs) c.0) = held_put (first _ _ (passes _ h)) in
-    is_true _ (both _ _ at (passes _ (still_held n object refs cs (is_true _ (second (is_held refs c.0) _ (passes _ h))))))
+    let at : T (is_ref_held (put byte_cmp n object refs) c.0) = held_put (first _ _ (passes _ h)) in
+    is_true _ (both _ _ at (passes _ (still_held n object refs cs (is_true _ (second (is_ref_held refs c.0) _ (passes _ h))))))
   where
     found : (m : Bytes) (rs : List (Bytes × Bytes)) → find byte_cmp m rs ≡ lookup (same_bytes m) rs
     found m [] = refl
     found m (r ∷ rs) = λ i. cond (is_eq-slice_cmp m r.0 i) (Some r.1) (found m rs i)
 
-    held_put : T (is_held refs c.0) → T (is_held (put byte_cmp n object refs) c.0)
+    held_put : T (is_ref_held refs c.0) → T (is_ref_held (put byte_cmp n object refs) c.0)
     held_put t = subst (λ o. T (is_some o)) (sym (find-put byte_cmp order c.0 n object refs) ∙ found c.0 (put byte_cmp n object refs)) (by (eq_by_cmp byte_cmp c.0 n))
       where
         by : (b : Bool) → T (is_some (cond b (Some object) (find byte_cmp c.0 refs)))
@@ -79,14 +78,14 @@ still_held n object refs (c ∷ cs) h =
         by false = subst (λ o. T (is_some o)) (sym (found c.0 refs)) t
 
 -- of the changes that are left, the next is looked at first
-pub next_is_held : {A : Type 0} (refs : List (Ref A)) (changes : List RefChange) (i : ℕ) (d : RefChange) (b : Bool) → i < length changes → is_held (map shown_ref refs) (get_or changes i d).name.now ≡ b
+pub next_is_held : {A : Type 0} (refs : List (Ref A)) (changes : List RefChange) (i : ℕ) (d : RefChange) (b : Bool) → i < length changes → is_ref_held (map shown_ref refs) (get_or changes i d).name.now ≡ b
     → are_held (map shown_ref refs) (map shown_update (drop i changes)) ≡ (b && are_held (map shown_ref refs) (map shown_update (drop (i + 1) changes)))
 next_is_held refs changes i d b lt e =
     ap (λ cs. are_held (map shown_ref refs) (map shown_update cs)) (drop_more changes i d lt) ∙ ap (λ a. a && are_held (map shown_ref refs) (map shown_update (drop (i + 1) changes))) e
 
 -- so a ref of its name is held where those of all that are left are
 pub held_next : {A : Type 0} (refs : List (Ref A)) (changes : List RefChange) (i : ℕ) (d : RefChange) → i < length changes → IsTrue (are_held (map shown_ref refs) (map shown_update (drop i changes)))
-    → IsTrue (is_held (map shown_ref refs) (get_or changes i d).name.now)
+    → IsTrue (is_ref_held (map shown_ref refs) (get_or changes i d).name.now)
 held_next refs changes i d lt h = is_true _ (first _ _ (passes _ (sym (next_is_held refs changes i d _ lt refl) ∙ h)))
 
 -- one change more is made, and the others are left
@@ -105,7 +104,7 @@ module _ {A : Type 0} (changes : List RefChange) (i : ℕ) (d : RefChange) (refs
       let change = shown_update (get_or changes i d) in
       let all = passes _ (subst (λ cs. IsTrue (are_held (map shown_ref refs) cs)) next h) in
       subst (λ rs. IsTrue (are_held rs (map shown_update (drop (i + 1) changes)))) (sym made)
-      (still_held change.0 change.1 (map shown_ref refs) (map shown_update (drop (i + 1) changes)) (is_true _ (second (is_held (map shown_ref refs) change.0) _ all)))
+      (still_held change.0 change.1 (map shown_ref refs) (map shown_update (drop (i + 1) changes)) (is_true _ (second (is_ref_held (map shown_ref refs) change.0) _ all)))
 
   pub next_left : (all : List (Bytes × Bytes)) → with_changes (map shown_ref refs) (map shown_update (drop i changes)) ≡ all → with_changes (map shown_ref now) (map shown_update (drop (i + 1) changes)) ≡ all
   next_left all e = ap (λ rs. with_changes rs (map shown_update (drop (i + 1) changes))) made ∙ sym (ap (with_changes (map shown_ref refs)) next) ∙ e

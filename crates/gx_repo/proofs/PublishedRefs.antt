@@ -1,12 +1,12 @@
 -- Why changes of refs are refused.
 use Rattle.std.proofs.Common.{◌≡◌, List, Some, None, Result, Ok, Err, OnErr, ap}
 use Rattle.gx_model.specs.Histories.{Records}
-use Rattle.gx_model.specs.Faults.{IsFaultOf}
+use Rattle.gx_model.specs.Faults.{IsFaultOf, unless}
 use Rattle.gx_repo.specs.declared.fault.PublishFault.{PublishFault}
 use Rattle.gx_repo.specs.declared.fault.PublishFault.TheVariants.{OutOfMemory}
 use Rattle.gx_repo.specs.declared.fault.PublishFault.TheVariants as faults
 use Rattle.gx_repo.specs.Publishing.{fault_of}
-use Rattle.gx_model.specs.Records.Publishing.{Change, changes_fault, published, unless, with_changes}
+use Rattle.gx_model.specs.Records.Publishing.{Change, changes_fault, published, with_changes}
 
 -- what is refused is refused by the first fault
 pub refused : (r : Records) (changes : List Change) (fault : PublishFault) → changes_fault r.records changes ≡ Some (fault_of fault) → IsFaultOf (fault_of fault) (published r changes)

@@ -9,8 +9,7 @@ use Rattle.std.specs.declared.cmp.Ordering.TheVariants.{Less, Equal, Greater}
 use Rattle.std.specs.declared.vec.Vec.{Vec}
 use Rattle.std.specs.FinMap.Entries.{below_all, by_order, is_sorted, put}
 use Rattle.std.proofs.lemmas.List.{drop_more, map-append}
-use Rattle.gx_model.specs.Texts.{Bytes}
-use Rattle.gx_model.specs.Replay.{byte_cmp}
+use Rattle.gx_model.specs.Texts.{Bytes, byte_cmp}
 use Rattle.gx_model.specs.Records.Publishing.{with_changes}
 use Rattle.gx_model.proofs.Texts.PathTests.{first, second}
 use Rattle.gx_model.proofs.Records.SortedRefs.{order}

@@ -12,8 +12,7 @@ use Rattle.std.specs.declared.cmp.Ordering.{Ordering}
 use Rattle.std.specs.declared.cmp.Ordering.TheVariants.{Less, Equal, Greater}
 use Rattle.std.proofs.lemmas.Bool.{false≢true}
 use Rattle.gx_model.specs.Records.Publishing.{Ref}
-use Rattle.gx_model.specs.Replay.{byte_cmp}
-use Rattle.gx_model.specs.Texts.{Bytes, same_bytes}
+use Rattle.gx_model.specs.Texts.{Bytes, byte_cmp, same_bytes}
 use Rattle.gx_model.proofs.Texts.PathTests.{both, first, is_same, is_true, same_is, second}
 use Rattle.gx_model.proofs.Texts.TextMaps.{lookup_is, none_below, order, same_text}
 use Rattle.gx_repo.specs.Refs.{object_named, shown_ref}

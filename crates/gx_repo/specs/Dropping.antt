@@ -6,12 +6,12 @@ use Rattle.std.specs.List.{filter, list_any}
 use Rattle.gx_model.specs.Histories.{Records}
 use Rattle.gx_model.specs.Laws.RepositoryLaws.{values_of}
 use Rattle.gx_model.specs.Records.Publishing.{Ref}
-use Rattle.gx_model.specs.Replay.{byte_cmp}
-use Rattle.gx_model.specs.Texts.{Bytes, same_bytes}
-use Rattle.gx_repo.specs.Refs.{is_held, shown_ref}
+use Rattle.gx_model.specs.Texts.{Bytes, byte_cmp, same_bytes}
+use Rattle.gx_repo.specs.Refs.{is_ref_held, shown_ref}
 use Rattle.gx_repo.specs.declared.fault.DropFault.{DropFault}
 use Rattle.gx_repo.specs.declared.fault.DropFault.TheVariants.{OutOfMemory, UnknownRef}
 use Rattle.gx_repo.specs.declared.refs.Ref.{Ref as HeldRef}
+use Rattle.gx_text.specs.Lent.{lent_texts}
 
 -- whether a name is one of these
 abbrev pub is_among : List Bytes → Bytes → Bool
@@ -24,7 +24,7 @@ without names refs = filter (λ ref. not (is_among names ref.0)) refs
 -- of the names behind these, the number, from 1, of the first that no ref has or that is one of those before it
 abbrev pub unknown_behind : List Ref → List Bytes → List Bytes → Option ℕ
 unknown_behind refs before [] = None
-unknown_behind refs before (n ∷ ns) = if is_held refs n && not (is_among before n) then unknown_behind refs (before ++ n ∷ []) ns else Some (length before + 1)
+unknown_behind refs before (n ∷ ns) = if is_ref_held refs n && not (is_among before n) then unknown_behind refs (before ++ n ∷ []) ns else Some (length before + 1)
 
 -- the refs, unless a name is unknown
 abbrev pub unless_unknown : Option ℕ → List Ref → Result (List Ref) ℕ
@@ -38,10 +38,6 @@ dropped names refs = unless_unknown (unknown_behind refs [] names) (without name
 
 -- ---- calls
 
--- names without where they lie in memory
-abbrev pub lent_names : List (Bor Bytes) → List Bytes
-lent_names = map (λ name. name.now)
-
 -- the refs are those that are left, or this is the first name that is unknown
 abbrev pub Drops : List Ref → List Ref → List Bytes → Result (Unit {0}) DropFault → Type 0
 Drops old new names (Ok done) = dropped names old ≡ Ok new
@@ -50,26 +46,26 @@ Drops old new names (Err (UnknownRef number)) = dropped names old ≡ Err number
 
 -- the same of refs as they are held
 abbrev pub DropsFrom : {A : Type 0} → List (HeldRef A) → List (HeldRef A) → List (Bor Bytes) → Result (Unit {0}) DropFault → Type 0
-DropsFrom old new names answer = Drops (map shown_ref old) (map shown_ref new) (lent_names names) answer
+DropsFrom old new names answer = Drops (map shown_ref old) (map shown_ref new) (lent_texts names) answer
 
 -- the same of a repository
 abbrev pub DropsRefs : Records → Records → List (Bor Bytes) → Result (Unit {0}) DropFault → Type 0
-DropsRefs old new names answer = Drops old.refs new.refs (lent_names names) answer
+DropsRefs old new names answer = Drops old.refs new.refs (lent_texts names) answer
 
 -- the values of the history stay
 abbrev pub KeepsValues : Records → Records → Type 0
 KeepsValues old new = values_of new ≡ values_of old
 
 -- whether a name is held in a set
-abbrev pub is_in : BTreeSet (Bor Bytes) → Bytes → Bool
-is_in held name = contains_by (λ n. byte_cmp name n.now) held
+abbrev pub is_entered : BTreeSet (Bor Bytes) → Bytes → Bool
+is_entered held name = contains_by (λ n. byte_cmp name n.now) held
 
 -- these names are held in a set, and no others
 abbrev pub AreIn : BTreeSet (Bor Bytes) → List Bytes → Type 0
-AreIn held names = (name : Bytes) → is_in held name ≡ is_among names name
+AreIn held names = (name : Bytes) → is_entered held name ≡ is_among names name
 
 -- each name is another ref's, and these alone are held in a set; or this is the first name that is unknown
 abbrev pub EntersNames : List Ref → BTreeSet (Bor Bytes) → List (Bor Bytes) → Result (Unit {0}) DropFault → Type 0
-EntersNames refs held names (Ok done) = (unknown_behind refs [] (lent_names names) ≡ None) × AreIn held (lent_names names)
+EntersNames refs held names (Ok done) = (unknown_behind refs [] (lent_texts names) ≡ None) × AreIn held (lent_texts names)
 EntersNames refs held names (Err OutOfMemory) = ⊤
-EntersNames refs held names (Err (UnknownRef number)) = unknown_behind refs [] (lent_names names) ≡ Some number
+EntersNames refs held names (Err (UnknownRef number)) = unknown_behind refs [] (lent_texts names) ≡ Some number

@@ -3,7 +3,6 @@ use Rattle.std.specs.Prelude.{◌≡◌, ℕ, ◌<◌, Bool, List, length, get_o
 use Rattle.std.specs.Borrow.{Bor}
 use Rattle.std.specs.List.{list_all}
 use Rattle.std.specs.Map.{lookup}
-use Rattle.std.specs.Option.{option_map}
 use Rattle.std.specs.declared.vec.Vec.{Vec}
 use Rattle.gx_model.specs.declared.objects.Kind.{Kind}
 use Rattle.gx_model.specs.declared.objects.Kind.TheVariants as kind
@@ -14,6 +13,7 @@ use Rattle.gx_model.specs.Records.Lookups.{first_named}
 use Rattle.gx_object.specs.declared.name.Name.{Name}
 use Rattle.gx_repo.specs.declared.refs.Ref.{Ref}
 use Rattle.gx_repo.specs.declared.publishing.RefChange.{RefChange}
+use Rattle.gx_object.specs.Parts.{bytes_if}
 
 -- a ref as it is held
 abbrev pub shown_ref : {A : Type 0} → Ref A → Bytes × Bytes
@@ -35,29 +35,25 @@ shown_update change = (change.name.now, change.target.bytes)
 abbrev pub IsNamedAt : {A : Type 0} → List (Ref A) → Bytes → ℕ → Type 0
 IsNamedAt {A} refs name place = (place < length refs) × ((past : Ref A) → (get_or refs place past).name.items ≡ name)
 
--- the bytes of a name, where one is found
-abbrev pub bytes_found : Option Name → Option Bytes
-bytes_found found = option_map (λ n. n.bytes) found
-
 -- the object of the ref of this name
 abbrev pub object_named : List (Bytes × Bytes) → Bytes → Option Bytes
 object_named refs name = lookup (same_bytes name) refs
 
 -- what is found is the object of the ref of this name
 abbrev pub FindsObject : List (Bytes × Bytes) → Bytes → Option Name → Type 0
-FindsObject refs name found = bytes_found found ≡ object_named refs name
+FindsObject refs name found = bytes_if found ≡ object_named refs name
 
 -- what is found is the object of the first of these names that is a ref's
 abbrev pub FindsFirst : List (Bytes × Bytes) → List Bytes → Option Name → Type 0
-FindsFirst refs names found = bytes_found found ≡ first_named refs names
+FindsFirst refs names found = bytes_if found ≡ first_named refs names
 
 -- a ref of this name is held
-abbrev pub is_held : List (Bytes × Bytes) → Bytes → Bool
-is_held refs name = is_some (object_named refs name)
+abbrev pub is_ref_held : List (Bytes × Bytes) → Bytes → Bool
+is_ref_held refs name = is_some (object_named refs name)
 
 -- each of these changes is one of a ref that is held
 abbrev pub are_held : List (Bytes × Bytes) → List (Bytes × Bytes) → Bool
-are_held refs changes = list_all (λ change. is_held refs change.0) changes
+are_held refs changes = list_all (λ change. is_ref_held refs change.0) changes
 
 -- a tag's body is that of a tag's parts
 abbrev pub HasTagParts : Kind → Bytes → Type 0

@@ -8,10 +8,10 @@ use Rattle.std.specs.Borrow.{Bor}
 use Rattle.std.specs.Ordering.{is_lt}
 use Rattle.gx_model.specs.Objects.{hex}
 use Rattle.gx_model.specs.Records.Publishing.{Ref}
-use Rattle.gx_model.specs.Replay.{byte_cmp}
-use Rattle.gx_model.specs.Texts.{Bytes, same_bytes}
+use Rattle.gx_model.specs.Texts.{Bytes, byte_cmp, same_bytes}
 use Rattle.gx_object.specs.declared.name.Name.{Name}
-use Rattle.gx_repo.specs.Refs.{bytes_found, object_named}
+use Rattle.gx_repo.specs.Refs.{object_named}
+use Rattle.gx_object.specs.Parts.{bytes_if}
 
 -- the objects that a ref held and holds
 abbrev pub Objects : Type 0
@@ -50,7 +50,7 @@ line_where_they_differ name (Some objects) = change_line (name, objects)
 
 -- a ref's objects at two times, where they differ
 abbrev pub differing : Option Name → Option Name → Option Objects
-differing old new = where_they_differ (bytes_found old) (bytes_found new)
+differing old new = where_they_differ (bytes_if old) (bytes_if new)
 
 -- the object of the first ref, where it has this name
 abbrev pub object_first : List Ref → Bytes → Option Bytes

@@ -1,8 +1,8 @@
 //! Refs that are dropped. Source: git-update-ref(1), "delete".
 ghost use Rattle.std.specs.Prelude.{◌≡◌, ◌+◌, ◌<◌, ◌^◌, [], map, IsTrue, OnErr};
 ghost use Rattle.std.specs.FinMap.Entries.{is_sorted};
-ghost use Rattle.gx_model.specs.Replay.{byte_cmp};
-ghost use Rattle.gx_repo.specs.Dropping.{DropsFrom, DropsRefs, EntersNames, KeepsValues, is_in};
+ghost use Rattle.gx_model.specs.Texts.{byte_cmp};
+ghost use Rattle.gx_repo.specs.Dropping.{DropsFrom, DropsRefs, EntersNames, KeepsValues, is_entered};
 ghost use Rattle.gx_repo.specs.Refs.{shown_ref};
 ghost use Rattle.gx_repo.specs.declared.fault.DropFault.TheVariants.{UnknownRef};
 
@@ -83,7 +83,7 @@ fn unknown(place: usize) -> DropFault
 
 /// Whether a name was entered.
 fn is_in<A: Allocator + Copy>(entered: &BTreeSet<&[u8], A>, name: &[u8]) -> bool
-    ensures { result ≡ is_in entered.now name.now }
+    ensures { result ≡ is_entered entered.now name.now }
 {
     entered.contains(name)
 }

@@ -93,9 +93,9 @@ impl<T: Drop> From<AllocFailed<T>> for DropFault {
 
 impl From<AddFault> for FileFault {
     ghost use Rattle.std.specs.Prelude.{◌≡◌};
-    ghost use Rattle.gx_repo.specs.FileFaults.{of_add};
+    ghost use Rattle.gx_repo.specs.Records.{add_fault};
 
-    ghost from_gives = { λ from fault. fault ≡ of_add from };
+    ghost from_gives = { λ from fault. fault ≡ add_fault from };
 
     fn from(fault: AddFault) -> FileFault {
         match fault {

@@ -1,7 +1,7 @@
 //! Changes of refs. Source: git-check-ref-format(1).
 ghost use Rattle.std.specs.Prelude.{◌≡◌, [], map, IsTrue, IfOk, OnErr, OnOk};
 ghost use Rattle.std.specs.FinMap.Entries.{is_sorted};
-ghost use Rattle.gx_model.specs.Replay.{byte_cmp};
+ghost use Rattle.gx_model.specs.Texts.{byte_cmp};
 ghost use Rattle.gx_repo.specs.Refs.{are_held, shown_update, shown_ref, ref_of};
 ghost use Rattle.gx_repo.specs.Publishing.{Enters, EntersAll, MakesChanges};
 

@@ -1,7 +1,7 @@
 //! Refs that are kept apart from a repository, as those of an earlier time.
 ghost use Rattle.std.specs.Prelude.{◌≡◌, map, IfOk, IsTrue};
 ghost use Rattle.std.specs.FinMap.Entries.{is_sorted};
-ghost use Rattle.gx_model.specs.Replay.{byte_cmp};
+ghost use Rattle.gx_model.specs.Texts.{byte_cmp};
 ghost use Rattle.gx_repo.specs.Refs.{shown_ref};
 
 use crate::fault::OutOfMemory;
@@ -20,7 +20,7 @@ pub struct RefList<A: Allocator> {
 impl<A: Allocator> Model for RefList<A> {
     ghost use Rattle.std.specs.Prelude.{List, ℕ, map, IsTrue};
     ghost use Rattle.std.specs.FinMap.Entries.{is_sorted};
-    ghost use Rattle.gx_model.specs.Replay.{byte_cmp};
+    ghost use Rattle.gx_model.specs.Texts.{byte_cmp};
     ghost use Rattle.gx_repo.specs.Refs.{shown_ref};
 
     ghost Value = { List (List ℕ × List ℕ) };

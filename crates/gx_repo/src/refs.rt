@@ -4,8 +4,8 @@ ghost use Rattle.std.specs.FinMap.Entries.{is_sorted, put};
 ghost use Rattle.std.specs.Iterator.{item_count};
 ghost use Rattle.std.specs.Map.Iter.{TakesFirst};
 ghost use Rattle.gx_model.specs.Revisions.Denotation.{ref_names};
-ghost use Rattle.gx_model.specs.Replay.{byte_cmp};
-ghost use Rattle.gx_repo.specs.Refs.{FindsFirst, FindsObject, IsNamedAt, is_held, shown_ref, object_named, shown_lent_ref};
+ghost use Rattle.gx_model.specs.Texts.{byte_cmp};
+ghost use Rattle.gx_repo.specs.Refs.{FindsFirst, FindsObject, IsNamedAt, shown_ref, object_named, shown_lent_ref, is_ref_held};
 
 use gx_object::Name;
 use std::alloc::Allocator;
@@ -146,7 +146,7 @@ fn place_of<A: Allocator + Copy>(refs: &[Ref<A>], name: &[u8]) -> Result<usize, 
 /// Whether a ref of this name is held.
 pub(crate) fn is_held<A: Allocator + Copy>(refs: &[Ref<A>], name: &[u8]) -> bool
     requires sorted { IsTrue (is_sorted byte_cmp (map shown_ref refs.now)) }
-    ensures { result ≡ is_held (map shown_ref refs.now) name.now }
+    ensures { result ≡ is_ref_held (map shown_ref refs.now) name.now }
 {
     place_of(refs, name).is_ok()
 }
@@ -154,7 +154,7 @@ pub(crate) fn is_held<A: Allocator + Copy>(refs: &[Ref<A>], name: &[u8]) -> bool
 /// Sets the object of a ref that is held. Takes no memory.
 pub(crate) fn set_object<A: Allocator + Copy>(refs: &mut [Ref<A>], name: &[u8], object: Name)
     requires sorted { IsTrue (is_sorted byte_cmp (map shown_ref refs.now)) }
-    requires held { IsTrue (is_held (map shown_ref refs.now) name.now) }
+    requires held { IsTrue (is_ref_held (map shown_ref refs.now) name.now) }
     ensures { map shown_ref refs.new ≡ put byte_cmp name.now object.bytes (map shown_ref refs.old) }
 {
     let Ok(place) = place_of(refs, name) else {

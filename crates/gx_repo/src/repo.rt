@@ -3,7 +3,7 @@ ghost use Rattle.std.specs.Prelude.{◌≡◌, ◌≤◌, [], length, map, take,
 ghost use Rattle.std.specs.FinMap.Entries.{is_sorted};
 ghost use Rattle.std.specs.List.{slice_range};
 ghost use Rattle.gx_model.specs.declared.objects.Kind.TheVariants as kinds;
-ghost use Rattle.gx_model.specs.Replay.{byte_cmp};
+ghost use Rattle.gx_model.specs.Texts.{byte_cmp};
 ghost use Rattle.gx_model.specs.Revisions.Denotation.{ref_names};
 ghost use Rattle.gx_model.specs.Objects.{IsTagText, TagParts as Parts};
 ghost use Rattle.gx_model.specs.Stores.StoreReading.{is_target_of_kind};
@@ -13,14 +13,14 @@ ghost use Rattle.gx_model.specs.Texts.RefNames.{is_tag_name};
 ghost use Rattle.gx_model.specs.Laws.RepositoryLaws.{with_records};
 ghost use Rattle.gx_model.specs.Records.Sound.{Holds, IsLinked, IsNamedMap, IsSound, Keeps};
 ghost use Rattle.gx_model.specs.Histories.Values.{blob_value, is_optional_encoding};
-ghost use Rattle.gx_object.specs.Parts.{commit_parts, tag_parts};
+ghost use Rattle.gx_object.specs.Parts.{bytes_if, commit_parts, tag_parts};
 ghost use Rattle.gx_tree.specs.Named.{IsAtHome};
 ghost use Rattle.gx_tree.specs.StoreFaults.{tree_fault};
 ghost use Rattle.gx_repo.specs.Additions.{IsWriteFault};
 ghost use Rattle.gx_repo.specs.Publishing.{IsAgainstChange, IsAgainstFirst, SetsRefs};
 ghost use Rattle.gx_model.specs.Records.Publishing.{change_fault, changes_fault};
 ghost use Rattle.gx_repo.specs.GivenBytes.{IsInText, bytes_given};
-ghost use Rattle.gx_repo.specs.Refs.{FindsFirst, FindsObject, HasTagParts, TellsOwnRef, shown_update, bytes_found, shown_ref};
+ghost use Rattle.gx_repo.specs.Refs.{FindsFirst, FindsObject, HasTagParts, TellsOwnRef, shown_update, shown_ref};
 ghost use Rattle.gx_repo.specs.Rooms.{room_below};
 ghost use Rattle.gx_repo.specs.Calls.{AddsAnew, AddsCommit, AddsObject, AddsTag, AddsTree, GainsObject, GainsTree, GainsValue, HasShortPathsBelow, NamesObject, NamesValue, commit_given, tag_given, tree_given};
 ghost use Rattle.gx_repo.specs.Objects.{AreTargets, HoldsEach};
@@ -113,7 +113,7 @@ impl<N: Namer, A: Allocator + Copy> Repo<N, A> {
     ///
     /// Cost: a look-up for each tag, and its body. Takes no memory. Source: gitrevisions(7), on `^{}`.
     pub fn peel(&self, name: &Name) -> Option<Name>
-        ensures commit { bytes_found result ≡ commit_named self.now.1.records name.now.bytes }
+        ensures commit { bytes_if result ≡ commit_named self.now.1.records name.now.bytes }
         ensures sound { IsSound (N.name_of self.now.0) self.now.1 }
     {
         let (kind, body) = self.store.get(name)?;
@@ -457,7 +457,7 @@ impl<N: Namer, A: Allocator + Copy> Repo<N, A> {
 
 /// The commit that a tag's body names.
 fn tag_object(body: &[u8]) -> Option<Name>
-    ensures { (parts : Parts) → IsTagText parts body.now → bytes_found result ≡ Some parts.object }
+    ensures { (parts : Parts) → IsTagText parts body.now → bytes_if result ≡ Some parts.object }
 {
     match decode_tag(body) {
         Ok(tag) => Some(tag.object()),

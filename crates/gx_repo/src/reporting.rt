@@ -1,8 +1,9 @@
 //! The refs that differ between two times, as a report. Source: githooks(5), "post-receive".
 ghost use Rattle.std.specs.Prelude.{◌≡◌, ◌++◌, ◌∷◌, [], map, IfOk, IsTrue, OnOk};
 ghost use Rattle.std.specs.FinMap.Entries.{is_sorted};
-ghost use Rattle.gx_model.specs.Replay.{byte_cmp};
-ghost use Rattle.gx_repo.specs.Refs.{bytes_found, shown_ref};
+ghost use Rattle.gx_model.specs.Texts.{byte_cmp};
+ghost use Rattle.gx_repo.specs.Refs.{shown_ref};
+ghost use Rattle.gx_object.specs.Parts.{bytes_if};
 ghost use Rattle.gx_repo.specs.Reporting.{IsNext, IsReport, behind, differing, digits_or_zeros, line_where_they_differ, object_first};
 
 use crate::fault::OutOfMemory;
@@ -73,7 +74,7 @@ fn next_name<'a, A: Allocator + Copy>(before: &'a [Ref<A>], after: &'a [Ref<A>])
 
 /// The object of the first ref, where it has this name, and the refs behind that.
 fn taken<'a, A: Allocator + Copy>(refs: &'a [Ref<A>], name: &[u8]) -> (Option<Name>, &'a [Ref<A>])
-    ensures object { bytes_found result.0 ≡ object_first (map shown_ref refs.now) name.now }
+    ensures object { bytes_if result.0 ≡ object_first (map shown_ref refs.now) name.now }
     ensures behind { map shown_ref result.1.now ≡ behind (map shown_ref refs.now) name.now }
 {
     let Some((first, rest)) = refs.split_first() else {
@@ -110,7 +111,7 @@ fn put_digits<A: Allocator + Copy>(
     report: &mut Vec<u8, A>,
     object: Option<Name>,
 ) -> Result<(), AllocError>
-    ensures { OnOk result (report.new.items ≡ report.old.items ++ (digits_or_zeros (bytes_found object) ++ 32 ∷ [])) }
+    ensures { OnOk result (report.new.items ≡ report.old.items ++ (digits_or_zeros (bytes_if object) ++ 32 ∷ [])) }
 {
     let digits = match object {
         Some(object) => object.hex(),

@@ -3,7 +3,7 @@ use Rattle.std.proofs.Common.{◌≡◌, ℕ, zero, suc, ◌+◌, ◌-◌, ◌<�
 use Rattle.std.specs.List.{slice_get}
 use Rattle.std.specs.Prelude.{slice_index_or}
 use Rattle.gx_model.specs.declared.objects.Kind.TheVariants as kinds
-use Rattle.gx_model.specs.Faults.{and_then}
+use Rattle.gx_model.specs.Faults.{◌>>=◌}
 use Rattle.gx_model.specs.Histories.Values.{Commit}
 use Rattle.gx_model.specs.Histories.{Records}
 use Rattle.gx_model.specs.Revisions.Denotation.{nth_ancestor, nth_parent}
@@ -13,12 +13,12 @@ use Rattle.gx_rev.specs.FirstParents.{IsFirstParentWalk}
 use Rattle.gx_rev.specs.Objects.{IsHeldAs, commit_at}
 
 -- so many first parents up, and so many more
-ancestors_add : (a b : ℕ) (c : Commit) → nth_ancestor (a + b) c ≡ and_then (nth_ancestor a c) (nth_ancestor b)
+ancestors_add : (a b : ℕ) (c : Commit) → nth_ancestor (a + b) c ≡ (nth_ancestor a c >>= nth_ancestor b)
 ancestors_add zero b c = let s : zero + b ≡ b = omega arith in ap (λ n. nth_ancestor n c) s
 ancestors_add (suc a) b c =
     let s : suc a + b ≡ suc (a + b) = omega arith in
     ap (λ n. nth_ancestor n c) s
-    ∙ elim (nth_parent 1 c) as (λ o. and_then o (nth_ancestor (a + b)) ≡ and_then (and_then o (nth_ancestor a)) (nth_ancestor b)) [
+    ∙ elim (nth_parent 1 c) as (λ o. (o >>= nth_ancestor (a + b)) ≡ ((o >>= nth_ancestor a) >>= nth_ancestor b)) [
       | Ok p ↦ ancestors_add a b p
       | Err e ↦ refl
     ]
@@ -46,12 +46,12 @@ walk_alone r names name is held = subst (IsFirstParentWalk r) (sym is) by
 
 -- from the last one on
 pub walk_on : (r : Records) (names : List Name) (first last : Name) (n number : ℕ) → slice_get names 0 ≡ Some first → slice_get names n ≡ Some last → n < number → IsFirstParentWalk r names
-    → nth_ancestor number (commit_at r first) ≡ and_then (nth_parent 1 (commit_at r last)) (nth_ancestor (number - n - 1))
+    → nth_ancestor number (commit_at r first) ≡ (nth_parent 1 (commit_at r last) >>= nth_ancestor (number - n - 1))
 walk_on r names first last n number e f l walk =
     let s : number ≡ n + (number - n) = omega (arith, l) in
     ap (λ m. nth_ancestor m (commit_at r first)) s
     ∙ ancestors_add n (number - n) (commit_at r first)
-    ∙ ap (λ o. and_then o (nth_ancestor (number - n))) (walk first last n e f).1
+    ∙ ap (λ o. o >>= nth_ancestor (number - n)) (walk first last n e f).1
     ∙ next_ancestor (number - n) (commit_at r last) (omega (arith, l))
 
 -- with a first parent more
@@ -67,8 +67,8 @@ walk_more r names first last parent n e f long held is walk other called place g
           let m : place ≡ n + 1 = p.0 ∙ long in
           ap (λ k. nth_ancestor k (commit_at r other)) m
           ∙ ancestors_add n 1 (commit_at r other)
-          ∙ ap (λ o. and_then o (nth_ancestor 1)) (walk other last n b f).1
-          ∙ ap (λ o. and_then o (nth_ancestor 0)) is
+          ∙ ap (λ o. o >>= nth_ancestor 1) (walk other last n b f).1
+          ∙ ap (λ o. o >>= nth_ancestor 0) is
           ∙ ap (λ k. Ok (commit_at r k)) p.1),
     )
   ]

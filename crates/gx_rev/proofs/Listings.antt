@@ -6,12 +6,12 @@ use Rattle.std.proofs.lemmas.List.Folds.{list_any-append}
 use Rattle.gx_model.specs.declared.faults.Fault.{Fault}
 use Rattle.gx_model.specs.declared.objects.Kind.{Kind}
 use Rattle.gx_model.specs.Texts.{Bytes}
-use Rattle.gx_model.specs.Faults.{Given, IsFaultOf, and_then}
+use Rattle.gx_model.specs.Faults.{Given, IsFaultOf, ◌>>=◌}
 use Rattle.gx_model.specs.Revisions.{RangeWord}
 use Rattle.gx_model.specs.Histories.Values.{Commit, commit_value}
 use Rattle.gx_model.specs.Records.{name_of}
 use Rattle.gx_model.specs.Histories.{History, Records}
-use Rattle.gx_model.specs.Revisions.Ranges.{Word, WordFault, at_word, each_from, listed, listing, nothing, span, word_denoted}
+use Rattle.gx_model.specs.Revisions.Ranges.{Word, WordFault, at_word, each_from, listed, listing, no_commit, span, word_denoted}
 use Rattle.gx_rev.specs.declared.fault.RevFault.{RevFault}
 use Rattle.gx_rev.specs.declared.fault.RevFault.TheVariants.{OutOfMemory}
 use Rattle.gx_model.specs.Histories.Marks.{marks_of}
@@ -24,7 +24,7 @@ use Rattle.gx_rev.proofs.WordMarks.{names_listed}
 
 -- the first words are these, and their tips are marked
 pub record AreDone (f : RangeWord → Given Word) (repository : Records) (all left : List RangeWord) (count : ℕ) (ins outs : List Bool) (done : List Word) : Type 0 where
-  pub words : each_from 1 f all ≡ and_then (each_from (1 + count) f left) (λ ws. Ok (done ++ ws))
+  pub words : each_from 1 f all ≡ (each_from (1 + count) f left >>= λ ws. Ok (done ++ ws))
   pub included : AreTips repository (is_included done) ins
   pub excluded : AreTips repository (is_excluded done) outs
 
@@ -46,17 +46,17 @@ or_false true = refl
 or_false false = refl
 
 module _ (f : RangeWord → Given Word) where
-  and_same : (r : Result (List Word) WordFault) → r ≡ and_then r (λ ws. Ok ([] ++ ws))
+  and_same : (r : Result (List Word) WordFault) → r ≡ (r >>= λ ws. Ok ([] ++ ws))
   and_same (Ok ws) = refl
   and_same (Err e) = refl
 
-  pub none_done : (r : Records) (all : List RangeWord) (included excluded : List Bool) → AreTips r nothing included → AreTips r nothing excluded → AreDone f r all all 0 included excluded []
+  pub none_done : (r : Records) (all : List RangeWord) (included excluded : List Bool) → AreTips r no_commit included → AreTips r no_commit excluded → AreDone f r all all 0 included excluded []
   none_done r all included excluded i e = record { words = and_same (each_from 1 f all); included = i; excluded = e }
 
   some_next : (p : Word → Commit → Bool) (done : List Word) (w : Word) (c : Commit) → (list_any (λ x. p x c) done || p w c) ≡ list_any (λ x. p x c) (done ++ w ∷ [])
   some_next p done w c = sym (list_any-append (λ x. p x c) done (w ∷ []) ∙ ap (λ b. list_any (λ x. p x c) done || b) (or_false (p w c)))
 
-  then_next : (done : List Word) (w : Word) (r : Result (List Word) WordFault) → and_then (and_then r (λ ys. Ok (w ∷ ys))) (λ ws. Ok (done ++ ws)) ≡ and_then r (λ ws. Ok ((done ++ w ∷ []) ++ ws))
+  then_next : (done : List Word) (w : Word) (r : Result (List Word) WordFault) → ((r >>= λ ys. Ok (w ∷ ys)) >>= λ ws. Ok (done ++ ws)) ≡ (r >>= λ ws. Ok ((done ++ w ∷ []) ++ ws))
   then_next done w (Ok ws) = ap Ok (sym (append_assoc done (w ∷ []) ws))
   then_next done w (Err e) = refl
 
@@ -65,8 +65,8 @@ module _ (f : RangeWord → Given Word) where
       → f x ≡ Ok w → AddsTips r (span w).included included joined → AddsTips r (span w).excluded excluded apart
       → AreDone f r all (x ∷ left) count included excluded done → AreDone f r all left (count + 1) joined apart (done ++ w ∷ [])
   next_done r all left x count included excluded joined apart done w e i k d = record {
-    words = d.words ∙ ap (λ r. and_then (and_then (at_word (1 + count) r) (λ y. and_then (each_from (1 + count + 1) f left) (λ ys. Ok (y ∷ ys)))) (λ ws. Ok (done ++ ws))) e
-        ∙ then_next done w (each_from (1 + count + 1) f left) ∙ ap (λ n. and_then (each_from n f left) (λ ws. Ok ((done ++ w ∷ []) ++ ws))) (let s : 1 + count + 1 ≡ 1 + (count + 1) = omega arith in s);
+    words = d.words ∙ ap (λ r. (at_word (1 + count) r >>= λ y. each_from (1 + count + 1) f left >>= λ ys. Ok (y ∷ ys)) >>= λ ws. Ok (done ++ ws)) e
+        ∙ then_next done w (each_from (1 + count + 1) f left) ∙ ap (λ n. each_from n f left >>= λ ws. Ok ((done ++ w ∷ []) ++ ws)) (let s : 1 + count + 1 ≡ 1 + (count + 1) = omega arith in s);
     included = same_tips r (λ c. is_included done c || (span w).included c) (is_included (done ++ w ∷ [])) joined (λ c. some_next (λ x c. (span x).included c) done w c) (i (is_included done) d.included);
     excluded = same_tips r (λ c. is_excluded done c || (span w).excluded c) (is_excluded (done ++ w ∷ [])) apart (λ c. some_next (λ x c. (span x).excluded c) done w c) (k (is_excluded done) d.excluded);
   }
@@ -75,7 +75,7 @@ module _ (f : RangeWord → Given Word) where
   pub next_fails : (r : Records) (all left : List RangeWord) (x : RangeWord) (count : ℕ) (included excluded : List Bool) (done : List Word) (g : Fault)
       → f x ≡ Err g → AreDone f r all (x ∷ left) count included excluded done → each_from 1 f all ≡ Err (record { word = 1 + count; fault = g })
   next_fails r all left x count included excluded done g e d =
-      d.words ∙ ap (λ r. and_then (and_then (at_word (1 + count) r) (λ y. and_then (each_from (1 + count + 1) f left) (λ ys. Ok (y ∷ ys)))) (λ ws. Ok (done ++ ws))) e
+      d.words ∙ ap (λ r. (at_word (1 + count) r >>= λ y. each_from (1 + count + 1) f left >>= λ ys. Ok (y ∷ ys)) >>= λ ws. Ok (done ++ ws)) e
 
   pub all_done : (r : Records) (all : List RangeWord) (count : ℕ) (included excluded : List Bool) (done : List Word) → AreDone f r all [] count included excluded done → each_from 1 f all ≡ Ok done
   all_done r all count included excluded done d = d.words ∙ ap Ok (append-nil done)
@@ -83,11 +83,11 @@ module _ (f : RangeWord → Given Word) where
 module _ (name : Kind → Bytes → Bytes) (h : History) where
   pub listed_fails : (ws : List RangeWord) (e : WordFault) → each_from 1 (word_denoted name h) ws ≡ Err e → listed name h ws ≡ Err e
   unfolding listed
-  listed_fails ws e k = ap (λ r. and_then r (λ xs. Ok (map (λ c. name_of name (commit_value c)) (listing h xs)))) k
+  listed_fails ws e k = ap (λ r. r >>= λ xs. Ok (map (λ c. name_of name (commit_value c)) (listing h xs))) k
 
   pub listed_is : (ws : List RangeWord) (done : List Word) → each_from 1 (word_denoted name h) ws ≡ Ok done → listed name h ws ≡ Ok (map (λ c. name_of name (commit_value c)) (listing h done))
   unfolding listed
-  listed_is ws done k = ap (λ r. and_then r (λ xs. Ok (map (λ c. name_of name (commit_value c)) (listing h xs)))) k
+  listed_is ws done k = ap (λ r. r >>= λ xs. Ok (map (λ c. name_of name (commit_value c)) (listing h xs))) k
 
   -- the names of the marks that are left are those that are listed
   pub names_are : (ws : List RangeWord) (done : List Word) (names : List Bytes) → each_from 1 (word_denoted name h) ws ≡ Ok done

@@ -5,7 +5,7 @@ use Rattle.gx_model.specs.declared.objects.Kind.{Kind}
 use Rattle.gx_model.specs.declared.objects.Kind.TheVariants as kind
 use Rattle.gx_model.specs.Texts.{Bytes}
 use Rattle.gx_model.specs.Histories.Values.{Value, blob_value, commit_value, tag_value, tree_value}
-use Rattle.gx_model.specs.Faults.{and_then}
+use Rattle.gx_model.specs.Faults.{◌>>=◌}
 use Rattle.gx_model.specs.Histories.{Records}
 use Rattle.gx_model.specs.Objects.{IsNamer}
 use Rattle.gx_model.specs.Records.Sound.{IsSound}
@@ -39,9 +39,9 @@ module _ (name : Kind → Bytes → Bytes) where
 
 module _ (name : Kind → Bytes → Bytes) (namer : IsNamer name) (r : Records) (sound : IsSound name r) where
   -- where the name of a tree of some files is given, that of their tree is
-  pub tree_given : (v : Value) (answer : Result Name RevFault) → GivesFiles r (files_in v) answer → IfOk answer (IsHeldAs kind.Tree r) → GivesValue r (and_then (files_in v) (λ f. Ok (tree_value f))) answer
-  tree_given v (Ok n) e h = ap (λ g. and_then g (λ f. Ok (tree_value f))) e ∙ ap Ok (sym (tree_stands name namer r sound n.bytes h).0)
-  tree_given v (Err e) i h = fails_first (fault_of e) (files_in v) (λ f. Ok (tree_value f)) (and_then (files_in v) (λ f. Ok (tree_value f))) refl i
+  pub tree_given : (v : Value) (answer : Result Name RevFault) → GivesFiles r (files_in v) answer → IfOk answer (IsHeldAs kind.Tree r) → GivesValue r (files_in v >>= λ f. Ok (tree_value f)) answer
+  tree_given v (Ok n) e h = ap (λ g. g >>= λ f. Ok (tree_value f)) e ∙ ap Ok (sym (tree_stands name namer r sound n.bytes h).0)
+  tree_given v (Err e) i h = fails_first (fault_of e) (files_in v) (λ f. Ok (tree_value f)) (files_in v >>= λ f. Ok (tree_value f)) refl i
 
   -- a tree is held
   pub tree_is_held : (answer : Result Name RevFault) → IfOk answer (IsHeldAs kind.Tree r) → IfOk answer (IsHeld r)

@@ -17,7 +17,7 @@ use Rattle.gx_model.specs.Records.HistoryOf.{entries_in, files_of_tree, history_
 use Rattle.gx_model.specs.Records.Growth.{record_named}
 use Rattle.gx_model.specs.Records.RecordFaults.{is_held}
 use Rattle.gx_model.specs.Records.Sound.{IsSound}
-use Rattle.gx_model.specs.Records.Walks.{Place, entries_named, entry_at, entry_for, place_at_end, place_of, walked, walked_from}
+use Rattle.gx_model.specs.Records.Walks.{entries_named, entry_at, entry_for, place_at_end, place_of, walked, walked_from}
 use Rattle.gx_model.proofs.ObjectTexts.BodiesReadBack.{entries_read}
 use Rattle.gx_model.proofs.Records.GrownRecords.{distinct_of}
 use Rattle.gx_model.proofs.Records.HistoriesExist.{stands}
@@ -30,7 +30,7 @@ use Rattle.gx_model.proofs.Records.HeldValues.{all_whole, tree_stands, value_hel
 use Rattle.gx_model.proofs.Records.HeldTrees.{content}
 
 -- from a place on: down a tree, or the end of the path
-abbrev pub walked_on : List Record → Place → Path → Option Place
+abbrev pub walked_on : List Record → Leaf Bytes → Path → Option (Leaf Bytes)
 walked_on records place path = cond (is_dir place.0) (walked records place.1 path) (place_at_end path place)
 
 -- a path from a place on
@@ -53,11 +53,11 @@ dir_is Gitlink h = absurd cc
 dir_is Dir h = refl
 
 -- nothing stands below a file
-pub below_file : (records : List Record) (place : Place) (c : Bytes) (path : Path) → false ≡ is_dir place.0 → None ≡ walked_on records place (c ∷ path)
+pub below_file : (records : List Record) (place : Leaf Bytes) (c : Bytes) (path : Path) → false ≡ is_dir place.0 → None ≡ walked_on records place (c ∷ path)
 below_file records place c path h = rw (← h) refl
 
 -- at the end of the path
-pub at_end : (records : List Record) (place : Place) → Some place ≡ walked_on records place []
+pub at_end : (records : List Record) (place : Leaf Bytes) → Some place ≡ walked_on records place []
 at_end records (File, n) = refl
 at_end records (Exec, n) = refl
 at_end records (Link, n) = refl
@@ -65,7 +65,7 @@ at_end records (Gitlink, n) = refl
 at_end records (Dir, n) = refl
 
 -- one component further
-pub next_place : (records : List Record) (called c : Bytes) (path : Path) (place : Place) → Some place ≡ option_map place_of_entry (entry_at (entries_named records called) c) → walked records called (c ∷ path) ≡ walked_on records place path
+pub next_place : (records : List Record) (called c : Bytes) (path : Path) (place : Leaf Bytes) → Some place ≡ option_map place_of_entry (entry_at (entries_named records called) c) → walked records called (c ∷ path) ≡ walked_on records place path
 next_place records called c path place e = by (entry_at (entries_named records called) c) refl e
   where
     by : (o : Option Entry) → entry_at (entries_named records called) c ≡ o → Some place ≡ option_map place_of_entry o → walked_from (entry_at (entries_named records called) c) path (λ below. walked records below path) ≡ walked_on records place path
@@ -82,7 +82,7 @@ no_place records called c path e = by (entry_at (entries_named records called) c
     by (Some x) k l = absurd cc
 
 -- down a tree
-pub down : (records : List Record) (m : Mode) (called c : Bytes) (path : Path) (place : Place) → true ≡ is_dir m → Some place ≡ option_map place_of_entry (entry_at (entries_named records called) c) → walked_on records (m, called) (c ∷ path) ≡ walked_on records place path
+pub down : (records : List Record) (m : Mode) (called c : Bytes) (path : Path) (place : Leaf Bytes) → true ≡ is_dir m → Some place ≡ option_map place_of_entry (entry_at (entries_named records called) c) → walked_on records (m, called) (c ∷ path) ≡ walked_on records place path
 down records m called c path place h e = rw (← h) (next_place records called c path place e)
 
 pub down_none : (records : List Record) (m : Mode) (called c : Bytes) (path : Path) → true ≡ is_dir m → None ≡ option_map place_of_entry (entry_at (entries_named records called) c) → walked_on records (m, called) (c ∷ path) ≡ None

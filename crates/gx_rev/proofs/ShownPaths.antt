@@ -10,7 +10,8 @@ use Rattle.gx_model.specs.declared.objects.Mode.TheVariants.{File, Exec, Link, G
 use Rattle.gx_model.specs.Texts.{Bytes}
 use Rattle.gx_model.specs.Texts.Paths.{Path}
 use Rattle.gx_model.specs.Histories.Files.{FileMap, Leaf, file_at, sub_map}
-use Rattle.gx_model.specs.Histories.Values.{Value, blob_of, blob_value, blobs_of, is_content, is_leaf, is_name_text, sub_maps, tree_value}
+use Rattle.gx_model.specs.Histories.Values.{Value, blob_of, blob_value, blobs_of, is_content, is_leaf, sub_maps, tree_value}
+use Rattle.gx_model.specs.Texts.Digits.{is_name_text}
 use Rattle.gx_model.specs.Objects.{IsNamer, hex, is_name, unhex}
 use Rattle.gx_model.specs.Objects.Naming.{lower_name_in}
 use Rattle.gx_model.specs.Records.{content_name, kind_of, name_of, tree_name}
@@ -18,7 +19,7 @@ use Rattle.gx_model.specs.Histories.{AreDistinct, IsIn, Records}
 use Rattle.gx_model.specs.Records.HistoryOf.{bytes_of_blob, files_of_tree, history_of, value_of_name}
 use Rattle.gx_model.specs.Records.RecordFaults.{is_held}
 use Rattle.gx_model.specs.Records.Sound.{IsSound}
-use Rattle.gx_model.specs.Records.Walks.{Place, place_in, place_of, walked}
+use Rattle.gx_model.specs.Records.Walks.{place_in, place_of, walked}
 use Rattle.gx_model.specs.Revisions.Denotation.{Shown, at_path, file_shown, object, of_file, of_leaf, of_sub_map, submodule}
 use Rattle.gx_model.proofs.Records.OneHistory.{told_by_name}
 use Rattle.gx_model.proofs.ObjectTexts.OneTree.{all_left, digits_of, forty, found_known, only_file}
@@ -94,7 +95,7 @@ module _ (name : Kind → Bytes → Bytes) (namer : IsNamer name) (r : Records) 
     pub named : IsNamed name r (shown_as m (record { bytes = n }))
     pub file_is : file ≡ file_of r m (record { bytes = n })
 
-  abbrev pub AtPlace : Option Place → Result Shown Fault → Result (Leaf Bytes) Fault → Type 0
+  abbrev pub AtPlace : Option (Leaf Bytes) → Result Shown Fault → Result (Leaf Bytes) Fault → Type 0
   AtPlace None shown file = (shown ≡ Err fault.NoSuchPath) × (file ≡ Err fault.NoSuchPath)
   AtPlace (Some place) shown file = IsAt place.0 place.1 shown file
 
@@ -138,7 +139,7 @@ module _ (name : Kind → Bytes → Bytes) (namer : IsNamer name) (r : Records) 
           tree_at (x ∷ xs) (tree_name name (x ∷ xs)) (subst (λ g. Stands (tree_value g)) l j) refl
 
   -- what a walk down a held tree gives tells what is shown, and the file
-  pub walk_shown : (t : Bytes) (path : Path) (place : Option Place) → IsTrue (is_held r.records kind.Tree t) → place ≡ walked r.records t path → AtPlace place (at_path (Files t) path) (file_shown (Files t) path)
+  pub walk_shown : (t : Bytes) (path : Path) (place : Option (Leaf Bytes)) → IsTrue (is_held r.records kind.Tree t) → place ≡ walked r.records t path → AtPlace place (at_path (Files t) path) (file_shown (Files t) path)
   walk_shown t path place h e =
       let s = tree_stands name namer r sound t h in
       let v = held_is name namer r sound t (kind_held name namer r sound kind.Tree t h).0 in

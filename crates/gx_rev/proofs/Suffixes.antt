@@ -5,7 +5,7 @@ use Rattle.std.specs.Prelude.{◌||◌, ◌==◌}
 use Rattle.gx_rev.proofs.Dots.{not_true_false}
 use Rattle.memchr.specs.Find.{is_byte2, Passes}
 use Rattle.gx_model.specs.Texts.{Bytes}
-use Rattle.gx_model.specs.Faults.{Given, and_then}
+use Rattle.gx_model.specs.Faults.{Given, ◌>>=◌}
 use Rattle.gx_model.specs.Histories.Values.{Value}
 use Rattle.gx_model.specs.Revisions as model
 use Rattle.gx_model.specs.Revisions.{base_and_suffixes, goes_on, starts_suffix, suffix_of, suffixes_of}
@@ -36,28 +36,28 @@ base_before (b ∷ bs) (suc k) lt h p =
 -- the next suffix, behind those before it
 pub next_suffix : (whole : Given (List model.Suffix)) (rest after text others : Bytes) (mark : ℕ) (before now : List Suffix) (s : Suffix) → rest ≡ mark ∷ after → (base_and_suffixes rest).0 ≡ []
     → text ≡ (base_and_suffixes after).0 → base_and_suffixes others ≡ ([], (base_and_suffixes after).1) → suffix_of (mark ∷ text) ≡ Ok (shown_suffix s) → now ≡ before ++ s ∷ []
-    → whole ≡ and_then (suffixes_of (base_and_suffixes rest).1) (λ ss. Ok (map shown_suffix before ++ ss))
-    → whole ≡ and_then (suffixes_of (base_and_suffixes others).1) (λ ss. Ok (map shown_suffix now ++ ss))
+    → whole ≡ (suffixes_of (base_and_suffixes rest).1 >>= λ ss. Ok (map shown_suffix before ++ ss))
+    → whole ≡ (suffixes_of (base_and_suffixes others).1 >>= λ ss. Ok (map shown_suffix now ++ ss))
 next_suffix whole rest after text others mark before now s is none same left e made h = by (mark == 94 || mark == 126) refl
   where
-    joined : (r : Given (List model.Suffix)) → and_then (and_then r (λ ss. Ok (shown_suffix s ∷ ss))) (λ ss. Ok (map shown_suffix before ++ ss)) ≡ and_then r (λ ss. Ok (map shown_suffix now ++ ss))
+    joined : (r : Given (List model.Suffix)) → ((r >>= λ ss. Ok (shown_suffix s ∷ ss)) >>= λ ss. Ok (map shown_suffix before ++ ss)) ≡ (r >>= λ ss. Ok (map shown_suffix now ++ ss))
     joined (Err f) = refl
     joined (Ok ss) = ap Ok (sym (ap (λ xs. map shown_suffix xs ++ ss) made ∙ ap (λ xs. xs ++ ss) (map-append shown_suffix before (s ∷ [])) ∙ append_assoc (map shown_suffix before) (shown_suffix s ∷ []) ss))
 
-    by : (b : Bool) → (mark == 94 || mark == 126) ≡ b → whole ≡ and_then (suffixes_of (base_and_suffixes others).1) (λ ss. Ok (map shown_suffix now ++ ss))
+    by : (b : Bool) → (mark == 94 || mark == 126) ≡ b → whole ≡ (suffixes_of (base_and_suffixes others).1 >>= λ ss. Ok (map shown_suffix now ++ ss))
     by false f =
         let one : mark ∷ (base_and_suffixes after).0 ≡ [] = sym (ap (λ c. ((if c then starts_suffix mark else goes_on mark) (base_and_suffixes after)).0) f) ∙ ap (λ bs. (base_and_suffixes bs).0) (sym is) ∙ none in
         absurd (cc)
     by true f =
-        h ∙ ap (λ bs. and_then (suffixes_of (base_and_suffixes bs).1) (λ ss. Ok (map shown_suffix before ++ ss))) is
-        ∙ ap (λ c. and_then (suffixes_of ((if c then starts_suffix mark else goes_on mark) (base_and_suffixes after)).1) (λ ss. Ok (map shown_suffix before ++ ss))) f
-        ∙ ap (λ r. and_then (and_then r (λ x. and_then (suffixes_of (base_and_suffixes after).1) (λ ss. Ok (x ∷ ss)))) (λ ss. Ok (map shown_suffix before ++ ss))) (ap (λ x. suffix_of (mark ∷ x)) (sym same) ∙ e)
+        h ∙ ap (λ bs. suffixes_of (base_and_suffixes bs).1 >>= λ ss. Ok (map shown_suffix before ++ ss)) is
+        ∙ ap (λ c. suffixes_of ((if c then starts_suffix mark else goes_on mark) (base_and_suffixes after)).1 >>= λ ss. Ok (map shown_suffix before ++ ss)) f
+        ∙ ap (λ r. (r >>= λ x. suffixes_of (base_and_suffixes after).1 >>= λ ss. Ok (x ∷ ss)) >>= λ ss. Ok (map shown_suffix before ++ ss)) (ap (λ x. suffix_of (mark ∷ x)) (sym same) ∙ e)
         ∙ joined (suffixes_of (base_and_suffixes after).1)
-        ∙ ap (λ p. and_then (suffixes_of p.1) (λ ss. Ok (map shown_suffix now ++ ss))) (sym left)
+        ∙ ap (λ p. suffixes_of p.1 >>= λ ss. Ok (map shown_suffix now ++ ss)) (sym left)
 
 -- with nothing left these are all
 pub last_suffix : (whole : Given (List model.Suffix)) (rest : Bytes) (before : List Suffix) → length rest ≡ 0
-    → whole ≡ and_then (suffixes_of (base_and_suffixes rest).1) (λ ss. Ok (map shown_suffix before ++ ss)) → whole ≡ Ok (map shown_suffix before)
+    → whole ≡ (suffixes_of (base_and_suffixes rest).1 >>= λ ss. Ok (map shown_suffix before ++ ss)) → whole ≡ Ok (map shown_suffix before)
 last_suffix whole [] before e h = h ∙ ap Ok (append-nil (map shown_suffix before))
 last_suffix whole (b ∷ bs) before e h = absurd (omega arith)
 
@@ -65,4 +65,4 @@ last_suffix whole (b ∷ bs) before e h = absurd (omega arith)
 pub next_suffixed : (all : Given Value) (v w : Value) (suffixes : List Suffix) (i : ℕ) (d : Suffix) → i < length suffixes → suffixed v (shown_suffix (get_or suffixes i d)) ≡ Ok w
     → all ≡ all_suffixed v (map shown_suffix (drop i suffixes)) → all ≡ all_suffixed w (map shown_suffix (drop (i + 1) suffixes))
 next_suffixed all v w suffixes i d lt e h =
-    h ∙ ap (λ ss. all_suffixed v (map shown_suffix ss)) (drop_more suffixes i d lt) ∙ ap (λ r. and_then r (λ u. all_suffixed u (map shown_suffix (drop (i + 1) suffixes)))) e
+    h ∙ ap (λ ss. all_suffixed v (map shown_suffix ss)) (drop_more suffixes i d lt) ∙ ap (λ r. r >>= λ u. all_suffixed u (map shown_suffix (drop (i + 1) suffixes))) e

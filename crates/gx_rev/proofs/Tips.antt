@@ -12,7 +12,7 @@ use Rattle.gx_model.specs.Objects.{IsNamer}
 use Rattle.gx_model.specs.Histories.{Records}
 use Rattle.gx_model.specs.Laws.HistoryLaws.{IsParent}
 use Rattle.gx_model.specs.Histories.Marks.{IsAt, IsMarked, Marks, holds, marks_of}
-use Rattle.gx_model.specs.Revisions.Ranges.{nothing, reaches, some_reaches}
+use Rattle.gx_model.specs.Revisions.Ranges.{no_commit, reaches, some_reaches}
 use Rattle.gx_model.specs.Laws.RepositoryLaws.{values_of}
 use Rattle.gx_model.specs.Records.Sound.{IsSound}
 use Rattle.gx_model.proofs.Revisions.Marking.{least, marks_are}
@@ -53,7 +53,7 @@ none_marked (suc n) zero h = cc
 none_marked (suc n) (suc i) h = none_marked n i h
 
 -- with no mark nothing is reached
-pub no_tips : (r : Records) (marks : List Bool) → marks ≡ replicate (length (values_of r)) false → AreTips r nothing marks
+pub no_tips : (r : Records) (marks : List Bool) → marks ≡ replicate (length (values_of r)) false → AreTips r no_commit marks
 no_tips r marks e = record {
   long = ap length e ∙ length-replicate (length (values_of r)) false;
   only = λ i h. absurd (none_marked (length (values_of r)) i (subst (λ ms. IsMarked ms i) e h));
@@ -64,7 +64,7 @@ or_false : (b : Bool) → b ≡ (b || false)
 or_false true = refl
 or_false false = refl
 
-pub none_more : (r : Records) (marks : List Bool) → AddsTips r nothing marks marks
+pub none_more : (r : Records) (marks : List Bool) → AddsTips r no_commit marks marks
 none_more r marks test a = same_tips r test (λ c. test c || false) marks (λ c. or_false (test c)) a
 
 pub or_assoc : (a b c : Bool) → ((a || b) || c) ≡ (a || (b || c))

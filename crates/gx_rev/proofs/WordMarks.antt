@@ -7,9 +7,8 @@ use Rattle.std.proofs.lemmas.Grind.{reverse_onto}
 use Rattle.std.proofs.lemmas.List.Elements.{filter-append}
 use Rattle.gx_model.specs.declared.objects.Kind.{Kind}
 use Rattle.gx_model.specs.Texts.{Bytes}
-use Rattle.gx_model.specs.Histories.Values.{Commit, Value, blob_value, commit_value, tag_value, tree_value}
+use Rattle.gx_model.specs.Histories.Values.{Commit, Value, blob_value, commit_of, commit_value, tag_value, tree_value}
 use Rattle.gx_model.specs.Records.{name_of}
-use Rattle.gx_model.specs.Revisions.Ranges.{commit_of}
 use Rattle.gx_model.specs.Histories.Marks.{holds, marks_of}
 use Rattle.gx_rev.specs.Walking.{AreWithout, names_back}
 

@@ -3,7 +3,7 @@ use Rattle.std.specs.Prelude.{Bool, ◌&&◌, nat_eq, nat_le, nat_lt, length}
 use Rattle.std.specs.List.{list_all}
 use Rattle.gx_model.specs.Texts.{Bytes, cut_at}
 use Rattle.gx_model.specs.Revisions.{base_and_suffixes, with_path}
-use Rattle.gx_model.specs.Revisions.Denotation.{is_any_digit}
+use Rattle.gx_model.specs.Texts.Digits.{is_any_digit}
 
 -- what stands before the first `:`, and there before the first `^` or `~`
 abbrev pub base_text : Bytes → Bytes

@@ -7,7 +7,7 @@ use Rattle.gx_model.specs.declared.objects.Kind.{Kind}
 use Rattle.gx_model.specs.declared.objects.Mode.{Mode}
 use Rattle.gx_model.specs.Texts.{Bytes}
 use Rattle.gx_model.specs.Texts.Paths.{Path}
-use Rattle.gx_model.specs.Faults.{Given, Gives, and_then}
+use Rattle.gx_model.specs.Faults.{Given, Gives, ◌>>=◌}
 use Rattle.gx_model.specs.Histories.{Records}
 use Rattle.gx_model.specs.Histories.Files.{FileMap, Leaf}
 use Rattle.gx_model.specs.Histories.Values.{Commit, Value}
@@ -101,7 +101,7 @@ module _ {N : Type 0} (name_of : N → Kind → Bytes → Bytes) (repo : N × Re
 
   -- what a text shows as a revision
   abbrev pub DenotesText : Bytes → Result Shown RevFault → Type 0
-  DenotesText text result = Gives fault_of (shown_by repo.1) result (and_then (revision_of text) (denoted (name_of repo.0) (history_of repo.1)))
+  DenotesText text result = Gives fault_of (shown_by repo.1) result (revision_of text >>= denoted (name_of repo.0) (history_of repo.1))
 
   -- what the revision of these parts shows
   abbrev pub DenotesParts : Bytes → List Suffix → Option (Bor Path) → Result Shown RevFault → Type 0
@@ -119,11 +119,11 @@ module _ {N : Type 0} (name_of : N → Kind → Bytes → Bytes) (repo : N × Re
   abbrev pub GivesBodyOf : Revision → Result CommitParts RevFault → Type 0
   GivesBodyOf revision result =
       Gives fault_of (λ view. view) result
-      (and_then (commit_denoted (name_of repo.0) (history_of repo.1) revision) (λ c. Ok (parts_of_commit (name_of repo.0) c)))
+      (commit_denoted (name_of repo.0) (history_of repo.1) revision >>= λ c. Ok (parts_of_commit (name_of repo.0) c))
 
   -- the tree that a revision gives
   abbrev pub GivesTreeOf : Revision → Result Name RevFault → Type 0
-  GivesTreeOf revision result = GivesFiles repo.1 (and_then (value_denoted (name_of repo.0) (history_of repo.1) revision) files_in) result
+  GivesTreeOf revision result = GivesFiles repo.1 (value_denoted (name_of repo.0) (history_of repo.1) revision >>= files_in) result
 
   -- the file at a path in the tree of a revision
   abbrev pub file_in : Revision → Path → Given (Leaf Bytes)

@@ -6,15 +6,16 @@ use Rattle.gx_model.specs.declared.objects.Mode.{Mode}
 use Rattle.gx_model.specs.declared.objects.Mode.TheVariants.{Dir}
 use Rattle.gx_model.specs.Objects.{Entry}
 use Rattle.gx_model.specs.Histories.{Records}
-use Rattle.gx_model.specs.Records.Walks.{Place}
 use Rattle.gx_object.specs.declared.name.Name.{Name}
 use Rattle.gx_rev.specs.Objects.{IsHeldAs}
+use Rattle.gx_model.specs.Histories.Files.{Leaf}
+use Rattle.gx_model.specs.Texts.{Bytes}
 
 -- a mode and a name
-abbrev pub shown_place : Mode × Name → Place
+abbrev pub shown_place : Mode × Name → Leaf Bytes
 shown_place place = (place.0, place.1.bytes)
 
-abbrev pub place_of_entry : Entry → Place
+abbrev pub place_of_entry : Entry → Leaf Bytes
 place_of_entry entry = (entry.mode, entry.name)
 
 -- the mode and the name are those of an entry, where there is one

@@ -1,6 +1,5 @@
--- The faults of revisions among those of the model, and those that paths bring; what they print, and when want of memory
--- is none of them.
-use Rattle.std.specs.Prelude.{◌≡◌, ◌≢◌, ◌++◌, codes, IfErr, IsOk, Result}
+-- The faults of revisions among those of the model, and those that paths bring; what they print, and where memory may run out.
+use Rattle.std.specs.Prelude.{◌≡◌, ◌++◌, codes, IfErr, IsOk, Result}
 use Rattle.std.specs.Fmt.{decimal}
 use Rattle.gx_model.specs.declared.faults.Fault.{Fault}
 use Rattle.gx_model.specs.declared.faults.Fault.TheVariants as model
@@ -29,10 +28,6 @@ of_text text.OutOfMemory = OutOfMemory
 of_text text.BadPath = BadPath
 of_text text.PathTooLong = PathTooLong
 of_text text.BadIdent = BadRevision
-
--- an answer that takes no memory: no want of it is a refusal
-abbrev pub NeedsNoMemory : {A : Type 0} → Result A RevFault → Type 0
-NeedsNoMemory result = IfErr result (λ fault. fault ≢ OutOfMemory)
 
 -- memory may want only where something is given: a fault is answered whatever memory there is
 abbrev pub FaultsComeFirst : {A B : Type 0} → Result A RevFault → Given B → Type 0

@@ -2,11 +2,11 @@
 
 ghost use Rattle.std.specs.Prelude.{◌≡◌, true, IfOk};
 ghost use Rattle.std.specs.List.{list_all};
-ghost use Rattle.gx_model.specs.Revisions.Denotation.{is_any_digit};
+ghost use Rattle.gx_model.specs.Texts.Digits.{is_any_digit};
 ghost use Rattle.gx_rev.specs.Bases.{is_abbreviation, is_full_name};
 ghost use Rattle.gx_rev.specs.Calls.{GivesBase, GivesBegun, GivesNamed};
 ghost use Rattle.gx_rev.specs.Objects.{IsHeld};
-ghost use Rattle.gx_rev.specs.RevFaults.{NeedsNoMemory};
+ghost use Rattle.gx_model.specs.Faults.{NeedsNoMemory};
 
 use crate::RevFault;
 use gx_object::{Name, Namer};
@@ -21,7 +21,7 @@ pub(crate) fn eval_base<N: Namer, A: Allocator + Copy>(
 ) -> Result<Name, RevFault>
     ensures value { GivesBase N.name_of repo.now base.now result }
     ensures held { IfOk result (IsHeld repo.now.1) }
-    ensures memory { NeedsNoMemory result }
+    ensures memory { NeedsNoMemory RevFault.OutOfMemory result }
 {
     repo.sound();
     if is_whole(base) {
@@ -59,7 +59,7 @@ fn find_name<N: Namer, A: Allocator + Copy>(
     requires { is_full_name digits.now ≡ true }
     ensures value { GivesNamed N.name_of repo.now digits.now result }
     ensures held { IfOk result (IsHeld repo.now.1) }
-    ensures memory { NeedsNoMemory result }
+    ensures memory { NeedsNoMemory RevFault.OutOfMemory result }
 {
     let Some(name) = Name::read(digits) else {
         unreachable!();
@@ -77,7 +77,7 @@ fn find_digits<N: Namer, A: Allocator + Copy>(
 ) -> Result<Name, RevFault>
     ensures value { GivesBegun N.name_of repo.now digits.now result }
     ensures held { IfOk result (IsHeld repo.now.1) }
-    ensures memory { NeedsNoMemory result }
+    ensures memory { NeedsNoMemory RevFault.OutOfMemory result }
 {
     match repo.store().by_prefix(digits) {
         Prefix::Unique(name) => Ok(name),

@@ -7,7 +7,7 @@ ghost use Rattle.gx_model.specs.Revisions.Denotation.{commit_in, files_in};
 ghost use Rattle.gx_model.specs.Records.{body_of, kind_of, parts_of_commit};
 ghost use Rattle.gx_rev.specs.Calls.{GivesCommit, GivesFiles, ancestor_at, parent_at};
 ghost use Rattle.gx_rev.specs.Objects.{IsHeld, IsHeldAs, body_in_place, commit_at, entries_at, entries_given, parts_of_tag_value, value_at};
-ghost use Rattle.gx_rev.specs.RevFaults.{NeedsNoMemory};
+ghost use Rattle.gx_model.specs.Faults.{NeedsNoMemory};
 
 use crate::RevFault;
 use gx_object::{
@@ -61,7 +61,7 @@ pub(crate) fn commit_of<N: Namer, A: Allocator + Copy>(
     requires { IsHeld repo.now.1 name.now }
     ensures commit { GivesCommit repo.now.1 (commit_in (value_at repo.now.1 name.now)) result }
     ensures held { IfOk result (IsHeldAs kinds.Commit repo.now.1) }
-    ensures memory { NeedsNoMemory result }
+    ensures memory { NeedsNoMemory RevFault.OutOfMemory result }
 {
     match repo.peel(name) {
         Some(commit) => Ok(commit),
@@ -132,7 +132,7 @@ pub(crate) fn parent_of<N: Namer, A: Allocator + Copy>(
     requires { IsHeldAs kinds.Commit repo.now.1 commit.now }
     ensures parent { GivesCommit repo.now.1 (parent_at repo.now.1 commit.now number) result }
     ensures held { IfOk result (IsHeldAs kinds.Commit repo.now.1) }
-    ensures memory { NeedsNoMemory result }
+    ensures memory { NeedsNoMemory RevFault.OutOfMemory result }
 {
     repo.sound();
     if number == 0 {
@@ -153,7 +153,7 @@ pub(crate) fn ancestor_of<N: Namer, A: Allocator + Copy>(
     requires { IsHeldAs kinds.Commit repo.now.1 commit.now }
     ensures ancestor { GivesCommit repo.now.1 (ancestor_at repo.now.1 commit.now number) result }
     ensures held { IfOk result (IsHeldAs kinds.Commit repo.now.1) }
-    ensures memory { NeedsNoMemory result }
+    ensures memory { NeedsNoMemory RevFault.OutOfMemory result }
 {
     let mut ancestor = *commit;
     let mut left = number;
@@ -172,7 +172,7 @@ pub(crate) fn tree_of<N: Namer, A: Allocator + Copy>(
     requires { IsHeld repo.now.1 name.now }
     ensures files { GivesFiles repo.now.1 (files_in (value_at repo.now.1 name.now)) result }
     ensures held { IfOk result (IsHeldAs kinds.Tree repo.now.1) }
-    ensures memory { NeedsNoMemory result }
+    ensures memory { NeedsNoMemory RevFault.OutOfMemory result }
 {
     repo.sound();
     match kind_of(repo, name) {

@@ -4,7 +4,7 @@
 ghost use Rattle.std.specs.Prelude.{◌≡◌, ◌<◌, IfOk, OnOk, Some, length};
 ghost use Rattle.std.specs.List.{slice_get};
 ghost use Rattle.gx_model.specs.declared.objects.Kind.TheVariants as kinds;
-ghost use Rattle.gx_model.specs.Revisions.Ranges.{nothing, reaches};
+ghost use Rattle.gx_model.specs.Revisions.Ranges.{no_commit, reaches};
 ghost use Rattle.gx_model.specs.Laws.RepositoryLaws.{values_of};
 ghost use Rattle.gx_model.specs.Records.Sound.{Holds};
 ghost use Rattle.gx_rev.specs.Objects.{IsHeld, IsHeldAs, commit_at, value_at};
@@ -56,7 +56,7 @@ pub(crate) fn unmarked<N: Namer, A: Allocator + Copy>(
     alloc: A,
     repo: &Repo<N, A>,
 ) -> Result<Vec<bool, A>, AllocError>
-    ensures { IfOk result (λ marks. AreTips repo.now.1 nothing marks.items) }
+    ensures { IfOk result (λ marks. AreTips repo.now.1 no_commit marks.items) }
 {
     let count = repo.store().len();
     let marks = vec![in alloc; false; count]?;
@@ -65,7 +65,7 @@ pub(crate) fn unmarked<N: Namer, A: Allocator + Copy>(
 
 fn mark_reached<N: Namer, A: Allocator + Copy>(repo: &Repo<N, A>, marks: &mut [bool], from: &Name)
     requires held { IsHeldAs kinds.Commit repo.now.1 from.now }
-    requires none { AreTips repo.now.1 nothing marks.old }
+    requires none { AreTips repo.now.1 no_commit marks.old }
     ensures { marks.new ≡ marks_from repo.now.1 from.now }
 {
     mark(repo, marks, from);

@@ -1,7 +1,7 @@
 //! What the refs of a repository reach.
 
 ghost use Rattle.std.specs.Prelude.{◌≡◌, IfOk};
-ghost use Rattle.gx_model.specs.Revisions.Ranges.{nothing};
+ghost use Rattle.gx_model.specs.Revisions.Ranges.{no_commit};
 ghost use Rattle.gx_rev.specs.Reached.{is_wanted, reached_marks};
 ghost use Rattle.gx_rev.specs.Tips.{AreTips};
 
@@ -27,7 +27,7 @@ pub fn reached_from_refs<N: Namer, A: Allocator + Copy>(
 
 /// Marks what refs reach.
 fn mark_all<N: Namer, A: Allocator + Copy>(repo: &Repo<N, A>, marks: &mut [bool])
-    requires { AreTips repo.now.1 nothing marks.old }
+    requires { AreTips repo.now.1 no_commit marks.old }
     ensures { marks.new ≡ reached_marks repo.now.1 }
 {
     mark_refs(repo, marks);
@@ -36,7 +36,7 @@ fn mark_all<N: Namer, A: Allocator + Copy>(repo: &Repo<N, A>, marks: &mut [bool]
 
 /// Marks the commits that refs hold, and those of their tags.
 fn mark_refs<N: Namer, A: Allocator + Copy>(repo: &Repo<N, A>, marks: &mut [bool])
-    requires { AreTips repo.now.1 nothing marks.old }
+    requires { AreTips repo.now.1 no_commit marks.old }
     ensures { AreTips repo.now.1 (is_wanted repo.now.1) marks.new }
 {
     for (_, object) in repo.refs() {

@@ -9,7 +9,8 @@ ghost use Rattle.gx_rev.specs.Answers.{AnswersTell, IsNamed, file_of, shown_as};
 ghost use Rattle.gx_rev.specs.Calls.{Denotes, DenotesParts, GivesBodyOf, GivesCommitOf, GivesObjectOf, GivesTreeOf, ReadsFile, ShowsPathOf, file_in};
 ghost use Rattle.gx_rev.specs.FirstParents.{AreFirstParents};
 ghost use Rattle.gx_rev.specs.Objects.{IsHeld, IsHeldAs, files_at, value_at};
-ghost use Rattle.gx_rev.specs.RevFaults.{FaultsComeFirst, NeedsNoMemory};
+ghost use Rattle.gx_rev.specs.RevFaults.{FaultsComeFirst};
+ghost use Rattle.gx_model.specs.Faults.{NeedsNoMemory};
 ghost use Rattle.gx_rev.specs.Views.{borrowed};
 
 use crate::base::eval_base;
@@ -39,7 +40,7 @@ impl<A: Allocator + Copy> Revision<A> {
     pub fn eval<N: Namer>(&self, repo: &Repo<N, A>) -> Result<Shown, RevFault>
         ensures shown { Denotes N.name_of repo.now self.now result }
         ensures named { IfOk result (IsNamed (N.name_of repo.now.0) repo.now.1) }
-        ensures memory { NeedsNoMemory result }
+        ensures memory { NeedsNoMemory RevFault.OutOfMemory result }
     {
         eval_parts(repo, &self.base, &self.suffixes, self.path.as_ref())
     }
@@ -78,7 +79,7 @@ fn eval_parts<N: Namer, A: Allocator + Copy>(
 ) -> Result<Shown, RevFault>
     ensures shown { DenotesParts N.name_of repo.now base.now suffixes.now path.entry result }
     ensures named { IfOk result (IsNamed (N.name_of repo.now.0) repo.now.1) }
-    ensures memory { NeedsNoMemory result }
+    ensures memory { NeedsNoMemory RevFault.OutOfMemory result }
 {
     let base = eval_base(repo, base)?;
     let object = eval_all(repo, &base, suffixes)?;
@@ -113,7 +114,7 @@ fn show<N: Namer, A: Allocator + Copy>(
     requires { IsHeld repo.now.1 object.now }
     ensures shown { ShowsPathOf repo.now.1 object.now (borrowed path.entry) result }
     ensures named { IfOk result (IsNamed (N.name_of repo.now.0) repo.now.1) }
-    ensures memory { NeedsNoMemory result }
+    ensures memory { NeedsNoMemory RevFault.OutOfMemory result }
 {
     repo.sound();
     match path {
@@ -131,7 +132,7 @@ fn show_path<N: Namer, A: Allocator + Copy>(
     requires { IsHeld repo.now.1 object.now }
     ensures shown { ShowsPathOf repo.now.1 object.now (Some path.now) result }
     ensures named { IfOk result (IsNamed (N.name_of repo.now.0) repo.now.1) }
-    ensures memory { NeedsNoMemory result }
+    ensures memory { NeedsNoMemory RevFault.OutOfMemory result }
 {
     repo.sound();
     let tree = tree_of(repo, object)?;
@@ -160,7 +161,7 @@ pub fn commit<'a, N: Namer, A: Allocator + Copy>(
     revision: &Revision<A>,
 ) -> Result<CommitView<'a>, RevFault>
     ensures view { GivesBodyOf N.name_of repo.now revision.now result }
-    ensures memory { NeedsNoMemory result }
+    ensures memory { NeedsNoMemory RevFault.OutOfMemory result }
 {
     let commit = eval_commit(repo, revision)?;
     Ok(view_of(repo, &commit))
@@ -176,7 +177,7 @@ pub fn tree<N: Namer, A: Allocator + Copy>(
 ) -> Result<Name, RevFault>
     ensures files { GivesTreeOf N.name_of repo.now revision.now result }
     ensures held { IfOk result (IsHeldAs kinds.Tree repo.now.1) }
-    ensures memory { NeedsNoMemory result }
+    ensures memory { NeedsNoMemory RevFault.OutOfMemory result }
 {
     let object = eval_object(repo, revision)?;
     tree_of(repo, &object)
@@ -189,7 +190,7 @@ pub(crate) fn eval_commit<N: Namer, A: Allocator + Copy>(
 ) -> Result<Name, RevFault>
     ensures commit { GivesCommitOf N.name_of repo.now revision.now result }
     ensures held { IfOk result (IsHeldAs kinds.Commit repo.now.1) }
-    ensures memory { NeedsNoMemory result }
+    ensures memory { NeedsNoMemory RevFault.OutOfMemory result }
 {
     let object = eval_object(repo, revision)?;
     commit_of(repo, &object)
@@ -202,7 +203,7 @@ fn eval_object<N: Namer, A: Allocator + Copy>(
 ) -> Result<Name, RevFault>
     ensures value { GivesObjectOf N.name_of repo.now revision.now result }
     ensures held { IfOk result (IsHeld repo.now.1) }
-    ensures memory { NeedsNoMemory result }
+    ensures memory { NeedsNoMemory RevFault.OutOfMemory result }
 {
     match revision.eval(repo)? {
         Shown::Object(_, name) => Ok(name),

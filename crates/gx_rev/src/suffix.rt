@@ -3,7 +3,7 @@
 ghost use Rattle.std.specs.Prelude.{◌≡◌, ◌∷◌, IfOk};
 ghost use Rattle.std.specs.Map.{lookup};
 ghost use Rattle.std.specs.Option.{option_map};
-ghost use Rattle.gx_model.specs.Faults.{Gives};
+ghost use Rattle.gx_model.specs.Faults.{Gives, NeedsNoMemory};
 ghost use Rattle.gx_model.specs.Texts.{same_bytes};
 ghost use Rattle.gx_model.specs.Revisions as model;
 ghost use Rattle.gx_model.specs.Revisions.{braced_suffixes, number_or_one, suffix_of};
@@ -11,7 +11,7 @@ ghost use Rattle.gx_model.specs.Revisions.Denotation.{peel};
 ghost use Rattle.gx_rev.specs.Calls.{GivesAllSuffixed, GivesOnly, GivesSuffixed};
 ghost use Rattle.gx_rev.specs.FirstParents.{AreFirstParents};
 ghost use Rattle.gx_rev.specs.Objects.{IsHeld, value_at};
-ghost use Rattle.gx_rev.specs.RevFaults.{NeedsNoMemory, fault_of};
+ghost use Rattle.gx_rev.specs.RevFaults.{fault_of};
 ghost use Rattle.gx_rev.specs.Views.{shown_suffix};
 
 use crate::objects::{ancestor_of, commit_of, kind_of, parent_of, tree_of};
@@ -46,7 +46,7 @@ impl Suffix {
     /// The suffix that its first byte, a `^` or a `~`, and the text behind it give.
     pub(crate) fn read(mark: u8, text: &[u8]) -> Result<Suffix, RevFault>
         ensures suffix { Gives fault_of shown_suffix result (suffix_of (mark ∷ text.now)) }
-        ensures memory { NeedsNoMemory result }
+        ensures memory { NeedsNoMemory RevFault.OutOfMemory result }
     {
         if mark != b'^' {
             return Ok(Suffix::Ancestor(number_or_one(text)?));
@@ -66,7 +66,7 @@ impl Suffix {
         requires { IsHeld repo.now.1 name.now }
         ensures value { GivesSuffixed repo.now.1 name.now (shown_suffix self) result }
         ensures held { IfOk result (IsHeld repo.now.1) }
-        ensures memory { NeedsNoMemory result }
+        ensures memory { NeedsNoMemory RevFault.OutOfMemory result }
     {
         match self {
             Suffix::Parent(number) => parent(repo, name, number),
@@ -114,7 +114,7 @@ pub(crate) fn eval_all<N: Namer, A: Allocator + Copy>(
     requires { IsHeld repo.now.1 name.now }
     ensures value { GivesAllSuffixed repo.now.1 name.now suffixes.now result }
     ensures held { IfOk result (IsHeld repo.now.1) }
-    ensures memory { NeedsNoMemory result }
+    ensures memory { NeedsNoMemory RevFault.OutOfMemory result }
 {
     let mut object = *name;
     for suffix in suffixes {
@@ -151,7 +151,7 @@ fn parent<N: Namer, A: Allocator + Copy>(
     requires { IsHeld repo.now.1 name.now }
     ensures value { GivesSuffixed repo.now.1 name.now (model.parent number) result }
     ensures held { IfOk result (IsHeld repo.now.1) }
-    ensures memory { NeedsNoMemory result }
+    ensures memory { NeedsNoMemory RevFault.OutOfMemory result }
 {
     repo.sound();
     let commit = commit_of(repo, name)?;
@@ -167,7 +167,7 @@ fn ancestor<N: Namer, A: Allocator + Copy>(
     requires { IsHeld repo.now.1 name.now }
     ensures value { GivesSuffixed repo.now.1 name.now (model.ancestor number) result }
     ensures held { IfOk result (IsHeld repo.now.1) }
-    ensures memory { NeedsNoMemory result }
+    ensures memory { NeedsNoMemory RevFault.OutOfMemory result }
 {
     repo.sound();
     let commit = commit_of(repo, name)?;
@@ -214,7 +214,7 @@ fn of_kind<N: Namer, A: Allocator + Copy>(
     requires { IsHeld repo.now.1 name.now }
     ensures value { GivesOnly N.name_of repo.now kind name.now result }
     ensures held { IfOk result (IsHeld repo.now.1) }
-    ensures memory { NeedsNoMemory result }
+    ensures memory { NeedsNoMemory RevFault.OutOfMemory result }
 {
     if kind_of(repo, name) == kind {
         Ok(*name)
@@ -247,7 +247,7 @@ fn braced(text: &[u8]) -> Option<Suffix>
 /// A number in decimal, and 1 where it is left out.
 pub(crate) fn number_or_one(text: &[u8]) -> Result<u64, RevFault>
     ensures number { Gives fault_of (λ n. n) result (number_or_one text.now) }
-    ensures memory { NeedsNoMemory result }
+    ensures memory { NeedsNoMemory RevFault.OutOfMemory result }
 {
     if text.is_empty() {
         return Ok(1);

@@ -4,12 +4,12 @@
 ghost use Rattle.std.specs.Prelude.{◌≡◌, Bool, IfOk, List, OnOk, length, map};
 ghost use Rattle.gx_model.specs.declared.objects.Kind.TheVariants as kinds;
 ghost use Rattle.gx_model.specs.Revisions as words;
-ghost use Rattle.gx_model.specs.Revisions.Ranges.{nothing};
+ghost use Rattle.gx_model.specs.Revisions.Ranges.{no_commit};
 ghost use Rattle.gx_model.specs.Laws.RepositoryLaws.{values_of};
 ghost use Rattle.gx_rev.specs.Calls.{AreMarkedAlone, ListsWords, MarksRange};
 ghost use Rattle.gx_rev.specs.Objects.{IsHeldAs};
 ghost use Rattle.gx_rev.specs.Parents.{HoldsParents};
-ghost use Rattle.gx_rev.specs.RevFaults.{NeedsNoMemory};
+ghost use Rattle.gx_model.specs.Faults.{NeedsNoMemory};
 ghost use Rattle.gx_rev.specs.Views.{shown_range};
 ghost use Rattle.gx_rev.specs.Tips.{AreTips, HasTips};
 ghost use Rattle.gx_rev.specs.Walking.{AreListed, MarksOfWords, MarksWords, TipsOfWords, refused_at};
@@ -86,8 +86,8 @@ fn mark_walked<N: Namer, A: Allocator + Copy>(
     unwanted: &mut [bool],
 ) -> Result<(), WalkFault>
     requires holds { HoldsParents repo.now.1 parents.old }
-    requires wanted { AreTips repo.now.1 nothing wanted.old }
-    requires unwanted { AreTips repo.now.1 nothing unwanted.old }
+    requires wanted { AreTips repo.now.1 no_commit wanted.old }
+    requires unwanted { AreTips repo.now.1 no_commit unwanted.old }
     ensures { MarksOfWords (N.name_of repo.now.0) repo.now.1 (map shown_range words.now)
         wanted.new unwanted.new result }
 {
@@ -108,8 +108,8 @@ fn mark_words<N: Namer, A: Allocator + Copy>(
     excluded: &mut [bool],
 ) -> Result<(), WalkFault>
     requires holds { HoldsParents repo.now.1 parents.old }
-    requires included { AreTips repo.now.1 nothing included.old }
-    requires excluded { AreTips repo.now.1 nothing excluded.old }
+    requires included { AreTips repo.now.1 no_commit included.old }
+    requires excluded { AreTips repo.now.1 no_commit excluded.old }
     ensures holds { HoldsParents repo.now.1 parents.new }
     ensures tips { TipsOfWords (N.name_of repo.now.0) repo.now.1 (map shown_range words.now)
         included.new excluded.new result }
@@ -134,8 +134,8 @@ fn walk_marking<N: Namer, A: Allocator + Copy>(
     excluded: &mut [bool],
 ) -> Result<Vec<Name, A>, WalkFault>
     requires holds { HoldsParents repo.now.1 parents.old }
-    requires included { AreTips repo.now.1 nothing included.old }
-    requires excluded { AreTips repo.now.1 nothing excluded.old }
+    requires included { AreTips repo.now.1 no_commit included.old }
+    requires excluded { AreTips repo.now.1 no_commit excluded.old }
     ensures { ListsWords N.name_of repo.now (map shown_range words.now) result }
 {
     mark_words(alloc, repo, parents, words, included, excluded)?;
@@ -246,7 +246,7 @@ fn mark_between<N: Namer, A: Allocator + Copy>(
     requires excluded { length excluded.old ≡ length (values_of repo.now.1) }
     ensures marks { MarksRange N.name_of repo.now (words.Between left.now right.now)
         (included.old, excluded.old) (included.new, excluded.new) result }
-    ensures memory { NeedsNoMemory result }
+    ensures memory { NeedsNoMemory RevFault.OutOfMemory result }
 {
     let left = eval_commit(repo, left)?;
     let right = eval_commit(repo, right)?;
@@ -267,7 +267,7 @@ fn mark_without_one<N: Namer, A: Allocator + Copy>(
     requires excluded { length excluded.old ≡ length (values_of repo.now.1) }
     ensures marks { MarksRange N.name_of repo.now (words.WithoutOne revision.now number)
         (included.old, excluded.old) (included.new, excluded.new) result }
-    ensures memory { NeedsNoMemory result }
+    ensures memory { NeedsNoMemory RevFault.OutOfMemory result }
 {
     let commit = eval_commit(repo, revision)?;
     let parent = parent_of(repo, &commit, number)?;

@@ -5,7 +5,7 @@ use Rattle.std.specs.List.{list_all}
 use Rattle.std.proofs.lemmas.Bool.{eq-eqb, eqb-true, false≢true, false_from_ne_true, lt-ltb, ltb-true}
 use Rattle.gx_model.specs.Objects.{is_name}
 use Rattle.gx_object.specs.declared.name.Name.{Name}
-use Rattle.gx_store.specs.Chains.{chain_of, is_in}
+use Rattle.gx_store.specs.Chains.{chain_of, is_in_chain}
 use Rattle.gx_store.specs.NameOrder.{is_within}
 use Rattle.gx_store.specs.Prefixes.{joined, picked}
 use Rattle.gx_store.specs.declared.prefix.Prefix.TheVariants.{Absent, Ambiguous}
@@ -66,7 +66,7 @@ module _ (chains : ℕ) (least greatest : Name) (ns : List Name) (names : list_a
           let after = chain_after chains least greatest n name p in
           ap (λ x. x && true) (false_from_ne_true _ (λ l. let low = ltb-true (chain_of chains n) first l in omega (arith, e, after, low)))
 
-  pub at_next : (chain : ℕ) → joined (picked (λ n. nat_lt (chain_of chains n) chain && is_within least.bytes greatest.bytes n.bytes) ns) (picked (λ n. is_in chains chain n && is_within least.bytes greatest.bytes n.bytes) ns)
+  pub at_next : (chain : ℕ) → joined (picked (λ n. nat_lt (chain_of chains n) chain && is_within least.bytes greatest.bytes n.bytes) ns) (picked (λ n. is_in_chain chains chain n && is_within least.bytes greatest.bytes n.bytes) ns)
       ≡ picked (λ n. nat_lt (chain_of chains n) (chain + 1) && is_within least.bytes greatest.bytes n.bytes) ns
   at_next chain = picked_parts _ _ _ ns (λ n. split (chain_of chains n) chain (is_within least.bytes greatest.bytes n.bytes))
 

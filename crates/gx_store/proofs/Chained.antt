@@ -9,7 +9,7 @@ use Rattle.std.proofs.Math.ListN.{get_or-append}
 use Rattle.std.proofs.Math.Numerals.{suc-eq-add-one}
 use Rattle.std.proofs.Math.Seq.{get_or-append_seam, take-suc}
 use Rattle.gx_object.specs.declared.name.Name.{Name}
-use Rattle.gx_store.specs.Chains.{AreFronts, chain_of, is_in, up_to_last}
+use Rattle.gx_store.specs.Chains.{AreFronts, chain_of, is_in_chain, up_to_last}
 use Rattle.gx_store.specs.declared.fronts.Fronts.{Fronts}
 
 -- ---- how many names there are up to the last that passes
@@ -98,11 +98,11 @@ module _ {A : Type 0} (old new : Fronts A) (ns : List Name) (n : Name) where
   put_fronts len count nexts heads capacity within free f = record {
     chains = omega (arith, many, length_push ns n, f.long);
     heads = λ chain h.
-        subst (λ m. get_or new.heads.items chain 0 ≡ up_to_last (is_in m chain) (ns ++ n ∷ [])) (sym many)
-        (heads_at chain (omega (arith, many)) (nat_eq own chain) refl ∙ sym (up_to_last_more (is_in chains chain) ns n));
+        subst (λ m. get_or new.heads.items chain 0 ≡ up_to_last (is_in_chain m chain) (ns ++ n ∷ [])) (sym many)
+        (heads_at chain (omega (arith, many)) (nat_eq own chain) refl ∙ sym (up_to_last_more (is_in_chain chains chain) ns n));
     long = omega (arith, ap length nexts, length_push old.next.items (get_or old.heads.items own 0), length_push ns n, f.long);
     next = λ place name h.
-        subst (λ m. get_or new.next.items place 0 ≡ up_to_last (is_in m (chain_of m name)) (take place (ns ++ n ∷ []))) (sym many) (next_at place name h (nat_lt place (length ns)) refl);
+        subst (λ m. get_or new.next.items place 0 ≡ up_to_last (is_in_chain m (chain_of m name)) (take place (ns ++ n ∷ []))) (sym many) (next_at place name h (nat_lt place (length ns)) refl);
     room = omega (arith, many, capacity, f.room);
   }
     where
@@ -112,35 +112,35 @@ module _ {A : Type 0} (old new : Fronts A) (ns : List Name) (n : Name) where
       longer : len ≡ suc (length ns)
       longer = omega (arith, count, ap length nexts, length_push old.next.items (get_or old.heads.items own 0), f.long)
 
-      heads_at : (chain : ℕ) → chain < chains → (b : Bool) → nat_eq own chain ≡ b → get_or new.heads.items chain 0 ≡ cond (nat_eq own chain) (suc (length ns)) (up_to_last (is_in chains chain) ns)
-      heads_at chain h true p = written len heads chain true p h ∙ longer ∙ ap (λ b. cond b (suc (length ns)) (up_to_last (is_in chains chain) ns)) (sym p)
-      heads_at chain h false p = written len heads chain false p h ∙ f.heads chain h ∙ ap (λ b. cond b (suc (length ns)) (up_to_last (is_in chains chain) ns)) (sym p)
+      heads_at : (chain : ℕ) → chain < chains → (b : Bool) → nat_eq own chain ≡ b → get_or new.heads.items chain 0 ≡ cond (nat_eq own chain) (suc (length ns)) (up_to_last (is_in_chain chains chain) ns)
+      heads_at chain h true p = written len heads chain true p h ∙ longer ∙ ap (λ b. cond b (suc (length ns)) (up_to_last (is_in_chain chains chain) ns)) (sym p)
+      heads_at chain h false p = written len heads chain false p h ∙ f.heads chain h ∙ ap (λ b. cond b (suc (length ns)) (up_to_last (is_in_chain chains chain) ns)) (sym p)
 
       next_at : (place : ℕ) (name : Name) → slice_get (ns ++ n ∷ []) place ≡ Some name → (b : Bool) → nat_lt place (length ns) ≡ b
-          → get_or new.next.items place 0 ≡ up_to_last (is_in chains (chain_of chains name)) (take place (ns ++ n ∷ []))
+          → get_or new.next.items place 0 ≡ up_to_last (is_in_chain chains (chain_of chains name)) (take place (ns ++ n ∷ []))
       next_at place name h true p =
           let short = ltb-true place (length ns) p in
           ap (λ next. get_or next place 0) nexts ∙ get_or-append old.next.items (get_or old.heads.items own 0 ∷ []) 0 place (omega (arith, f.long))
-          ∙ f.next place name (sym (at_front ns (n ∷ []) place short) ∙ h) ∙ ap (up_to_last (is_in chains (chain_of chains name))) (sym (take-append-le place ns (n ∷ []) (omega arith)))
+          ∙ f.next place name (sym (at_front ns (n ∷ []) place short) ∙ h) ∙ ap (up_to_last (is_in_chain chains (chain_of chains name))) (sym (take-append-le place ns (n ∷ []) (omega arith)))
       next_at place name h false p = last place (omega (arith, slice_get_within (ns ++ n ∷ []) place name h, length_push ns n, λ (l : place < length ns). false≢true (sym p ∙ lt-ltb place (length ns) l))) h
         where
-          last : (place : ℕ) → place ≡ length ns → slice_get (ns ++ n ∷ []) place ≡ Some name → get_or new.next.items place 0 ≡ up_to_last (is_in chains (chain_of chains name)) (take place (ns ++ n ∷ []))
+          last : (place : ℕ) → place ≡ length ns → slice_get (ns ++ n ∷ []) place ≡ Some name → get_or new.next.items place 0 ≡ up_to_last (is_in_chain chains (chain_of chains name)) (take place (ns ++ n ∷ []))
           last place e h =
               let same = same_some n name (sym (at_end ns n) ∙ ap (slice_get (ns ++ n ∷ [])) (sym e) ∙ h) in
               ap (λ next. get_or next place 0) nexts ∙ ap (λ at. get_or (old.next.items ++ get_or old.heads.items own 0 ∷ []) at 0) (e ∙ sym f.long)
               ∙ get_or-append_seam old.next.items (get_or old.heads.items own 0) [] 0 ∙ f.heads own within
-              ∙ ap (λ m. up_to_last (is_in chains (chain_of chains m)) ns) same
-              ∙ ap (up_to_last (is_in chains (chain_of chains name))) (sym (take_all (length ns) ns (omega arith)) ∙ sym (take-append-le (length ns) ns (n ∷ []) (omega arith)) ∙ ap (λ k. take k (ns ++ n ∷ [])) (sym e))
+              ∙ ap (λ m. up_to_last (is_in_chain chains (chain_of chains m)) ns) same
+              ∙ ap (up_to_last (is_in_chain chains (chain_of chains name))) (sym (take_all (length ns) ns (omega arith)) ∙ sym (take-append-le (length ns) ns (n ∷ []) (omega arith)) ∙ ap (λ k. take k (ns ++ n ∷ [])) (sym e))
 
   pub pop_fronts : (before : ℕ) → old.next.items ≡ new.next.items ++ before ∷ [] → new.heads.items ≡ set old.heads.items own before → vec_capacity new.next ≡ vec_capacity old.next
       → own < chains → AreFronts old (ns ++ n ∷ []) → AreFronts new ns
   pop_fronts before nexts heads capacity within f = record {
     chains = omega (arith, many, length_push ns n, f.chains);
     heads = λ chain h.
-        subst (λ m. get_or new.heads.items chain 0 ≡ up_to_last (is_in m chain) ns) (sym many) (heads_at chain (omega (arith, many)) (nat_eq own chain) refl);
+        subst (λ m. get_or new.heads.items chain 0 ≡ up_to_last (is_in_chain m chain) ns) (sym many) (heads_at chain (omega (arith, many)) (nat_eq own chain) refl);
     long = shorter;
     next = λ place name h.
-        subst (λ m. get_or new.next.items place 0 ≡ up_to_last (is_in m (chain_of m name)) (take place ns)) (sym many) (next_at place name h);
+        subst (λ m. get_or new.next.items place 0 ≡ up_to_last (is_in_chain m (chain_of m name)) (take place ns)) (sym many) (next_at place name h);
     room = omega (arith, many, capacity, f.room);
   }
     where
@@ -153,21 +153,21 @@ module _ {A : Type 0} (old new : Fronts A) (ns : List Name) (n : Name) where
       front : take (length ns) (ns ++ n ∷ []) ≡ ns
       front = take-append-le (length ns) ns (n ∷ []) (omega arith) ∙ take_all (length ns) ns (omega arith)
 
-      before_is : before ≡ up_to_last (is_in chains own) ns
+      before_is : before ≡ up_to_last (is_in_chain chains own) ns
       before_is =
           sym (get_or-append_seam new.next.items before [] 0) ∙ ap (λ next. get_or next (length new.next.items) 0) (sym nexts) ∙ ap (λ at. get_or old.next.items at 0) shorter
-          ∙ f.next (length ns) n (at_end ns n) ∙ ap (up_to_last (is_in chains own)) front
+          ∙ f.next (length ns) n (at_end ns n) ∙ ap (up_to_last (is_in_chain chains own)) front
 
-      heads_at : (chain : ℕ) → chain < chains → (b : Bool) → nat_eq own chain ≡ b → get_or new.heads.items chain 0 ≡ up_to_last (is_in chains chain) ns
-      heads_at chain h true p = written before heads chain true p h ∙ before_is ∙ ap (λ at. up_to_last (is_in chains at) ns) (eqb-true own chain p)
+      heads_at : (chain : ℕ) → chain < chains → (b : Bool) → nat_eq own chain ≡ b → get_or new.heads.items chain 0 ≡ up_to_last (is_in_chain chains chain) ns
+      heads_at chain h true p = written before heads chain true p h ∙ before_is ∙ ap (λ at. up_to_last (is_in_chain chains at) ns) (eqb-true own chain p)
       heads_at chain h false p =
-          written before heads chain false p h ∙ f.heads chain h ∙ up_to_last_more (is_in chains chain) ns n ∙ ap (λ b. cond b (suc (length ns)) (up_to_last (is_in chains chain) ns)) p
+          written before heads chain false p h ∙ f.heads chain h ∙ up_to_last_more (is_in_chain chains chain) ns n ∙ ap (λ b. cond b (suc (length ns)) (up_to_last (is_in_chain chains chain) ns)) p
 
-      next_at : (place : ℕ) (name : Name) → slice_get ns place ≡ Some name → get_or new.next.items place 0 ≡ up_to_last (is_in chains (chain_of chains name)) (take place ns)
+      next_at : (place : ℕ) (name : Name) → slice_get ns place ≡ Some name → get_or new.next.items place 0 ≡ up_to_last (is_in_chain chains (chain_of chains name)) (take place ns)
       next_at place name h =
           let short = slice_get_within ns place name h in
           sym (get_or-append new.next.items (before ∷ []) 0 place (omega (arith, shorter))) ∙ ap (λ next. get_or next place 0) (sym nexts)
-          ∙ f.next place name (at_front ns (n ∷ []) place short ∙ h) ∙ ap (up_to_last (is_in chains (chain_of chains name))) (take-append-le place ns (n ∷ []) (omega arith))
+          ∙ f.next place name (at_front ns (n ∷ []) place short ∙ h) ∙ ap (up_to_last (is_in_chain chains (chain_of chains name))) (take-append-le place ns (n ∷ []) (omega arith))
 
 -- ---- no name
 

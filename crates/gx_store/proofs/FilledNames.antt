@@ -6,13 +6,13 @@ use Rattle.std.proofs.lemmas.Bool.{and_from, and_parts, eqb-true, eq-eqb, false�
 use Rattle.std.proofs.lemmas.Bool.Decides.{nat_tests}
 use Rattle.std.proofs.lemmas.List.{map-append, length-append, length-map, length-replicate}
 use Rattle.std.proofs.lemmas.List.Folds.{list_all-append}
-use Rattle.gx_model.specs.Texts.{Bytes}
-use Rattle.gx_model.specs.Histories.Values.{is_hex_digit}
+use Rattle.gx_model.specs.Texts.{Bytes, byte_cmp}
+use Rattle.gx_model.specs.Texts.Digits.{is_any_digit, is_lower_digit, lower}
 use Rattle.gx_model.specs.Objects.{hex, unhex, is_name}
 use Rattle.gx_model.specs.Objects.Naming.{lower_name_in, name_in}
-use Rattle.gx_model.specs.Revisions.Denotation.{begins_with_digits, is_any_digit, lower}
+use Rattle.gx_model.specs.Revisions.Denotation.{begins_with_digits}
 use Rattle.gx_model.proofs.ObjectTexts.NameDigits.{hex_lower, name_found, name_long}
-use Rattle.gx_store.specs.NameOrder.{compare, is_within}
+use Rattle.gx_store.specs.NameOrder.{is_within}
 use Rattle.gx_store.specs.Prefixes.{BeginNone, filled}
 use Rattle.gx_store.proofs.NameOrder.{between, hex_order, within_filled}
 
@@ -20,10 +20,10 @@ map_replicate : (k digit : ℕ) → lower digit ≡ digit → map lower (replica
 map_replicate zero digit e = refl
 map_replicate (suc k) digit e = λ i. e i ∷ map_replicate k digit e i
 
-lower_digit : (d : ℕ) → is_any_digit d ≡ true → is_hex_digit (lower d) ≡ true
+lower_digit : (d : ℕ) → is_any_digit d ≡ true → is_lower_digit (lower d) ≡ true
 lower_digit d h = grind (arith, nat_tests)
 
-lower_digits : (xs : Bytes) → list_all is_any_digit xs ≡ true → list_all is_hex_digit (map lower xs) ≡ true
+lower_digits : (xs : Bytes) → list_all is_any_digit xs ≡ true → list_all is_lower_digit (map lower xs) ≡ true
 lower_digits [] h = refl
 lower_digits (x ∷ xs) h = let p = and_parts (is_any_digit x) _ h in and_from _ _ (lower_digit x p.0) (lower_digits xs p.1)
 
@@ -31,7 +31,7 @@ all_alike : (k digit : ℕ) → is_any_digit digit ≡ true → list_all is_any_
 all_alike zero digit e = refl
 all_alike (suc k) digit e = and_from _ _ e (all_alike k digit e)
 
-name_of_digits : (xs : Bytes) → length xs ≡ 40 → list_all is_hex_digit xs ≡ true → lower_name_in xs ≡ Some (unhex xs)
+name_of_digits : (xs : Bytes) → length xs ≡ 40 → list_all is_lower_digit xs ≡ true → lower_name_in xs ≡ Some (unhex xs)
 unfolding lower_name_in
 name_of_digits xs long small = ap (λ b. cond b (Some (unhex xs)) None) (and_from _ _ (eq-eqb (length xs) 40 long) small)
 
@@ -61,15 +61,15 @@ filled_digits digits digit n e h = by (nat_le (length digits) 40) refl h
 
 -- ---- where no name comes of it, none begins so
 
-begins_all : (xs ys : Bytes) → list_all is_hex_digit ys ≡ true → starts_with nat_eq ys (map lower xs) ≡ true → list_all is_any_digit xs ≡ true
+begins_all : (xs ys : Bytes) → list_all is_lower_digit ys ≡ true → starts_with nat_eq ys (map lower xs) ≡ true → list_all is_any_digit xs ≡ true
 begins_all [] ys h b = refl
 begins_all (x ∷ xs) [] h b = absurd (false≢true b)
 begins_all (x ∷ xs) (y ∷ ys) h b =
-    let p = and_parts (is_hex_digit y) _ h in
+    let p = and_parts (is_lower_digit y) _ h in
     let q = and_parts (nat_eq (lower x) y) _ b in
     and_from _ _ (a_digit x y p.0 q.0) (begins_all xs ys p.1 q.1)
   where
-    a_digit : (x y : ℕ) → is_hex_digit y ≡ true → nat_eq (lower x) y ≡ true → is_any_digit x ≡ true
+    a_digit : (x y : ℕ) → is_lower_digit y ≡ true → nat_eq (lower x) y ≡ true → is_any_digit x ≡ true
     a_digit x y h e = grind (arith, nat_tests)
 
 begins_short : (xs ys : Bytes) → starts_with nat_eq ys (map lower xs) ≡ true → length xs ≤ length ys
@@ -108,7 +108,7 @@ filled_ends digits least greatest l g n name =
     let from = hex_order least n (bytes least first.2) (bytes n name) in
     let to = hex_order greatest n (bytes greatest last.2) (bytes n name) in
     let forty = name_long n name in
-    (λ i. between (sym from i) (sym to i)) ∙ (λ i. between (compare (first.1 i) (hex n)) (compare (last.1 i) (hex n)))
+    (λ i. between (sym from i) (sym to i)) ∙ (λ i. between (byte_cmp (first.1 i) (hex n)) (byte_cmp (last.1 i) (hex n)))
     ∙ within_filled (map lower digits) (hex n) (40 - length digits) (omega arith) (hex_lower n (bytes n name))
   where
     bytes : (m : Bytes) → is_name m ≡ true → list_all (λ byte. nat_lt byte 256) m ≡ true

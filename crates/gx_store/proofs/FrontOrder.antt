@@ -5,11 +5,11 @@ use Rattle.std.specs.Ordering.{ordering_then, is_le, is_lt}
 use Rattle.std.specs.List.{list_all}
 use Rattle.std.proofs.Math.Nat.{mul-le-mul_right, pow-succ'}
 use Rattle.std.proofs.lemmas.Bool.{and_parts, false≢true, ltb-true}
-use Rattle.gx_model.specs.Texts.{Bytes}
+use Rattle.gx_model.specs.Texts.{Bytes, byte_cmp}
 use Rattle.gx_model.specs.Objects.{is_name}
 use Rattle.gx_object.specs.declared.name.Name.{Name}
 use Rattle.gx_store.specs.Chains.{chain_of, front}
-use Rattle.gx_store.specs.NameOrder.{compare, is_within}
+use Rattle.gx_store.specs.NameOrder.{is_within}
 use Rattle.gx_store.proofs.NameOrder.{compared, is_equal, is_greater, is_less}
 
 -- the number that the first bytes spell
@@ -39,7 +39,7 @@ below k x y v w l small =
     let most = mul-le-mul_right (256 ^ k) low in
     omega (arith, most, small)
 
-value_rises : (k : ℕ) (xs ys : Bytes) → list_all (λ byte. nat_lt byte 256) xs ≡ true → is_le (compare xs ys) ≡ true → value k xs ≤ value k ys
+value_rises : (k : ℕ) (xs ys : Bytes) → list_all (λ byte. nat_lt byte 256) xs ≡ true → is_le (byte_cmp xs ys) ≡ true → value k xs ≤ value k ys
 unfolding value
 value_rises zero xs ys h e = omega arith
 value_rises (suc k) [] ys h e = omega arith
@@ -49,12 +49,12 @@ value_rises (suc k) (x ∷ xs) (y ∷ ys) h e =
     elim (compared x y) [
       | inl l ↦ below k x y (value k xs) (value k ys) l (value_small k xs p.1)
       | inr (inl f) ↦
-          let rest = value_rises k xs ys p.1 (ap (λ o. is_le (ordering_then o (compare xs ys))) (sym (is_equal x y f)) ∙ e) in
+          let rest = value_rises k xs ys p.1 (ap (λ o. is_le (ordering_then o (byte_cmp xs ys))) (sym (is_equal x y f)) ∙ e) in
           let same = ap (λ b. b * 256 ^ k) f in omega (arith, rest, same)
-      | inr (inr l) ↦ absurd (false≢true (ap (λ o. is_le (ordering_then o (compare xs ys))) (sym (is_greater x y l)) ∙ e))
+      | inr (inr l) ↦ absurd (false≢true (ap (λ o. is_le (ordering_then o (byte_cmp xs ys))) (sym (is_greater x y l)) ∙ e))
     ]
 
-value_falls : (k : ℕ) (xs ys : Bytes) → list_all (λ byte. nat_lt byte 256) ys ≡ true → not (is_lt (compare xs ys)) ≡ true → value k ys ≤ value k xs
+value_falls : (k : ℕ) (xs ys : Bytes) → list_all (λ byte. nat_lt byte 256) ys ≡ true → not (is_lt (byte_cmp xs ys)) ≡ true → value k ys ≤ value k xs
 unfolding value
 value_falls zero xs ys h e = omega arith
 value_falls (suc k) xs [] h e = omega arith
@@ -64,9 +64,9 @@ value_falls (suc k) (x ∷ xs) (y ∷ ys) h e =
     elim (compared y x) [
       | inl l ↦ below k y x (value k ys) (value k xs) l (value_small k ys p.1)
       | inr (inl f) ↦
-          let rest = value_falls k xs ys p.1 (ap (λ o. not (is_lt (ordering_then o (compare xs ys)))) (sym (is_equal x y (sym f))) ∙ e) in
+          let rest = value_falls k xs ys p.1 (ap (λ o. not (is_lt (ordering_then o (byte_cmp xs ys)))) (sym (is_equal x y (sym f))) ∙ e) in
           let same = ap (λ b. b * 256 ^ k) f in omega (arith, rest, same)
-      | inr (inr l) ↦ absurd (false≢true (ap (λ o. not (is_lt (ordering_then o (compare xs ys)))) (sym (is_less x y l)) ∙ e))
+      | inr (inr l) ↦ absurd (false≢true (ap (λ o. not (is_lt (ordering_then o (byte_cmp xs ys)))) (sym (is_less x y l)) ∙ e))
     ]
 
 front_value : (bytes : Bytes) → front bytes ≡ value 4 bytes
@@ -98,11 +98,11 @@ parts chains f g h = let most = mul-le-mul_right chains h in omega (arith, most)
 pub chain_after : (chains : ℕ) (least greatest n : Name) → is_name least.bytes ≡ true → is_within least.bytes greatest.bytes n.bytes ≡ true → chain_of chains least ≤ chain_of chains n
 unfolding chain_of
 chain_after chains least greatest n h e =
-    let rises = value_rises 4 least.bytes n.bytes (bytes_of_name least.bytes h) (and_parts (is_le (compare least.bytes n.bytes)) _ e).0 in
+    let rises = value_rises 4 least.bytes n.bytes (bytes_of_name least.bytes h) (and_parts (is_le (byte_cmp least.bytes n.bytes)) _ e).0 in
     parts chains (front least.bytes) (front n.bytes) (omega (arith, rises, front_value least.bytes, front_value n.bytes))
 
 pub chain_before : (chains : ℕ) (least greatest n : Name) → is_name n.bytes ≡ true → is_within least.bytes greatest.bytes n.bytes ≡ true → chain_of chains n ≤ chain_of chains greatest
 unfolding chain_of
 chain_before chains least greatest n h e =
-    let falls = value_falls 4 greatest.bytes n.bytes (bytes_of_name n.bytes h) (and_parts (is_le (compare least.bytes n.bytes)) _ e).1 in
+    let falls = value_falls 4 greatest.bytes n.bytes (bytes_of_name n.bytes h) (and_parts (is_le (byte_cmp least.bytes n.bytes)) _ e).1 in
     parts chains (front n.bytes) (front greatest.bytes) (omega (arith, falls, front_value greatest.bytes, front_value n.bytes))

@@ -8,10 +8,10 @@ use Rattle.std.specs.Cmp.{nat_cmp_is}
 use Rattle.std.specs.List.{list_all, starts_with}
 use Rattle.std.proofs.lemmas.Bool.{and_parts, ltb-true}
 use Rattle.std.proofs.lemmas.Bool.Decides.{nat_tests}
-use Rattle.gx_model.specs.Texts.{Bytes}
-use Rattle.gx_model.specs.Histories.Values.{is_hex_digit}
+use Rattle.gx_model.specs.Texts.{Bytes, byte_cmp}
+use Rattle.gx_model.specs.Texts.Digits.{is_lower_digit}
 use Rattle.gx_model.specs.Objects.{hex, hex_digit}
-use Rattle.gx_store.specs.NameOrder.{compare, is_within}
+use Rattle.gx_store.specs.NameOrder.{is_within}
 
 -- one number is below another, the same or above it
 pub compared : (m n : ℕ) → (m < n) ⊎ ((m ≡ n) ⊎ (n < m))
@@ -68,7 +68,7 @@ then_then Greater p q = refl
 are_bytes : Bytes → Bool
 are_bytes = list_all (λ byte. nat_lt byte 256)
 
-pub hex_order : (m n : Bytes) → list_all (λ byte. nat_lt byte 256) m ≡ true → list_all (λ byte. nat_lt byte 256) n ≡ true → compare (hex m) (hex n) ≡ compare m n
+pub hex_order : (m n : Bytes) → list_all (λ byte. nat_lt byte 256) m ≡ true → list_all (λ byte. nat_lt byte 256) n ≡ true → byte_cmp (hex m) (hex n) ≡ byte_cmp m n
 hex_order [] [] h k = refl
 hex_order [] (b ∷ n) h k = refl
 hex_order (a ∷ m) [] h k = refl
@@ -81,58 +81,58 @@ hex_order (a ∷ m) (b ∷ n) h k =
     let high = digit_order (a / 16) (b / 16) (omega arith) (omega arith) in
     let low = digit_order (a % 16) (b % 16) (omega arith) (omega arith) in
     (λ i. ordering_then (high i) (ordering_then (low i) (rest i)))
-    ∙ then_then (nat_cmp (a / 16) (b / 16)) (nat_cmp (a % 16) (b % 16)) (compare m n)
-    ∙ ap (λ o. ordering_then o (compare m n)) (two_digits a b)
+    ∙ then_then (nat_cmp (a / 16) (b / 16)) (nat_cmp (a % 16) (b % 16)) (byte_cmp m n)
+    ∙ ap (λ o. ordering_then o (byte_cmp m n)) (two_digits a b)
 
 -- ---- the texts that begin with one are those between it and its two fillings
 
 abbrev pub between : (o p : Ordering) → Bool
 between o p = is_le o && not (is_lt p)
 
-not_below : (k : ℕ) (ys : Bytes) → length ys ≡ k → list_all is_hex_digit ys ≡ true → is_le (compare (replicate k 48) ys) ≡ true
+not_below : (k : ℕ) (ys : Bytes) → length ys ≡ k → list_all is_lower_digit ys ≡ true → is_le (byte_cmp (replicate k 48) ys) ≡ true
 not_below zero [] e h = refl
 not_below zero (y ∷ ys) e h = absurd (omega arith)
 not_below (suc k) [] e h = absurd (omega arith)
 not_below (suc k) (y ∷ ys) e h =
-    let p = and_parts (is_hex_digit y) _ h in
+    let p = and_parts (is_lower_digit y) _ h in
     let rest = not_below k ys (omega arith) p.1 in
     elim (compared 48 y) [
-      | inl l ↦ ap (λ o. is_le (ordering_then o (compare (replicate k 48) ys))) (is_less 48 y l)
-      | inr (inl f) ↦ ap (λ o. is_le (ordering_then o (compare (replicate k 48) ys))) (is_equal 48 y f) ∙ rest
+      | inl l ↦ ap (λ o. is_le (ordering_then o (byte_cmp (replicate k 48) ys))) (is_less 48 y l)
+      | inr (inl f) ↦ ap (λ o. is_le (ordering_then o (byte_cmp (replicate k 48) ys))) (is_equal 48 y f) ∙ rest
       | inr (inr l) ↦ absurd (no_less y p.0 l)
     ]
   where
-    no_less : (y : ℕ) → is_hex_digit y ≡ true → y < 48 → ⊥
+    no_less : (y : ℕ) → is_lower_digit y ≡ true → y < 48 → ⊥
     no_less y h l = grind (arith, nat_tests)
 
-not_above : (k : ℕ) (ys : Bytes) → length ys ≡ k → list_all is_hex_digit ys ≡ true → not (is_lt (compare (replicate k 102) ys)) ≡ true
+not_above : (k : ℕ) (ys : Bytes) → length ys ≡ k → list_all is_lower_digit ys ≡ true → not (is_lt (byte_cmp (replicate k 102) ys)) ≡ true
 not_above zero [] e h = refl
 not_above zero (y ∷ ys) e h = absurd (omega arith)
 not_above (suc k) [] e h = absurd (omega arith)
 not_above (suc k) (y ∷ ys) e h =
-    let p = and_parts (is_hex_digit y) _ h in
+    let p = and_parts (is_lower_digit y) _ h in
     let rest = not_above k ys (omega arith) p.1 in
     elim (compared 102 y) [
       | inl l ↦ absurd (no_more y p.0 l)
-      | inr (inl f) ↦ ap (λ o. not (is_lt (ordering_then o (compare (replicate k 102) ys)))) (is_equal 102 y f) ∙ rest
-      | inr (inr l) ↦ ap (λ o. not (is_lt (ordering_then o (compare (replicate k 102) ys)))) (is_greater 102 y l)
+      | inr (inl f) ↦ ap (λ o. not (is_lt (ordering_then o (byte_cmp (replicate k 102) ys)))) (is_equal 102 y f) ∙ rest
+      | inr (inr l) ↦ ap (λ o. not (is_lt (ordering_then o (byte_cmp (replicate k 102) ys)))) (is_greater 102 y l)
     ]
   where
-    no_more : (y : ℕ) → is_hex_digit y ≡ true → 102 < y → ⊥
+    no_more : (y : ℕ) → is_lower_digit y ≡ true → 102 < y → ⊥
     no_more y h l = grind (arith, nat_tests)
 
 differ : (m n : ℕ) → (m < n) ⊎ (n < m) → nat_eq m n ≡ false
 differ m n (inl l) = grind (arith, nat_tests)
 differ m n (inr l) = grind (arith, nat_tests)
 
-pub within_filled : (xs ys : Bytes) (k : ℕ) → length ys ≡ length xs + k → list_all is_hex_digit ys ≡ true → is_within (xs ++ replicate k 48) (xs ++ replicate k 102) ys ≡ starts_with nat_eq ys xs
+pub within_filled : (xs ys : Bytes) (k : ℕ) → length ys ≡ length xs + k → list_all is_lower_digit ys ≡ true → is_within (xs ++ replicate k 48) (xs ++ replicate k 102) ys ≡ starts_with nat_eq ys xs
 within_filled [] ys k e h = let f : length ys ≡ k = omega arith in λ i. not_below k ys f h i && not_above k ys f h i
 within_filled (x ∷ xs) [] k e h = absurd (omega arith)
 within_filled (x ∷ xs) (y ∷ ys) k e h =
-    let p = and_parts (is_hex_digit y) _ h in
+    let p = and_parts (is_lower_digit y) _ h in
     let rest = within_filled xs ys k (omega arith) p.1 in
-    let low = compare (xs ++ replicate k 48) ys in
-    let high = compare (xs ++ replicate k 102) ys in
+    let low = byte_cmp (xs ++ replicate k 48) ys in
+    let high = byte_cmp (xs ++ replicate k 102) ys in
     elim (compared x y) [
       | inl l ↦ ap (λ o. between (ordering_then o low) (ordering_then o high)) (is_less x y l) ∙ ap (λ b. b && starts_with nat_eq ys xs) (sym (differ x y (inl l)))
       | inr (inl f) ↦ ap (λ o. between (ordering_then o low) (ordering_then o high)) (is_equal x y f) ∙ rest ∙ ap (λ b. b && starts_with nat_eq ys xs) (sym (same x y f))

@@ -15,8 +15,8 @@ front bytes = 16777216 * slice_index bytes 0 + 65536 * slice_index bytes 1 + 256
 unfoldable pub chain_of : ℕ → Name → ℕ
 chain_of chains name = front name.bytes * chains / 4294967296
 
-abbrev pub is_in : ℕ → ℕ → Name → Bool
-is_in chains chain name = nat_eq (chain_of chains name) chain
+abbrev pub is_in_chain : ℕ → ℕ → Name → Bool
+is_in_chain chains chain name = nat_eq (chain_of chains name) chain
 
 -- how many names there are up to the last that passes a test; 0 where none does
 unfoldable pub up_to_last : (Name → Bool) → List Name → ℕ
@@ -26,10 +26,10 @@ up_to_last test (name ∷ names) = cond (nat_lt 0 (up_to_last test names)) (suc 
 -- each chain tells where its last name is, and each name where the last one before it in its chain is
 pub record AreFronts {A : Type 0} (fronts : Fronts A) (names : List Name) : Type 0 where
   pub chains : length names ≤ length fronts.heads.items
-  pub heads : (chain : ℕ) → chain < length fronts.heads.items → slice_index fronts.heads.items chain ≡ up_to_last (is_in (length fronts.heads.items) chain) names
+  pub heads : (chain : ℕ) → chain < length fronts.heads.items → slice_index fronts.heads.items chain ≡ up_to_last (is_in_chain (length fronts.heads.items) chain) names
   pub long : length fronts.next.items ≡ length names
   pub next : (place : ℕ) (name : Name) → slice_get names place ≡ Some name
-      → slice_index fronts.next.items place ≡ up_to_last (is_in (length fronts.heads.items) (chain_of (length fronts.heads.items) name)) (take place names)
+      → slice_index fronts.next.items place ≡ up_to_last (is_in_chain (length fronts.heads.items) (chain_of (length fronts.heads.items) name)) (take place names)
   pub room : length fronts.heads.items ≤ vec_capacity fronts.next
 
 -- these are the names, in so many chains
@@ -46,7 +46,7 @@ DropsLast old new name = (names : List Name) → AreFronts old (names ++ name �
 
 -- what is found in a chain between two names, both included
 abbrev pub found_in : {A : Type 0} → Fronts A → ℕ → Name × Name → List Name → Prefix
-found_in fronts chain ends names = picked (λ name. is_in (length fronts.heads.items) chain name && is_within ends.0.bytes ends.1.bytes name.bytes) names
+found_in fronts chain ends names = picked (λ name. is_in_chain (length fronts.heads.items) chain name && is_within ends.0.bytes ends.1.bytes name.bytes) names
 
 -- ---- rows
 
@@ -61,10 +61,10 @@ of_chains : chain_of 8 (row 64) ≡ 2
 unfolding front chain_of
 of_chains = refl
 
-of_three : up_to_last (is_in 8 2) (row 64 ∷ row 95 ∷ row 96 ∷ []) ≡ 2
+of_three : up_to_last (is_in_chain 8 2) (row 64 ∷ row 95 ∷ row 96 ∷ []) ≡ 2
 unfolding front chain_of up_to_last
 of_three = refl
 
-of_none : up_to_last (is_in 8 4) (row 64 ∷ row 95 ∷ row 96 ∷ []) ≡ 0
+of_none : up_to_last (is_in_chain 8 4) (row 64 ∷ row 95 ∷ row 96 ∷ []) ≡ 0
 unfolding front chain_of up_to_last
 of_none = refl

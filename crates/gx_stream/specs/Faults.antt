@@ -1,5 +1,5 @@
 -- The faults of a stream as those of the model.
-use Rattle.std.specs.Prelude.{[], Option, Some, None}
+use Rattle.std.specs.Prelude.{◌≡◌, [], Option, Some, None, ⊤}
 use Rattle.gx_model.specs.Streams.Items.{End, Finished, Failed, Stream}
 use Rattle.gx_model.specs.declared.faults.Fault.{Fault}
 use Rattle.gx_model.specs.declared.faults.Fault.TheVariants as model
@@ -16,6 +16,11 @@ fault_of BadNumber = model.BadNumber
 abbrev pub shown_end : Option StreamFault → End
 shown_end None = Finished
 shown_end (Some f) = Failed (fault_of f)
+
+-- an end as a reader of items tells it: none, or one of its faults
+abbrev pub IsEnd : End → Type 0
+IsEnd Finished = ⊤
+IsEnd (Failed f) = (why : StreamFault) × (f ≡ fault_of why)
 
 -- nothing to come but an end
 abbrev pub ended : End → Stream

@@ -8,7 +8,7 @@ use Rattle.gx_model.specs.declared.faults.Fault.TheVariants as model
 use Rattle.gx_model.specs.Texts.{Bytes}
 use Rattle.gx_model.specs.Texts.Paths.{Path, begins, is_short, path_cmp}
 use Rattle.gx_model.specs.Histories.Files.{FileMap, Leaf, file_at, sub_map, under}
-use Rattle.gx_model.specs.Histories.Edits.{copied, copy_fault, moved, removed, renamed, with_all, without, without_line, unless}
+use Rattle.gx_model.specs.Histories.Edits.{copied, copy_fault, moved, removed, renamed, with_all, without, without_line}
 use Rattle.gx_model.proofs.Histories.FoundFiles.{at_moved}
 use Rattle.gx_tree.specs.Calls.{Becomes}
 use Rattle.gx_tree.specs.Copies.{graft_fault, is_file}
@@ -18,7 +18,7 @@ use Rattle.gx_tree.specs.Nodes.{Kept, IsInner, IsKept, file, folder, kept_map}
 use Rattle.gx_tree.specs.Steps.{grafted}
 use Rattle.gx_tree.specs.Faults.{fault_of, Refuses}
 use Rattle.gx_tree.specs.declared.fault.TreeFault.{TreeFault}
-use Rattle.gx_model.specs.Faults.{IsFaultOf}
+use Rattle.gx_model.specs.Faults.{IsFaultOf, unless}
 use Rattle.std.specs.FinMap.Entries.{below_all, is_sorted, put}
 use Rattle.gx_tree.proofs.Listed.{below_root}
 use Rattle.gx_tree.proofs.Lookups.{less_is, no_root}

@@ -8,7 +8,8 @@ use Rattle.gx_model.specs.declared.objects.Kind.TheVariants.{Blob, Tree, Commit,
 use Rattle.gx_model.specs.Texts.{Bytes, same_bytes}
 use Rattle.gx_model.specs.Histories.Files.{FileMap}
 use Rattle.gx_model.specs.Histories.{Record}
-use Rattle.gx_model.specs.Records.Growth.{and_some, put, put_all, put_under, record_named, same_kind, same_object, tree_records}
+use Rattle.gx_model.specs.Records.Growth.{put, put_all, put_under, record_named, same_kind, same_object, tree_records}
+use Rattle.std.specs.Option.{option_and_then}
 use Rattle.gx_model.specs.Objects.NameMaps.{IsHeldTree, IsNameMap}
 use Rattle.gx_object.specs.declared.name.Name.{Name}
 use Rattle.gx_tree.specs.declared.fault.TreeFault.{TreeFault}
@@ -79,7 +80,7 @@ put_holds old new r e = by (record_named old r.name) refl e
 
 after_first : (r : Record) (rs old new : List Record) (P : Type 0) → ((mid : List Record) → put old r ≡ Some mid → put_all mid rs ≡ Some new → P) → put_all old (r ∷ rs) ≡ Some new → P
 after_first r rs old new P then e =
-    elim (put old r) as (λ o. put old r ≡ o → and_some o (λ z. put_all z rs) ≡ Some new → P) [
+    elim (put old r) as (λ o. put old r ≡ o → option_and_then (λ z. put_all z rs) o ≡ Some new → P) [
       | None ↦ λ k j. absurd (cc)
       | Some mid ↦ λ k j. then mid k j
     ] refl e

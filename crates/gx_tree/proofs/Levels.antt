@@ -7,13 +7,13 @@ use Rattle.std.specs.Cmp.Lexicographic.{nat_list_cmp_total}
 use Rattle.std.specs.FinMap.Entries.{below_all}
 use Rattle.std.proofs.lemmas.Bool.{and_parts, and_from, cases_Bool, false≢true, true≢false}
 use Rattle.std.proofs.lemmas.List.Folds.{list_all-append}
-use Rattle.gx_model.specs.Texts.{Bytes, same_bytes}
+use Rattle.gx_model.specs.Texts.{Bytes, byte_cmp, same_bytes}
 use Rattle.gx_model.specs.Texts.Paths.{Path, is_component, path_cmp}
 use Rattle.gx_model.specs.Histories.Files.{FileMap}
 use Rattle.gx_model.specs.Records.HistoryOf.{placed}
 use Rattle.gx_tree.specs.Nodes.{Kept, Level, IsAfter, IsInner, IsKept, IsLevel, comes_before, file, files, folder, inserted, is_inner_path, kept_at, kept_map, key, others, with_kept}
 use Rattle.gx_tree.proofs.Lookups.{AreInner, IsSorted, less_is}
-use Rattle.gx_tree.proofs.Order.{byte_cmp, cmp_below, cmp_other, first_text, first_texts_differ, texts_equal}
+use Rattle.gx_tree.proofs.Order.{cmp_below, cmp_other, first_text, first_texts_differ, texts_equal}
 use Rattle.gx_tree.proofs.Texts.{bytes_same, cases_bytes, differ_from, same_bytes_flip, same_itself}
 
 -- ---- the files of one entry

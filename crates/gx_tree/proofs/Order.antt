@@ -6,16 +6,13 @@ use Rattle.std.specs.declared.cmp.Ordering.{Ordering}
 use Rattle.std.specs.declared.cmp.Ordering.TheVariants.{Less, Equal, Greater}
 use Rattle.std.specs.Ordering.{nat_cmp, ordering_then}
 use Rattle.std.specs.Cmp.{IsTotalOrder, tied_itself, nat_cmp_total}
-use Rattle.std.specs.Cmp.Lexicographic.{slice_cmp, on_texts}
+use Rattle.std.specs.Cmp.Lexicographic.{on_texts}
 use Rattle.std.specs.FinMap.{nat_cmp-IsAntisymmetric, slice_cmp-IsAntisymmetric}
 use Rattle.std.proofs.lemmas.Bool.{and_parts, or_parts, not-true, eqb-false, false≢true}
-use Rattle.gx_model.specs.Texts.{Bytes}
+use Rattle.gx_model.specs.Texts.{Bytes, byte_cmp}
 use Rattle.gx_model.specs.Texts.Paths.{Path, is_component, path_cmp, path_text}
 use Rattle.gx_tree.specs.Nodes.{is_inner_path}
 use Rattle.gx_tree.proofs.Texts.{cases_bytes, differ_from}
-
-abbrev pub byte_cmp : Bytes → Bytes → Ordering
-byte_cmp = slice_cmp nat_cmp
 
 pub path_order : IsTotalOrder path_cmp
 path_order = on_texts path_text

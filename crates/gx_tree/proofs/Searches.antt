@@ -6,14 +6,13 @@ use Rattle.std.specs.Cmp.{tied_itself}
 use Rattle.std.specs.Cmp.Lexicographic.{nat_list_cmp_total}
 use Rattle.std.specs.Ordering.{is_lt}
 use Rattle.std.proofs.lemmas.Bool.{cases_Bool, false≢true, not-true, not-false, true≢false}
-use Rattle.gx_model.specs.Texts.{Bytes, same_bytes}
+use Rattle.gx_model.specs.Texts.{Bytes, byte_cmp, same_bytes}
 use Rattle.gx_tree.specs.Components.{bytes_of}
 use Rattle.gx_tree.specs.Nodes.{Kept, Level, IsAfter, IsLevel, file, folder, inserted, kept_at, key, mark, precedes}
 use Rattle.gx_tree.specs.Searches.{Finds}
 use Rattle.gx_tree.specs.Views.{shown_item, shown_entry, shown_entries}
 use Rattle.gx_tree.specs.declared.directory.Entry.{Entry}
 use Rattle.gx_tree.proofs.Levels.{key_trans}
-use Rattle.gx_tree.proofs.Order.{byte_cmp}
 use Rattle.gx_tree.proofs.Texts.{bytes_same, cases_bytes, same_bytes_flip}
 
 pub not_before_itself : (a : Bytes) → is_lt (byte_cmp a a) ≡ true → ⊥

@@ -1,7 +1,7 @@
 -- Directories that are at home while trees are written.
 use Rattle.std.proofs.Common.{◌≡◌, ℕ, ◌+◌, ◌<◌, zero, suc, Bool, true, cond, arith, get_or, List, [], ◌∷◌, ◌++◌, map, take, length, Option, Some, None, refl, sym, ap, ◌∙◌, subst}
 use Rattle.std.specs.Prelude.{IsTrue}
-use Rattle.std.specs.Option.{is_some, unwrap_or}
+use Rattle.std.specs.Option.{is_some, option_and_then, unwrap_or}
 use Rattle.std.specs.List.{AllByRecursion}
 use Rattle.std.proofs.lemmas.Bool.{false≢true}
 use Rattle.std.proofs.lemmas.Grind.{flat_map-append}
@@ -15,7 +15,7 @@ use Rattle.gx_model.specs.Texts.Paths.{Path}
 use Rattle.gx_model.specs.Histories.Edits.{is_root}
 use Rattle.gx_model.specs.Histories.Files.{FileMap, sub_map}
 use Rattle.gx_model.specs.Histories.{Record}
-use Rattle.gx_model.specs.Records.Growth.{and_some, put, put_all, put_under, record_named, same_kind, same_object, tree_records}
+use Rattle.gx_model.specs.Records.Growth.{put, put_all, put_under, record_named, same_kind, same_object, tree_records}
 use Rattle.gx_tree.specs.Components.{bytes_of}
 use Rattle.gx_tree.specs.Homes.{AreAtHome, IsItemAtHome}
 use Rattle.gx_tree.specs.Named.{NamedTree, IsAtHome, IsHome, is_named, own_name}
@@ -86,7 +86,7 @@ put_again rs r h = ap (λ o. put_under o rs r) h ∙ ap (λ b. cond b (Some rs) 
 
 pub put_all_again : (rs ns : List Record) → AllByRecursion (λ r. record_named rs r.name ≡ Some r) ns → put_all rs ns ≡ Some rs
 put_all_again rs [] h = refl
-put_all_again rs (n ∷ ns) h = ap (λ o. and_some o (λ now. put_all now ns)) (put_again rs n h.0) ∙ put_all_again rs ns h.1
+put_all_again rs (n ∷ ns) h = ap (λ o. option_and_then (λ now. put_all now ns) o) (put_again rs n h.0) ∙ put_all_again rs ns h.1
 
 pub take_whole : {X : Type 0} (xs : List X) → take (length xs) xs ≡ xs
 take_whole [] = refl

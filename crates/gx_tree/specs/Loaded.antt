@@ -2,10 +2,9 @@
 use Rattle.std.specs.Prelude.{List, ◌++◌, Option, IfSome, IsTrue}
 use Rattle.std.specs.BTreeMap.{get}
 use Rattle.gx_model.specs.declared.objects.Kind.{Kind}
-use Rattle.gx_model.specs.Texts.{Bytes}
+use Rattle.gx_model.specs.Texts.{Bytes, byte_cmp}
 use Rattle.gx_model.specs.Histories.{Record}
 use Rattle.gx_model.specs.Objects.NameMaps.{IsHeldTree}
-use Rattle.gx_model.specs.Replay.{byte_cmp}
 use Rattle.gx_object.specs.declared.name.Name.{Name}
 use Rattle.gx_tree.specs.Named.{IsAtHome, NamedTree, is_named}
 use Rattle.gx_tree.specs.declared.loaded.LoadedTrees.{LoadedTrees}

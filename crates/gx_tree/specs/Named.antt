@@ -16,8 +16,8 @@ pub record NamedTree : Type 0 where
   pub names : List (Path × Bytes)
 
 -- no files
-abbrev pub nothing : NamedTree
-nothing = record { files = []; names = [] }
+abbrev pub no_files : NamedTree
+no_files = record { files = []; names = [] }
 
 -- the name of the whole, which comes first
 abbrev pub own_name : List (Path × Bytes) → Option Bytes

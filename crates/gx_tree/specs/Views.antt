@@ -10,7 +10,7 @@ use Rattle.gx_model.specs.Objects.{Entry as TreeEntry}
 use Rattle.gx_model.specs.Texts.Paths.{Path}
 use Rattle.gx_object.specs.declared.name.Name.{Name}
 use Rattle.gx_tree.specs.Components.{bytes_of}
-use Rattle.gx_tree.specs.Named.{NamedTree, is_named, nothing, own_name}
+use Rattle.gx_tree.specs.Named.{NamedTree, is_named, no_files, own_name}
 use Rattle.gx_tree.specs.Nodes.{IsLevel, Kept, Level, file, files, folder}
 use Rattle.gx_tree.specs.Rooms.{IsReach}
 use Rattle.gx_tree.specs.declared.directory.Item.{Item}
@@ -42,7 +42,7 @@ shown_item_if (Some i) = Some (shown_item i)
 
 -- the files of a root, with the names that are remembered
 abbrev pub root_tree : Option NamedTree → NamedTree
-root_tree None = nothing
+root_tree None = no_files
 root_tree (Some d) = d
 
 -- a root without files is no directory

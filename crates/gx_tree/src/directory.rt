@@ -5,7 +5,7 @@ ghost use Rattle.std.specs.Option.{option_map};
 ghost use Rattle.gx_model.specs.Histories.Files.{sub_map};
 ghost use Rattle.gx_tree.specs.Edits.{AddsEntries, InsertsItem};
 ghost use Rattle.gx_tree.specs.Homes.{Keeps, Both, IfThere, Borrowed, AreAtHome, EntriesKeepHome, IsItemAtHome, IsLentAtHome};
-ghost use Rattle.gx_tree.specs.Named.{IsAtHome, nothing};
+ghost use Rattle.gx_tree.specs.Named.{IsAtHome, no_files};
 ghost use Rattle.gx_tree.specs.Nodes.{IsInner, IsKeptAt, IsLevel, is_folder, map_if, mark};
 ghost use Rattle.gx_tree.specs.Rooms.{counted, kept_reach};
 ghost use Rattle.gx_tree.specs.Views.{RemembersBelow, shown_item, shown_lent, option_files, shown_entry, shown_entries, tree_of};
@@ -69,7 +69,7 @@ impl<A: Allocator> Model for Directory<A> {
 impl<A: Allocator + Copy> Directory<A> {
     /// That of no files, with room for one entry.
     pub(crate) fn new(alloc: A) -> Result<Directory<A>, AllocError>
-        ensures { IfOk result (λ directory. directory ≡ nothing) }
+        ensures { IfOk result (λ directory. directory ≡ no_files) }
     {
         Directory::of(alloc, Vec::with_capacity(alloc, 1)?, None)
     }

@@ -4,7 +4,7 @@ ghost use Rattle.std.specs.Prelude.{◌≡◌, ◌≢◌, ◌<◌, ◌+◌, [], 
 ghost use Rattle.gx_model.specs.Texts.Paths.{is_component};
 ghost use Rattle.gx_tree.specs.Edits.{Grafts, GraftsBelow, GraftsFiles, GraftsIn, GraftsItem, ReplacesItem, files_below, level_in};
 ghost use Rattle.gx_tree.specs.Homes.{BelowKeepHome, EntriesKeepHome, GraftKeepsHome, IsItemAtHome, ItemKeepsHome, Keeps};
-ghost use Rattle.gx_tree.specs.Named.{IsAtHome, nothing};
+ghost use Rattle.gx_tree.specs.Named.{IsAtHome, no_files};
 ghost use Rattle.gx_tree.specs.Nodes.{IsKept, IsLevel, files, is_folder, mark};
 ghost use Rattle.gx_tree.specs.Rooms.{IsReach};
 ghost use Rattle.gx_tree.specs.Searches.{IsEntryAt};
@@ -51,7 +51,7 @@ impl<A: Allocator + Copy> Directory<A> {
     ) -> Result<Directory<A>, AllocError>
         requires within { depth < length path.now }
         requires kept { IsKept (shown_item item.now) }
-        ensures files { IfOk result (Grafts (drop depth path.now) (shown_item item.now) nothing) }
+        ensures files { IfOk result (Grafts (drop depth path.now) (shown_item item.now) no_files) }
         ensures filled { IfOk result (λ d. d.files ≢ []) }
         ensures home { IfOk result (Keeps IsItemAtHome IsAtHome item.now) }
     {

@@ -12,7 +12,7 @@ ghost use Rattle.gx_tree.specs.HeldTrees.{HoldsTree, NamesHeldTree};
 ghost use Rattle.gx_tree.specs.Homes.{HoldsIn};
 ghost use Rattle.gx_tree.specs.Lists.{shown_listed};
 ghost use Rattle.gx_tree.specs.Loaded.{AreLoaded};
-ghost use Rattle.gx_tree.specs.Named.{IsAtHome, KeepsHome, nothing};
+ghost use Rattle.gx_tree.specs.Named.{IsAtHome, KeepsHome, no_files};
 ghost use Rattle.gx_tree.specs.Writes.{IsTreeName, StoresAll};
 ghost use Rattle.gx_tree.specs.Standings.{standing_of, standing_at};
 ghost use Rattle.gx_model.specs.declared.objects.Mode.TheVariants as modes;
@@ -60,7 +60,7 @@ impl<A: Allocator> Model for PathTree<A> {
 impl<A: Allocator + Copy> PathTree<A> {
     /// A tree with no files. Takes no memory.
     pub fn empty(alloc: A) -> PathTree<A>
-        ensures { result ≡ nothing }
+        ensures { result ≡ no_files }
     {
         PathTree {
             root: Root::none(),
@@ -114,7 +114,7 @@ impl<A: Allocator + Copy> PathTree<A> {
 
     /// Removes each file. Takes no memory. Source: git-fast-import(1), "filedeleteall".
     pub fn clear(&mut self)
-        ensures { self.new ≡ nothing }
+        ensures { self.new ≡ no_files }
     {
         self.root = Root::none();
     }

@@ -12,7 +12,7 @@ ghost use Rattle.gx_tree.specs.Edits.{AreApart, Carries, Grafts, are_apart};
 ghost use Rattle.gx_tree.specs.Faults.{Refuses};
 ghost use Rattle.gx_tree.specs.Homes.{GraftKeepsHome, HoldsIn, IfThere, IsHeldAtHome, Keeps};
 ghost use Rattle.gx_tree.specs.Lists.{AppendsFiles, are_short};
-ghost use Rattle.gx_tree.specs.Named.{IsAtHome, KeepsHome, nothing};
+ghost use Rattle.gx_tree.specs.Named.{IsAtHome, KeepsHome, no_files};
 ghost use Rattle.gx_tree.specs.Nodes.{IsInner, IsKept, IsKeptAt, map_if};
 ghost use Rattle.gx_tree.specs.Standings.{standing_of, standing_at};
 ghost use Rattle.gx_tree.specs.Views.{shown_item};
@@ -51,7 +51,7 @@ impl<A: Allocator> Model for Root<A> {
 impl<A: Allocator + Copy> Root<A> {
     /// That of no files.
     pub(crate) fn none() -> Root<A>
-        ensures { result ≡ nothing }
+        ensures { result ≡ no_files }
     {
         Root { node: None }
     }

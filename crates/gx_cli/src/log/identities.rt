@@ -1,7 +1,8 @@
 //! What an identity says: a name, an email and a date. Source: git-log(1), "PRETTY FORMATS", `%an`, `%ae` and `%at`.
 
 ghost use Rattle.std.specs.Prelude.{◌≡◌};
-ghost use Rattle.gx_cli.specs.Identities.{email_in, name_in, parts_at, seconds_in};
+ghost use Rattle.gx_cli.specs.Identities.{email_in, name_in, seconds_in};
+ghost use Rattle.gx_model.specs.Texts.{parts_at};
 
 use super::messages::trimmed;
 use gx_text::cut;

@@ -6,17 +6,17 @@ use Rattle.std.specs.List.{filter, filter_map, fold, list_all, AllByRecursion}
 use Rattle.std.specs.Ordering.{eq_by_cmp}
 use Rattle.std.specs.Prelude.{T, is_some}
 use Rattle.gx_model.specs.declared.objects.Kind.{Kind}
-use Rattle.gx_model.specs.Texts.{Bytes}
+use Rattle.gx_model.specs.Texts.{Bytes, byte_cmp}
 use Rattle.gx_model.specs.Streams.Commands.{Command}
 use Rattle.gx_model.specs.Streams.Commands as command
 use Rattle.gx_model.specs.Histories.Files.{Leaf}
-use Rattle.gx_model.specs.Histories.Values.{Commit, Value, commit_value, files_of, is_content, is_proper_text, list_of, parents_of, text_of}
-use Rattle.gx_model.specs.Histories.{History, IsHistory, IsIn, Target, at_commit, at_tag}
-use Rattle.gx_model.specs.Revisions.Ranges.{commit_of, reaches}
-use Rattle.gx_model.specs.Replay.{State, byte_cmp, finished, peeled_at, replayed, start}
+use Rattle.gx_model.specs.Histories.Values.{Commit, Value, commit_of, commit_value, files_of, is_content, is_proper_text, list_of, parents_of, text_of}
+use Rattle.gx_model.specs.Histories.{History, IsHistory, IsIn, Target, at_commit, at_tag, no_history}
+use Rattle.gx_model.specs.Revisions.Ranges.{reaches}
+use Rattle.gx_model.specs.Replay.{State, finished, peeled_at, replayed, start}
 use Rattle.gx_model.specs.Export.{all_written, carrier, is_reached, reached_commits, ref_by, ref_command, to_nothing, with_commit}
 use Rattle.gx_model.specs.Changes.{all_changes, base_files, changes_commands, closed_by, commit_ref, commit_with_changes, commits_with_changes, first_or_carrier, is_branch, named_in, reaching, sending_commands, with_changes}
-use Rattle.gx_model.specs.Laws.ExportLaws.{HoldsWhat, IsAgain, IsOne, nothing, steps, values_with_commit}
+use Rattle.gx_model.specs.Laws.ExportLaws.{HoldsWhat, IsAgain, IsOne, steps, values_with_commit}
 use Rattle.gx_model.specs.Laws.ChangesLaws.{changes_report}
 use Rattle.gx_model.proofs.Changes.ChangeSteps.{HaveBlobs, commit_changes_replayed, have_blobs, named_by_mark, same_written}
 use Rattle.gx_model.proofs.Export.CommitSteps.{Branches, committed_on, begun_on, map_of, state_with, steps_after}
@@ -53,7 +53,7 @@ module _ (ws vs : List Value) (before : List Commit) (c : Commit) (h : HoldsWhat
 module _ (name : Kind → Bytes → Bytes) (refs : Refs) where
   -- the commands of all commits, and what was written with them
   record AreReplayed (ws vs : List Value) (bs : Branches) (cs : List Commit) : Type 0 where
-    pub steps : steps name (state_with nothing ws vs bs []) (commits_with_changes name refs ws cs) ≡ Ok (state_with nothing (fold with_commit ws cs) (values_after ws vs cs) (branches_after refs bs cs) [])
+    pub steps : steps name (state_with no_history ws vs bs []) (commits_with_changes name refs ws cs) ≡ Ok (state_with no_history (fold with_commit ws cs) (values_after ws vs cs) (branches_after refs bs cs) [])
     pub written : fold with_changes ws cs ≡ fold with_commit ws cs
 
   all_replayed : (ws vs : List Value) (bs : Branches) (before cs : List Commit) → HoldsWhat ws vs before → FollowsAll before cs → HaveBlobs ws → AreReplayed ws vs bs cs
@@ -66,8 +66,8 @@ module _ (name : Kind → Bytes → Bytes) (refs : Refs) where
       let same = same_written name ws c b k in
       let rest = all_replayed us (values_with_commit ws vs c) (committed_on (commit_ref refs c) c bs) (before ++ c ∷ []) cs (commit_keeps ws vs before c h f.0 f.1 f.2) f.3 (have_blobs ws c b) in
       record {
-        steps = steps_after name (state_with nothing ws vs bs []) (state_with nothing us (values_with_commit ws vs c) (committed_on (commit_ref refs c) c bs) []) (commit_with_changes name refs ws c) (commits_with_changes name refs (with_changes ws c) cs) one
-            ∙ ap (λ now. steps name (state_with nothing us (values_with_commit ws vs c) (committed_on (commit_ref refs c) c bs) []) (commits_with_changes name refs now cs)) same ∙ rest.steps;
+        steps = steps_after name (state_with no_history ws vs bs []) (state_with no_history us (values_with_commit ws vs c) (committed_on (commit_ref refs c) c bs) []) (commit_with_changes name refs ws c) (commits_with_changes name refs (with_changes ws c) cs) one
+            ∙ ap (λ now. steps name (state_with no_history us (values_with_commit ws vs c) (committed_on (commit_ref refs c) c bs) []) (commits_with_changes name refs now cs)) same ∙ rest.steps;
         written = ap (λ ws. fold with_changes ws cs) same ∙ rest.written;
       }
 
@@ -177,7 +177,7 @@ module _ (name : Kind → Bytes → Bytes) where
       ∙ ap (λ ws. commits_with_changes name h.refs [] cs ++ map (ref_by (named_in name ws)) h.refs) done.written
       ∙ ap (λ rs. commits_with_changes name h.refs [] cs ++ rs) (refs_by_mark (all_written cs) h.refs (peeled_ones h x))
 
-  pub all_changes_replayed : (closed : Bool) (h : History) → IsHistory h → (k : History) × IsAgain h k × (replayed name 0 (start nothing) (changes_commands name closed h) None ≡ finished k [] (changes_report name closed h k))
+  pub all_changes_replayed : (closed : Bool) (h : History) → IsHistory h → (k : History) × IsAgain h k × (replayed name 0 (start no_history) (changes_commands name closed h) None ≡ finished k [] (changes_report name closed h k))
   all_changes_replayed closed h x =
       let cs = reached_commits h in
       let ws = all_written cs in
@@ -186,8 +186,8 @@ module _ (name : Kind → Bytes → Bytes) where
       let done = all_replayed name h.refs [] [] [] [] cs none_held (all_follow h x) (λ p i. absurd i) in
       let are = all_refs h.refs [] cs (all_pass (is_reached h.refs) (filter_map commit_of h.values)) (record { sorted = tt; others = λ q n. refl }) in
       let ref_part = map (ref_command ws) h.refs in
-      let inner : steps name (start nothing) (sending_commands name cs h.refs) ≡ Ok (after_refs name h bs) =
-      ap (steps name (start nothing)) (all_by_mark h x)
-      ∙ steps_after name (start nothing) (state_with nothing ws vs bs []) (commits_with_changes name h.refs [] cs) ref_part done.steps
-      ∙ refs_replayed name nothing ws vs bs [] h.refs x.own (peeled_ones h x) in
-      ends_again name h x bs are.sorted (λ q n. ap at_branch (are.others q n)) (changes_commands name closed h) (closed_steps name closed (sending_commands name cs h.refs) (start nothing) (after_refs name h bs) inner)
+      let inner : steps name (start no_history) (sending_commands name cs h.refs) ≡ Ok (after_refs name h bs) =
+      ap (steps name (start no_history)) (all_by_mark h x)
+      ∙ steps_after name (start no_history) (state_with no_history ws vs bs []) (commits_with_changes name h.refs [] cs) ref_part done.steps
+      ∙ refs_replayed name no_history ws vs bs [] h.refs x.own (peeled_ones h x) in
+      ends_again name h x bs are.sorted (λ q n. ap at_branch (are.others q n)) (changes_commands name closed h) (closed_steps name closed (sending_commands name cs h.refs) (start no_history) (after_refs name h bs) inner)

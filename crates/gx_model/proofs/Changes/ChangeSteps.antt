@@ -6,16 +6,16 @@ use Rattle.gx_model.specs.declared.faults.Fault.{Fault}
 use Rattle.gx_model.specs.declared.objects.Kind.{Kind}
 use Rattle.gx_model.specs.Texts.{Bytes}
 use Rattle.gx_model.specs.Texts.Paths.{Path, same_path}
-use Rattle.gx_model.specs.Faults.{and_then}
+use Rattle.gx_model.specs.Faults.{◌>>=◌}
 use Rattle.gx_model.specs.Streams.Commands.{Change, Named, Remove}
 use Rattle.gx_model.specs.Histories.Files.{FileMap, Leaf, file_at}
 use Rattle.gx_model.specs.Histories.Edits.{modified, removed}
-use Rattle.gx_model.specs.Histories.Values.{Commit, Value, blob_value, commit_value, files_of, is_content, is_leaf, list_of, parents_of}
-use Rattle.gx_model.specs.Histories.{History, IsIn, is_in, with_one, with_value}
+use Rattle.gx_model.specs.Histories.Values.{Commit, Value, blob_value, commit_value, files_of, is_content, is_leaf, list_of, parents_of, unless_gitlink}
+use Rattle.gx_model.specs.Histories.{History, IsIn, is_in, no_history, with_one, with_value}
 use Rattle.gx_model.specs.Replay.{State, all_changed, committed_for}
-use Rattle.gx_model.specs.Export.{content_in, contents, file_change, marked_in, with_blobs, with_commit}
+use Rattle.gx_model.specs.Export.{contents, file_change, marked_in, with_blobs, with_commit}
 use Rattle.gx_model.specs.Changes.{base_files, commit_changes, commit_ref, commit_revision, commit_with_changes, gone_paths, is_this_leaf, named_in, own_files, with_changes}
-use Rattle.gx_model.specs.Laws.ExportLaws.{nothing, steps, values_with_blobs, values_with_commit}
+use Rattle.gx_model.specs.Laws.ExportLaws.{steps, values_with_blobs, values_with_commit}
 use Rattle.gx_model.proofs.Histories.ChangedFiles.{all_put, all_removed, changes_make, same_leaf}
 use Rattle.gx_model.proofs.Export.CommitSteps.{AreNamed, Branches, Tags, all_still, are_leaves, begun_on, block_replayed, blobs_have, blobs_keep, committed_on, content_given, front_of, leaves_of, map_of, marks_name, rest_of, state_with}
 use Rattle.gx_model.proofs.Histories.FileMapEdits.{Parts, parts_of}
@@ -27,7 +27,7 @@ use Rattle.gx_model.proofs.Export.PublishedRefs.{Refs}
 
 -- the bytes of a file were written
 abbrev pub IsWritten : List Value → Leaf Bytes → Type 0
-IsWritten ws leaf = AllByRecursion (λ x. IsIn ws (blob_value x)) (cons_option (content_in leaf.0 leaf.1) [])
+IsWritten ws leaf = AllByRecursion (λ x. IsIn ws (blob_value x)) (cons_option (unless_gitlink leaf.0 leaf.1) [])
 
 -- those of all files were
 abbrev pub AreWritten : List Value → FileMap Bytes → Type 0
@@ -67,15 +67,15 @@ module _ (t : Path × Leaf Bytes → Bool) where
 
   still_written : (ws : List Value) (v : Value) (f : FileMap Bytes) → OthersWritten ws f → OthersWritten (v ∷ ws) f
   still_written ws v [] h = tt
-  still_written ws v (e ∷ f) h = (λ n. one_more ws (v ∷ ws) (λ u i. inr i) (cons_option (content_in e.1.0 e.1.1) []) (h.0 n), still_written ws v f h.1)
+  still_written ws v (e ∷ f) h = (λ n. one_more ws (v ∷ ws) (λ u i. inr i) (cons_option (unless_gitlink e.1.0 e.1.1) []) (h.0 n), still_written ws v f h.1)
 
   same_blobs : (f : FileMap Bytes) (ws vs : List Value) → OthersWritten ws f → SameBlobs ws vs (contents (filter t f)) (contents f)
   same_blobs [] ws vs h = record { written = refl; values = refl }
   same_blobs (e ∷ f) ws vs h =
       let held = same_blobs f ws vs h.1 in
       elim (t e) as (λ b. t e ≡ b → SameBlobs ws vs (contents (cond b (e ∷ filter t f) (filter t f))) (contents (e ∷ f))) [
-        | true ↦ λ k. taken (content_in e.1.0 e.1.1) held (λ x. same_blobs f (blob_value x ∷ ws) (with_one vs (blob_value x)) (still_written ws (blob_value x) f h.1))
-        | false ↦ λ k. left (content_in e.1.0 e.1.1) (h.0 k) held
+        | true ↦ λ k. taken (unless_gitlink e.1.0 e.1.1) held (λ x. same_blobs f (blob_value x ∷ ws) (with_one vs (blob_value x)) (still_written ws (blob_value x) f h.1))
+        | false ↦ λ k. left (unless_gitlink e.1.0 e.1.1) (h.0 k) held
       ] refl
     where
       taken : (o : Option Bytes) → SameBlobs ws vs (contents (filter t f)) (contents f) → ((x : Bytes) → SameBlobs (blob_value x ∷ ws) (with_one vs (blob_value x)) (contents (filter t f)) (contents f))
@@ -116,7 +116,7 @@ written_at : (ws : List Value) (f : FileMap Bytes) (q : Path) (leaf : Leaf Bytes
 written_at ws [] q leaf h e = absurd cc
 written_at ws (g ∷ f) q leaf h e =
     let P = λ (x : Bytes). IsIn ws (blob_value x) in
-    let o = content_in g.1.0 g.1.1 in
+    let o = unless_gitlink g.1.0 g.1.1 in
     elim (same_path q g.0) as (λ b. cond b (Some g.1) (file_at f q) ≡ Some leaf → IsWritten ws leaf) [
       | true ↦ λ k. let same : g.1 ≡ leaf = cc in subst (IsWritten ws) same (front_of P o (contents f) h)
       | false ↦ λ k. written_at ws f q leaf (rest_of P o (contents f) h) k
@@ -153,16 +153,16 @@ module _ (name : Kind → Bytes → Bytes) where
   removes_replayed s f (p ∷ ps) cs = removes_replayed s (removed f p) ps cs
 
   puts_replayed : (h : History) (ts : Tags) (ws vs : List Value) (bs : Branches) (f es : FileMap Bytes) → T (are_leaves es) → AreWritten ws es
-      → all_changed name (state_with h ws vs bs ts) f (map (file_change ws) es) ≡ and_then (all_put f es) (with_state (state_with h ws vs bs ts))
+      → all_changed name (state_with h ws vs bs ts) f (map (file_change ws) es) ≡ (all_put f es >>= with_state (state_with h ws vs bs ts))
   puts_replayed h ts ws vs bs f [] l k = refl
   puts_replayed h ts ws vs bs f (e ∷ es) l k =
       let P = λ (x : Bytes). IsIn ws (blob_value x) in
-      let o = content_in e.1.0 e.1.1 in
+      let o = unless_gitlink e.1.0 e.1.1 in
       let given = content_given name h ts ws vs bs e.1.0 e.1.1 (first (is_leaf e.1.0 e.1.1) _ l) (front_of P o (contents es) k) in
       rw given (by (modified f e.0 e.1) (λ g. puts_replayed h ts ws vs bs g es (second (is_leaf e.1.0 e.1.1) _ l) (rest_of P o (contents es) k)))
     where
-      by : (r : Result (FileMap Bytes) Fault) → ((g : FileMap Bytes) → all_changed name (state_with h ws vs bs ts) g (map (file_change ws) es) ≡ and_then (all_put g es) (with_state (state_with h ws vs bs ts)))
-          → and_then (and_then r (with_state (state_with h ws vs bs ts))) (λ r. all_changed name r.0 r.1 (map (file_change ws) es)) ≡ and_then (and_then r (λ g. all_put g es)) (with_state (state_with h ws vs bs ts))
+      by : (r : Result (FileMap Bytes) Fault) → ((g : FileMap Bytes) → all_changed name (state_with h ws vs bs ts) g (map (file_change ws) es) ≡ (all_put g es >>= with_state (state_with h ws vs bs ts)))
+          → ((r >>= with_state (state_with h ws vs bs ts)) >>= λ r. all_changed name r.0 r.1 (map (file_change ws) es)) ≡ ((r >>= λ g. all_put g es) >>= with_state (state_with h ws vs bs ts))
       by (Ok g) again = again g
       by (Err x) again = refl
 
@@ -174,7 +174,7 @@ module _ (name : Kind → Bytes → Bytes) where
       let leaves = all_filter (λ e. is_leaf e.1.0 e.1.1) (λ e. not (is_this_leaf (file_at base e.0) e.1)) (files_of c) (leaves_of (files_of c) new) in
       removes_replayed s base (gone_paths base (files_of c)) (map (file_change ws) (own_files c))
       ∙ puts_replayed h ts ws vs bs (all_removed base (gone_paths base (files_of c))) (own_files c) leaves k
-      ∙ ap (λ r. and_then r (with_state s)) (changes_make base (files_of c) old (parts_of (files_of c) (map_of (files_of c) new)))
+      ∙ ap (λ r. r >>= with_state s) (changes_make base (files_of c) old (parts_of (files_of c) (map_of (files_of c) new)))
 
   -- ---- the commands of a commit
 
@@ -190,7 +190,7 @@ module _ (name : Kind → Bytes → Bytes) where
   -- A commit's commands, where its parents were written with their files: they write what an export's do.
   pub commit_changes_replayed : (refs : Refs) (ws vs : List Value) (bs : Branches) (c : Commit) → HaveBlobs ws → AllByRecursion (λ p. IsIn ws (commit_value p)) (list_of (parents_of c))
       → Parts (base_files (list_of (parents_of c))) → T (is_content (files_of c))
-      → steps name (state_with nothing ws vs bs []) (commit_with_changes name refs ws c) ≡ Ok (state_with nothing (with_commit ws c) (values_with_commit ws vs c) (committed_on (commit_ref refs c) c bs) [])
+      → steps name (state_with no_history ws vs bs []) (commit_with_changes name refs ws c) ≡ Ok (state_with no_history (with_commit ws c) (values_with_commit ws vs c) (committed_on (commit_ref refs c) c bs) [])
   commit_changes_replayed refs ws vs bs c h k old new =
       let xs = contents (own_files c) in
       let us = with_blobs ws xs in
@@ -199,11 +199,11 @@ module _ (name : Kind → Bytes → Bytes) where
       let r = commit_ref refs c in
       let on = begun_on r ps bs in
       let same = same_commit_blobs ws vs c h k in
-      block_replayed name nothing [] r (named_in name us) (commit_changes us c) ws vs bs xs c (
-        all_named nothing [] r us now on ps (all_still ws xs ps k),
-        changes_replayed nothing [] us now on c old new (blobs_have ws xs),
+      block_replayed name no_history [] r (named_in name us) (commit_changes us c) ws vs bs xs c (
+        all_named no_history [] r us now on ps (all_still ws xs ps k),
+        changes_replayed no_history [] us now on c old new (blobs_have ws xs),
       )
-      ∙ (λ i. Ok (state_with nothing (commit_value c ∷ same.written i) (with_value (same.values i) (commit_value c)) (committed_on r c bs) []))
+      ∙ (λ i. Ok (state_with no_history (commit_value c ∷ same.written i) (with_value (same.values i) (commit_value c)) (committed_on r c bs) []))
 
   -- and what was written is what an export writes
   pub same_written : (ws : List Value) (c : Commit) → HaveBlobs ws → AllByRecursion (λ p. IsIn ws (commit_value p)) (list_of (parents_of c)) → with_changes ws c ≡ with_commit ws c

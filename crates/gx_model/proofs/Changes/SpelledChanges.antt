@@ -6,19 +6,18 @@ use Rattle.std.specs.List.{filter, flat_map, filter_map, fold, list_all, AllByRe
 use Rattle.std.specs.Ordering.{eq_by_cmp}
 use Rattle.std.specs.Prelude.{T, is_some}
 use Rattle.gx_model.specs.declared.objects.Kind.{Kind}
-use Rattle.gx_model.specs.Texts.{Bytes}
+use Rattle.gx_model.specs.Texts.{Bytes, byte_cmp}
 use Rattle.gx_model.specs.Texts.Paths.{Path, is_file_path}
 use Rattle.gx_model.specs.Texts.RefNames.{is_ref_name}
 use Rattle.gx_model.specs.Streams.Commands.{Change, Remove}
 use Rattle.gx_model.specs.Streams.Grammar.{commands_of}
 use Rattle.gx_model.specs.Histories.Files.{FileMap, Leaf, are_file_paths, file_at}
-use Rattle.gx_model.specs.Histories.Values.{Commit, Value, blob_value, commit_value, files_of, is_content, is_leaf, is_proper_text, list_of, parents_of, text_of}
-use Rattle.gx_model.specs.Histories.{History, IsHistory, IsIn}
-use Rattle.gx_model.specs.Revisions.Ranges.{commit_of}
-use Rattle.gx_model.specs.Replay.{byte_cmp, finished, replayed, replayed_text, start}
+use Rattle.gx_model.specs.Histories.Values.{Commit, Value, blob_value, commit_of, commit_value, files_of, is_content, is_leaf, is_proper_text, list_of, parents_of, text_of}
+use Rattle.gx_model.specs.Histories.{History, IsHistory, IsIn, no_history}
+use Rattle.gx_model.specs.Replay.{finished, replayed, replayed_text, start}
 use Rattle.gx_model.specs.Export.{all_written, blob_commands, command_items, contents, file_change, is_reached, marked_in, reached_commits, ref_command, reset_before, with_blobs, with_commit}
 use Rattle.gx_model.specs.Changes.{base_files, changes_commands, changes_text, commit_changes, commit_ref, commit_with_changes, commits_with_changes, gone_paths, named_in, own_files, sending_commands, with_changes}
-use Rattle.gx_model.specs.Laws.ExportLaws.{HoldsWhat, IsAgain, IsNamedCommit, IsReadable, IsReadableCommit, IsReadableFile, IsSpelledChange, nothing, values_with_commit}
+use Rattle.gx_model.specs.Laws.ExportLaws.{HoldsWhat, IsAgain, IsNamedCommit, IsReadable, IsReadableCommit, IsReadableFile, IsSpelledChange, values_with_commit}
 use Rattle.gx_model.specs.Laws.ChangesLaws.{changes_report}
 use Rattle.gx_model.proofs.Histories.AddedValues.{paths_of}
 use Rattle.gx_model.proofs.Changes.ChangeReplays.{all_by_mark, all_changes_replayed, base_parts, goes_on_ref, IsFound, parents_written}
@@ -113,11 +112,11 @@ module _ (name : Kind → Bytes → Bytes) where
 
   -- ---- the import
 
-  pub changes_imported : (closed : Bool) (h : History) → IsHistory h → IsReadable h → (k : History) × IsAgain h k × (replayed_text name nothing (changes_text name closed h) false ≡ finished k [] (changes_report name closed h k))
+  pub changes_imported : (closed : Bool) (h : History) → IsHistory h → IsReadable h → (k : History) × IsAgain h k × (replayed_text name no_history (changes_text name closed h) false ≡ finished k [] (changes_report name closed h k))
   changes_imported closed h x r =
       let inner = sending_commands name (reached_commits h) h.refs in
       let s = all_changes_spelled h x r in
       let items = items_read (flat_map command_items (changes_commands name closed h)) (closed_spelled closed inner s) in
       let commands = ap commands_of items ∙ closed_read closed inner s in
       let again = all_changes_replayed name closed h x in
-      (again.0, again.1, ap (λ cs. replayed name 0 (start nothing) cs.list cs.fault) commands ∙ again.2)
+      (again.0, again.1, ap (λ cs. replayed name 0 (start no_history) cs.list cs.fault) commands ∙ again.2)

@@ -11,16 +11,19 @@ use Rattle.std.specs.declared.cmp.Ordering.TheVariants.{Greater}
 use Rattle.gx_model.specs.Streams.Commands.{Change, Clear, Command, CommitIsh}
 use Rattle.gx_model.specs.Histories.Edits.{modified}
 use Rattle.gx_model.specs.Changes.{base_files}
-use Rattle.gx_model.specs.Export.{blob_commands, carrier, commit_on, content_in, contents, dataref_in, file_change, marked_in, number_in, one_commit, reset_before, with_blobs, with_commit}
-use Rattle.gx_model.specs.Laws.ExportLaws.{carried, nothing, numbered, state_at, steps, values_with_blobs, values_with_commit}
-use Rattle.gx_model.specs.Faults.{and_then}
+use Rattle.gx_model.specs.Export.{blob_commands, carrier, commit_on, contents, dataref_in, file_change, marked_in, number_in, one_commit, reset_before, with_blobs, with_commit}
+use Rattle.gx_model.specs.Laws.ExportLaws.{carried, numbered, state_at, steps, values_with_blobs, values_with_commit}
+use Rattle.gx_model.specs.Faults.{◌>>=◌}
 use Rattle.gx_model.specs.Histories.Files.{FileMap, are_apart, is_file_map}
-use Rattle.gx_model.specs.Histories.{History, IsIn, is_in, with_one, with_value}
+use Rattle.gx_model.specs.Histories.{History, IsIn, is_in, no_history, with_one, with_value}
 use Rattle.gx_model.specs.Texts.Paths.{Path, are_in_line, begins, is_file_path, path_cmp}
-use Rattle.gx_model.specs.Replay.{State, all_changed, all_committed, at, byte_cmp, committed_for, content, ok_or_mark, own_commit, step}
-use Rattle.gx_model.specs.Texts.{Bytes, same_bytes}
-use Rattle.gx_model.specs.Histories.Values.{Commit, Commits, Tag, Value, blob_value, commit, commit_value, commits_of, files_of, is_content, is_hex_digit, is_leaf, list_of, more, none, parents_of, same_value}
+use Rattle.gx_model.specs.Replay.{State, all_changed, all_committed, at, committed_for, content, own_commit, step}
+use Rattle.std.specs.Option.{ok_or}
+use Rattle.gx_model.specs.Texts.{Bytes, byte_cmp, same_bytes}
+use Rattle.gx_model.specs.Histories.Values.{Commit, Commits, Tag, Value, blob_value, commit, commit_value, commits_of, files_of, is_content, is_leaf, list_of, more, none, parents_of, same_value, unless_gitlink}
+use Rattle.gx_model.specs.Texts.Digits.{is_lower_digit}
 use Rattle.gx_model.specs.declared.faults.Fault.{Fault}
+use Rattle.gx_model.specs.declared.faults.Fault.TheVariants.{UnknownMark}
 use Rattle.gx_model.specs.declared.objects.Kind.{Kind}
 use Rattle.gx_model.specs.declared.objects.Mode.{Mode}
 use Rattle.gx_model.specs.declared.objects.Mode.TheVariants.{Dir, Exec, File, Gitlink, Link}
@@ -161,15 +164,15 @@ abbrev pub committed_on : Bytes → Commit → Branches → Branches
 committed_on r c bs = put byte_cmp r (Some c) (begun_on r (list_of (parents_of c)) bs)
 
 module _ (name : Kind → Bytes → Bytes) where
-  pub steps-append : (s : State) (xs ys : List Command) → steps name s (xs ++ ys) ≡ and_then (steps name s xs) (λ t. steps name t ys)
+  pub steps-append : (s : State) (xs ys : List Command) → steps name s (xs ++ ys) ≡ (steps name s xs >>= λ t. steps name t ys)
   steps-append s [] ys = refl
   steps-append s (x ∷ xs) ys = by (λ t. steps-append t xs ys) (step name s x) where
-    by : ((t : State) → steps name t (xs ++ ys) ≡ and_then (steps name t xs) (λ t. steps name t ys)) → (r : Result State Fault) → and_then r (λ t. steps name t (xs ++ ys)) ≡ and_then (and_then r (λ t. steps name t xs)) (λ t. steps name t ys)
+    by : ((t : State) → steps name t (xs ++ ys) ≡ (steps name t xs >>= λ t. steps name t ys)) → (r : Result State Fault) → (r >>= λ t. steps name t (xs ++ ys)) ≡ ((r >>= λ t. steps name t xs) >>= λ t. steps name t ys)
     by again (Ok t) = again t
     by again (Err e) = refl
 
   pub steps_after : (s t : State) (xs ys : List Command) → steps name s xs ≡ Ok t → steps name s (xs ++ ys) ≡ steps name t ys
-  steps_after s t xs ys e = steps-append s xs ys ∙ ap (λ r. and_then r (λ u. steps name u ys)) e
+  steps_after s t xs ys e = steps-append s xs ys ∙ ap (λ r. r >>= λ u. steps name u ys) e
 
 module _ (name : Kind → Bytes → Bytes) (h : History) (ts : Tags) where
   -- the state of such a replay
@@ -187,7 +190,7 @@ module _ (name : Kind → Bytes → Bytes) (h : History) (ts : Tags) where
   -- ---- parents
 
   mark_gives : (ws vs : List Value) (bs : Branches) (v : Value) → IsIn ws v → at (at_now ws vs bs) (number_in ws v) ≡ Ok v
-  mark_gives ws vs bs v k = ap ok_or_mark (number_found ws v k)
+  mark_gives ws vs bs v k = ap (λ o. ok_or o UnknownMark) (number_found ws v k)
 
   -- these texts name these commits, for a command of a branch
   abbrev pub AreNamed : Bytes → (Commit → CommitIsh) → State → List Commit → Type 0
@@ -204,19 +207,19 @@ module _ (name : Kind → Bytes → Bytes) (h : History) (ts : Tags) where
 
   -- ---- files
 
-  pub content_given : (ws vs : List Value) (bs : Branches) (m : Mode) (x : Bytes) → T (is_leaf m x) → AllByRecursion (λ y. IsIn ws (blob_value y)) (cons_option (content_in m x) []) → content name (at_now ws vs bs) m (dataref_in ws m x) ≡ Ok (at_now ws vs bs, x)
+  pub content_given : (ws vs : List Value) (bs : Branches) (m : Mode) (x : Bytes) → T (is_leaf m x) → AllByRecursion (λ y. IsIn ws (blob_value y)) (cons_option (unless_gitlink m x) []) → content name (at_now ws vs bs) m (dataref_in ws m x) ≡ Ok (at_now ws vs bs, x)
   content_given ws vs bs File x l k = rw (mark_gives ws vs bs (blob_value x) k.0) refl
   content_given ws vs bs Exec x l k = rw (mark_gives ws vs bs (blob_value x) k.0) refl
   content_given ws vs bs Link x l k = rw (mark_gives ws vs bs (blob_value x) k.0) refl
   content_given ws vs bs Dir x l k = absurd l
-  content_given ws vs bs Gitlink x l k = ap (λ d. Ok (at_now ws vs bs, d)) (lower_again x (second (nat_eq (length x) 40) (list_all is_hex_digit x) l))
+  content_given ws vs bs Gitlink x l k = ap (λ d. Ok (at_now ws vs bs, d)) (lower_again x (second (nat_eq (length x) 40) (list_all is_lower_digit x) l))
 
   files_given : (ws vs : List Value) (bs : Branches) (before es : FileMap Bytes) → is_file_map (before ++ es) ≡ true → T (are_leaves es) → AllByRecursion (λ y. IsIn ws (blob_value y)) (contents es)
       → all_changed name (at_now ws vs bs) before (map (file_change ws) es) ≡ Ok (at_now ws vs bs, before ++ es)
   files_given ws vs bs before [] f l k = ap (λ g. Ok (at_now ws vs bs, g)) (sym (append-nil before))
   files_given ws vs bs before (e ∷ es) f l k =
-      let again = files_given ws vs bs (before ++ e ∷ []) es (ap is_file_map (append_assoc before (e ∷ []) es) ∙ f) (second (is_leaf e.1.0 e.1.1) _ l) (rest_of (λ y. IsIn ws (blob_value y)) (content_in e.1.0 e.1.1) (contents es) k) in
-      let given = content_given ws vs bs e.1.0 e.1.1 (first (is_leaf e.1.0 e.1.1) _ l) (front_of (λ y. IsIn ws (blob_value y)) (content_in e.1.0 e.1.1) (contents es) k) in
+      let again = files_given ws vs bs (before ++ e ∷ []) es (ap is_file_map (append_assoc before (e ∷ []) es) ∙ f) (second (is_leaf e.1.0 e.1.1) _ l) (rest_of (λ y. IsIn ws (blob_value y)) (unless_gitlink e.1.0 e.1.1) (contents es) k) in
+      let given = content_given ws vs bs e.1.0 e.1.1 (first (is_leaf e.1.0 e.1.1) _ l) (front_of (λ y. IsIn ws (blob_value y)) (unless_gitlink e.1.0 e.1.1) (contents es) k) in
       rw given (rw (placed before e es f) again) ∙ ap (λ g. Ok (at_now ws vs bs, g)) (append_assoc before (e ∷ []) es)
 
   -- ---- the commit
@@ -228,7 +231,7 @@ module _ (name : Kind → Bytes → Bytes) (h : History) (ts : Tags) where
   commit_replayed r names changes ws vs bs (commit f none t) k g n = rw (n refl, g) refl
   commit_replayed r names changes ws vs bs (commit f (more p ps) t) k g n = rw (k.0, others_given r names (at_now ws vs bs) (list_of ps) k.1, g, commits_again ps) refl
 
-  alone : (r : Result State Fault) → and_then r (λ t. steps name t []) ≡ r
+  alone : (r : Result State Fault) → (r >>= λ t. steps name t []) ≡ r
   alone (Ok t) = refl
   alone (Err e) = refl
 
@@ -276,8 +279,8 @@ module _ (name : Kind → Bytes → Bytes) where
       let us = with_blobs ws xs in
       let now = values_with_blobs ws vs xs in
       let bs = begun_on carrier ps (carried b) in
-      block_replayed name nothing [] carrier (λ p. marked_in us (commit_value p)) (Clear ∷ map (file_change us) (files_of c)) ws vs (carried b) xs c (
-        marks_name name nothing [] carrier us now bs ps (all_still ws xs ps k),
-        files_given name nothing [] us now bs [] (files_of c) (map_of (files_of c) (passes _ h)) (leaves_of (files_of c) (passes _ h)) (blobs_have ws xs),
+      block_replayed name no_history [] carrier (λ p. marked_in us (commit_value p)) (Clear ∷ map (file_change us) (files_of c)) ws vs (carried b) xs c (
+        marks_name name no_history [] carrier us now bs ps (all_still ws xs ps k),
+        files_given name no_history [] us now bs [] (files_of c) (map_of (files_of c) (passes _ h)) (leaves_of (files_of c) (passes _ h)) (blobs_have ws xs),
       )
-      ∙ ap (λ cs. Ok (state_with nothing (with_commit ws c) (values_with_commit ws vs c) cs [])) (one_carried b c)
+      ∙ ap (λ cs. Ok (state_with no_history (with_commit ws c) (values_with_commit ws vs c) cs [])) (one_carried b c)

@@ -8,13 +8,12 @@ use Rattle.std.specs.Prelude.{T}
 use Rattle.gx_model.specs.Streams.Commands.{Command}
 use Rattle.gx_model.specs.Revisions.Denotation.{ref_at}
 use Rattle.gx_model.specs.Export.{all_written, carrier, commit_commands, export_commands, inner_commands, is_reached, last_reset, one_commit, reached_commits, ref_command, with_commit}
-use Rattle.gx_model.specs.Laws.ExportLaws.{HoldsWhat, IsAgain, IsOne, IsReached, carried, exported_report, nothing, state_at, steps, values_with_commit}
-use Rattle.gx_model.specs.Faults.{and_then}
-use Rattle.gx_model.specs.Histories.{History, IsHistory, IsIn, IsWhole, Target, value_at}
-use Rattle.gx_model.specs.Revisions.Ranges.{commit_of}
-use Rattle.gx_model.specs.Replay.{Outcome, State, byte_cmp, ended, final, final_refs, finished, is_fast_forward, is_forward, peeled_at, refused, replayed, report, start, step}
-use Rattle.gx_model.specs.Texts.{Bytes}
-use Rattle.gx_model.specs.Histories.Values.{Commit, Value, commit_value, files_of, is_content, is_proper, is_proper_text, list_of, parents_of, text_of}
+use Rattle.gx_model.specs.Laws.ExportLaws.{HoldsWhat, IsAgain, IsOne, IsReached, carried, exported_report, state_at, steps, values_with_commit}
+use Rattle.gx_model.specs.Faults.{◌>>=◌}
+use Rattle.gx_model.specs.Histories.{History, IsHistory, IsIn, IsWhole, Target, no_history, value_at}
+use Rattle.gx_model.specs.Replay.{Outcome, State, ended, final, final_refs, finished, is_fast_forward, is_forward, peeled_at, refused, replayed, report, start, step}
+use Rattle.gx_model.specs.Texts.{Bytes, byte_cmp}
+use Rattle.gx_model.specs.Histories.Values.{Commit, Value, commit_of, commit_value, files_of, is_content, is_proper, is_proper_text, list_of, parents_of, text_of}
 use Rattle.gx_model.specs.declared.faults.Fault.{Fault}
 use Rattle.gx_model.specs.declared.objects.Kind.{Kind}
 use Rattle.gx_model.proofs.Export.CommitSteps.{Branches, one_commit_replayed, state_with, steps-append, steps_after}
@@ -55,14 +54,14 @@ module _ (name : Kind → Bytes → Bytes) where
   commits_replayed ws vs b before (c ∷ cs) h f =
       let one = one_commit_replayed name ws vs b c (is_true _ (first (is_content (files_of c)) (is_proper_text (text_of c)) (passes _ f.0))) (each_one (IsOne before) (λ p. IsIn ws (commit_value p)) (λ p i. one_of_all (λ d. IsIn ws (commit_value d)) before p h.commits i) (list_of (parents_of c)) f.1) in
       let rest = commits_replayed (with_commit ws c) (values_with_commit ws vs c) (Some (Some c)) (before ++ c ∷ []) cs (commit_keeps ws vs before c h f.0 f.1 f.2) f.3 in
-      steps-append name (state_at ws vs b) (one_commit ws c) (commit_commands (with_commit ws c) cs) ∙ ap (λ r. and_then r (λ t. steps name t (commit_commands (with_commit ws c) cs))) one ∙ rest
+      steps-append name (state_at ws vs b) (one_commit ws c) (commit_commands (with_commit ws c) cs) ∙ ap (λ r. r >>= λ t. steps name t (commit_commands (with_commit ws c) cs)) one ∙ rest
 
   -- ---- the end, from the steps
 
   pub all_replayed : (n : ℕ) (s t : State) (cs : List Command) → steps name s cs ≡ Ok t → replayed name n s cs None ≡ replayed name (n + length cs) t [] None
   all_replayed n s t [] e = let k : n + 0 ≡ n = omega arith in ap (λ u. ended n u None) (same_ok s t e) ∙ ap (λ m. ended m t None) (sym k)
   all_replayed n s t (c ∷ cs) e = by (step name s c) (λ u. all_replayed (n + 1) u t cs) e where
-    by : (r : Result State Fault) → ((u : State) → steps name u cs ≡ Ok t → replayed name (n + 1) u cs None ≡ replayed name (n + 1 + length cs) t [] None) → and_then r (λ u. steps name u cs) ≡ Ok t
+    by : (r : Result State Fault) → ((u : State) → steps name u cs ≡ Ok t → replayed name (n + 1) u cs None ≡ replayed name (n + 1 + length cs) t [] None) → (r >>= λ u. steps name u cs) ≡ Ok t
         → elim r as (λ x. Outcome) [ Ok u ↦ replayed name (n + 1) u cs None | Err f ↦ refused (n + 1) f s.progress s.kept ] ≡ replayed name (n + suc (length cs)) t [] None
     by (Ok u) again e = let k : n + 1 + length cs ≡ n + suc (length cs) = omega arith in again u e ∙ ap (λ m. ended m t None) k
     by (Err f) again e = absurd cc
@@ -120,11 +119,11 @@ module _ (name : Kind → Bytes → Bytes) where
 
   -- what stands after the commits and the refs of an export, where these were the branches after the commits
   abbrev pub after_refs : History → Branches → State
-  after_refs h bs = let cs = reached_commits h in state_with nothing (all_written cs) (ref_values (values_after [] [] cs) h.refs) (ref_branches bs h.refs) (ref_tags [] h.refs)
+  after_refs h bs = let cs = reached_commits h in state_with no_history (all_written cs) (ref_values (values_after [] [] cs) h.refs) (ref_branches bs h.refs) (ref_tags [] h.refs)
 
   -- Commands that lead to that state end with the refs of the history and all that they reach.
-  pub ends_again : (h : History) → IsHistory h → (bs : Branches) → T (is_sorted byte_cmp bs) → HasNoOther bs h.refs → (commands : List Command) → steps name (start nothing) commands ≡ Ok (after_refs h bs)
-      → (k : History) × IsAgain h k × (replayed name 0 (start nothing) commands None ≡ finished k [] (record { commands = length commands; objects = length k.values; refs = length h.refs }))
+  pub ends_again : (h : History) → IsHistory h → (bs : Branches) → T (is_sorted byte_cmp bs) → HasNoOther bs h.refs → (commands : List Command) → steps name (start no_history) commands ≡ Ok (after_refs h bs)
+      → (k : History) × IsAgain h k × (replayed name 0 (start no_history) commands None ≡ finished k [] (record { commands = length commands; objects = length k.values; refs = length h.refs }))
   ends_again h x bs sorted others commands all =
       let cs = reached_commits h in
       let ws = all_written cs in
@@ -149,7 +148,7 @@ module _ (name : Kind → Bytes → Bytes) where
           all = λ u r. let a = any_from (map (λ r. value_at r.1) h.refs) u r in reached_held us after.whole a.0 u a.2 (all_in (IsIn us) (map (λ r. value_at r.1) h.refs) a.0 (targets (IsIn us) h.refs after.has) a.1);
           whole = after.whole;
         },
-        all_replayed name 0 (start nothing) t commands all ∙ ap (λ b. cond b (finished (final t) [] (report (0 + length commands) t)) (refused (0 + length commands + 1) faults.NotFastForward [] t.kept)) forward ∙ ap (finished (final t) []) told,
+        all_replayed name 0 (start no_history) t commands all ∙ ap (λ b. cond b (finished (final t) [] (report (0 + length commands) t)) (refused (0 + length commands + 1) faults.NotFastForward [] t.kept)) forward ∙ ap (finished (final t) []) told,
       )
     where
       targets : (P : Value → Type 0) (rs : Refs) → AllByRecursion (λ r. P (value_at r.1)) rs → AllByRecursion P (map (λ r. value_at r.1) rs)
@@ -158,7 +157,7 @@ module _ (name : Kind → Bytes → Bytes) where
         by [] g = tt
         by (r ∷ rs) g = (g.0, by rs g.1)
 
-  pub export_replayed : (h : History) → IsHistory h → (k : History) × IsAgain h k × (replayed name 0 (start nothing) (export_commands h) None ≡ finished k [] (exported_report h k))
+  pub export_replayed : (h : History) → IsHistory h → (k : History) × IsAgain h k × (replayed name 0 (start no_history) (export_commands h) None ≡ finished k [] (exported_report h k))
   export_replayed h x =
       let cs = reached_commits h in
       let ws = all_written cs in
@@ -167,5 +166,5 @@ module _ (name : Kind → Bytes → Bytes) where
       let ref_part = map (ref_command ws) h.refs in
       let inner : steps name (state_at [] [] None) (inner_commands cs h.refs) ≡ Ok (after_refs h bs) =
       steps_after name (state_at [] [] None) (state_at ws vs (last_carried None cs)) (commit_commands [] cs) (last_reset cs ++ ref_part) (commits_replayed name [] [] None [] cs none_held (all_follow h x))
-      ∙ last_reset_replayed ws vs cs ref_part ∙ refs_replayed name nothing ws vs bs [] h.refs x.own (peeled_ones h x) in
+      ∙ last_reset_replayed ws vs cs ref_part ∙ refs_replayed name no_history ws vs bs [] h.refs x.own (peeled_ones h x) in
       ends_again h x bs (carried_sorted cs) (λ q _. no_branch q cs) (export_commands h) (steps_after name (state_at [] [] None) (after_refs h bs) (inner_commands cs h.refs) (command.Done ∷ []) inner)

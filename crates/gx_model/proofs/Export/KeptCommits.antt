@@ -4,14 +4,13 @@ use Rattle.std.proofs.lemmas.List.Elements.{filter_map-append}
 use Rattle.std.specs.Bool.{passes}
 use Rattle.std.specs.List.{filter_map, fold, AllByRecursion, cons_option}
 use Rattle.std.specs.Prelude.{IsTrue, T, ◌⊎◌}
-use Rattle.gx_model.specs.Export.{content_in, contents, with_blobs, with_commit}
+use Rattle.gx_model.specs.Export.{contents, with_blobs, with_commit}
 use Rattle.gx_model.specs.Laws.ExportLaws.{AnyReaches, HoldsWhat, IsOne, values_with_blobs, values_with_commit}
 use Rattle.gx_model.specs.Histories.Files.{FileMap, depth}
 use Rattle.gx_model.specs.Histories.{IsIn, IsWhole, Reaches, is_in, itself, through, with_one, with_tree, with_tree_to, with_value}
 use Rattle.gx_model.specs.Laws.HistoryLaws.{IsAdded}
-use Rattle.gx_model.specs.Revisions.Ranges.{commit_of}
 use Rattle.gx_model.specs.Texts.{Bytes}
-use Rattle.gx_model.specs.Histories.Values.{Commit, Value, blob_of, blob_value, blobs_of, commit_value, files_of, is_proper, list_of, parents_of, parts, sub_maps, tree_value}
+use Rattle.gx_model.specs.Histories.Values.{Commit, Value, blob_of, blob_value, blobs_of, commit_of, commit_value, files_of, is_proper, list_of, parents_of, parts, sub_maps, tree_value, unless_gitlink}
 use Rattle.gx_model.specs.declared.objects.Mode.{Mode}
 use Rattle.gx_model.specs.declared.objects.Mode.TheVariants.{Dir, Exec, File, Gitlink, Link}
 use Rattle.gx_model.proofs.Histories.AddedValues.{all_join, in_left, in_some, is_in_is, keeps, one_added, value_added}
@@ -70,7 +69,7 @@ blobs_only ws vs (x ∷ xs) u i =
 pub contents_are : (f : FileMap Bytes) → blobs_of f ≡ map blob_value (contents f)
 contents_are [] = refl
 contents_are ((p, (m, x)) ∷ f) = by m (contents_are f) where
-  by : (m : Mode) → blobs_of f ≡ map blob_value (contents f) → cons_option (blob_of m x) (blobs_of f) ≡ map blob_value (cons_option (content_in m x) (contents f))
+  by : (m : Mode) → blobs_of f ≡ map blob_value (contents f) → cons_option (blob_of m x) (blobs_of f) ≡ map blob_value (cons_option (unless_gitlink m x) (contents f))
   by File e = ap (λ t. blob_value x ∷ t) e
   by Exec e = ap (λ t. blob_value x ∷ t) e
   by Link e = ap (λ t. blob_value x ∷ t) e

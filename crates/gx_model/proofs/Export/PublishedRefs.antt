@@ -8,10 +8,9 @@ use Rattle.gx_model.specs.Export.{ref_command}
 use Rattle.gx_model.specs.Laws.ExportLaws.{AnyReaches, steps}
 use Rattle.gx_model.specs.Histories.{History, IsIn, IsRefOf, IsWhole, Reaches, Target, at_commit, at_tag, itself, value_at, with_one}
 use Rattle.gx_model.specs.Laws.HistoryLaws.{IsAdded}
-use Rattle.gx_model.specs.Revisions.Ranges.{commit_of}
-use Rattle.gx_model.specs.Replay.{byte_cmp, peeled_at, with_branch}
-use Rattle.gx_model.specs.Texts.{Bytes}
-use Rattle.gx_model.specs.Histories.Values.{Commit, Tag, Value, commit_value, is_proper, tag_value}
+use Rattle.gx_model.specs.Replay.{peeled_at, with_branch}
+use Rattle.gx_model.specs.Texts.{Bytes, byte_cmp}
+use Rattle.gx_model.specs.Histories.Values.{Commit, Tag, Value, commit_of, commit_value, is_proper, tag_value}
 use Rattle.gx_model.specs.declared.objects.Kind.{Kind}
 use Rattle.gx_model.proofs.Histories.AddedValues.{keeps, one_added}
 use Rattle.gx_model.proofs.Export.CommitSteps.{Branches, Tags, number_found, state_with}

@@ -8,10 +8,10 @@ use Rattle.gx_model.specs.Export.{is_reached}
 use Rattle.gx_model.specs.Laws.ExportLaws.{AnyReaches, IsOne}
 use Rattle.gx_model.specs.Histories.{IsClosedAfter, IsIn, IsWhole, Reaches, Target, at_commit, at_tag, itself, through, value_at}
 use Rattle.gx_model.specs.Laws.HistoryLaws.{IsParent}
-use Rattle.gx_model.specs.Revisions.Ranges.{commit_of, reaches, some_reaches}
+use Rattle.gx_model.specs.Revisions.Ranges.{reaches, some_reaches}
 use Rattle.gx_model.specs.Replay.{peeled_at}
 use Rattle.gx_model.specs.Texts.{Bytes}
-use Rattle.gx_model.specs.Histories.Values.{Commit, Commits, Value, blob_value, commit, commit_value, is_proper, list_of, more, none, parents_of, parts, same_commit, tag_value, tree_value}
+use Rattle.gx_model.specs.Histories.Values.{Commit, Commits, Value, blob_value, commit, commit_of, commit_value, is_proper, list_of, more, none, parents_of, parts, same_commit, tag_value, tree_value}
 use Rattle.gx_model.proofs.Records.GrownRecords.{is_is_in}
 use Rattle.gx_model.proofs.Export.KeptCommits.{FollowsAll, among, reaches_trans}
 use Rattle.gx_model.proofs.Records.LinkedValues.{parts_after}

@@ -9,14 +9,14 @@ use Rattle.std.specs.Fmt.{decimal}
 use Rattle.std.specs.List.{flat_map, fold, AllByRecursion, cons_option}
 use Rattle.std.specs.Prelude.{T}
 use Rattle.gx_model.specs.Streams.Commands.{Change, Clear, Command, CommitIsh}
-use Rattle.gx_model.specs.Export.{all_written, blob_commands, carrier, command_items, commit_command, commit_commands, commit_on, content_in, contents, export_items, file_change, export_text, inner_commands, item_text, last_reset, marked_in, one_commit, optional_line, reached_commits, ref_by, ref_command, root_reset, with_blobs, with_commit}
+use Rattle.gx_model.specs.Export.{all_written, blob_commands, carrier, command_items, commit_command, commit_commands, commit_on, contents, export_items, file_change, export_text, inner_commands, item_text, last_reset, marked_in, one_commit, reached_commits, ref_by, ref_command, root_reset, with_blobs, with_commit, word_line_if}
 use Rattle.gx_model.specs.Laws.ExportLaws.{HasNoNullGitlink, HaveNoNullGitlink, IsNotNull, IsReadable, IsReadableCommit, IsReadableFile, IsReadableTarget}
 use Rattle.gx_model.specs.Histories.Files.{FileMap}
 use Rattle.gx_model.specs.Histories.{History, IsHistory, IsIn, Target, at_commit, at_tag, is_in}
 use Rattle.gx_model.specs.Streams.Items.{Data, Item, Line}
 use Rattle.gx_model.specs.Texts.Paths.{Path}
 use Rattle.gx_model.specs.Texts.{Bytes}
-use Rattle.gx_model.specs.Histories.Values.{Commit, Value, blob_value, commit_value, files_of, is_content, is_leaf, is_proper_text, list_of, parents_of, text_of}
+use Rattle.gx_model.specs.Histories.Values.{Commit, Value, blob_value, commit_value, files_of, is_content, is_leaf, is_proper_text, list_of, parents_of, text_of, unless_gitlink}
 use Rattle.gx_model.specs.declared.objects.Mode.{Mode}
 use Rattle.gx_model.specs.declared.objects.Mode.TheVariants.{Dir, Exec, File, Gitlink, Link}
 use Rattle.gx_model.proofs.Histories.AddedValues.{is_in_is}
@@ -96,7 +96,7 @@ blobs_fit ws (x ∷ xs) h f =
     ] refl f
 
 pub message_in_fits : (r : Bytes) (names : Commit → CommitIsh) (changes : List Change) (ws : List Value) (c : Commit) → AllFit (command_items (commit_on r names changes ws c)) → length (text_of c).message < 2 ^ 64
-message_in_fits r names changes ws c h = (fit_right (optional_line (codes "encoding") (text_of c).encoding) _ h.1.1.1.1).0
+message_in_fits r names changes ws c h = (fit_right (word_line_if (codes "encoding") (text_of c).encoding) _ h.1.1.1.1).0
 
 pub message_fits : (ws : List Value) (c : Commit) → AllFit (command_items (commit_command ws c)) → length (text_of c).message < 2 ^ 64
 message_fits ws c h = message_in_fits carrier (λ p. marked_in ws (commit_value p)) (Clear ∷ map (file_change ws) (files_of c)) ws c h
@@ -104,7 +104,7 @@ message_fits ws c h = message_in_fits carrier (λ p. marked_in ws (commit_value 
 link_fits : (x : Bytes) → T (is_leaf Gitlink x) → length x < 2 ^ 64
 link_fits x h = let k = (Decides-eqb (length x) 40).0 (is_true _ (first (nat_eq (length x) 40) _ h)) in omega (arith, k)
 
-file_fits : (p : Path) (m : Mode) (x : Bytes) (xs : List Bytes) → T (is_leaf m x) → IsNotNull m x → AllByRecursion (λ y. length y < 2 ^ 64) (cons_option (content_in m x) xs) → IsReadableFile (p, (m, x)) × AllByRecursion (λ y. length y < 2 ^ 64) xs
+file_fits : (p : Path) (m : Mode) (x : Bytes) (xs : List Bytes) → T (is_leaf m x) → IsNotNull m x → AllByRecursion (λ y. length y < 2 ^ 64) (cons_option (unless_gitlink m x) xs) → IsReadableFile (p, (m, x)) × AllByRecursion (λ y. length y < 2 ^ 64) xs
 file_fits p File x xs l h k = ((h, k.0), k.1)
 file_fits p Exec x xs l h k = ((h, k.0), k.1)
 file_fits p Link x xs l h k = ((h, k.0), k.1)
@@ -138,7 +138,7 @@ targets_fit names [] g = tt
 targets_fit names ((n, at_commit c) ∷ rs) g = (tt, targets_fit names rs (commands_right (ref_by names (n, at_commit c) ∷ []) (map (ref_by names) rs) g))
 targets_fit names ((n, at_tag t) ∷ rs) g =
     let mine = commands_left (ref_by names (n, at_tag t) ∷ []) (map (ref_by names) rs) g in
-    ((fit_right (optional_line (codes "tagger") t.tagger) _ (fit_left (command_items (ref_by names (n, at_tag t))) [] mine).1.1).0, targets_fit names rs (commands_right (ref_by names (n, at_tag t) ∷ []) (map (ref_by names) rs) g))
+    ((fit_right (word_line_if (codes "tagger") t.tagger) _ (fit_left (command_items (ref_by names (n, at_tag t))) [] mine).1.1).0, targets_fit names rs (commands_right (ref_by names (n, at_tag t) ∷ []) (map (ref_by names) rs) g))
 
 pub refs_fit : (ws : List Value) (rs : List (Bytes × Target)) → CommandsFit (map (ref_command ws) rs) → AllByRecursion (λ r. IsReadableTarget r.1) rs
 refs_fit ws rs g = targets_fit (λ c. marked_in ws (commit_value c)) rs g

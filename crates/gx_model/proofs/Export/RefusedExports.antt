@@ -14,17 +14,18 @@ use Rattle.gx_model.specs.declared.objects.Mode.{Mode}
 use Rattle.gx_model.specs.declared.objects.Mode.TheVariants.{File, Exec, Link, Gitlink, Dir}
 use Rattle.gx_model.specs.Texts.{Bytes, cut_at}
 use Rattle.gx_model.specs.Texts.Idents.{is_ident}
-use Rattle.gx_model.specs.Faults.{and_then}
+use Rattle.gx_model.specs.Faults.{◌>>=◌}
 use Rattle.gx_model.specs.Texts.Paths.{Path, is_file_path, path_text, printed}
 use Rattle.gx_model.specs.Histories.Files.{FileMap, Leaf, are_file_paths}
-use Rattle.gx_model.specs.Histories.Values.{Commit, Value, blob_value, commit_value, files_of, is_content, is_hex_digit, is_leaf, is_name_text, is_optional_encoding, is_proper, is_proper_text, list_of, parents_of, text_of}
-use Rattle.gx_model.specs.Histories.{History, IsHistory, IsIn}
+use Rattle.gx_model.specs.Histories.Values.{Commit, Value, blob_value, commit_value, files_of, is_content, is_leaf, is_optional_encoding, is_proper, is_proper_text, list_of, parents_of, text_of}
+use Rattle.gx_model.specs.Texts.Digits.{is_lower_digit, is_name_text}
+use Rattle.gx_model.specs.Histories.{History, IsHistory, IsIn, no_history}
 use Rattle.gx_model.specs.Streams.Items.{Data, Finished, Item, Line, Stream, items_of}
 use Rattle.gx_model.specs.Streams.Commands as command
 use Rattle.gx_model.specs.Streams.Commands.{Change, Clear, Command, CommitIsh, CommitParts, Copy, Modify, Object, Remove, Rename}
-use Rattle.gx_model.specs.Streams.Grammar.{block_in, change_at, changes_within, command_at, commands_of, commands_within, commit_at, is_null, is_option, item_after_in, links_at, mark_number, modify_at, rest_line_in, stops, unsigned_in, where_by, where_of, with_first, words_of}
-use Rattle.gx_model.specs.Export.{all_written, blob_commands, carrier, change_items, command_items, commit_command, commit_commands, contents, export_text, file_change, first_parent, from_line, inner_commands, item_text, last_reset, mode_digits, one_commit, optional_line, other_parents, reached_commits, ref_command, root_reset, with_blobs, with_commit}
-use Rattle.gx_model.specs.Laws.ExportLaws.{carried, HaveNoNullGitlink, IsMark, IsNamedCommit, IsNamedCommitIf, IsNotNull, IsOne, IsSpelledChange, IsSpelledCommit, between, nothing, state_at, steps, values_with_blobs}
+use Rattle.gx_model.specs.Streams.Grammar.{block_in, change_at, changes_within, command_at, commands_of, commands_within, commit_at, is_null, is_option, item_after_in, links_at, mark_number, modify_at, rest_line_in, stops, unsigned_in, where_by, where_of, with_command, words_of}
+use Rattle.gx_model.specs.Export.{all_written, blob_commands, carrier, change_items, command_items, commit_command, commit_commands, contents, export_text, file_change, first_parent_mark, from_line, inner_commands, item_text, last_reset, mode_digits, one_commit, other_parent_marks, reached_commits, ref_command, root_reset, with_blobs, with_commit, word_line_if}
+use Rattle.gx_model.specs.Laws.ExportLaws.{carried, HaveNoNullGitlink, IsMark, IsNamedCommit, IsNamedCommitIf, IsNotNull, IsOne, IsSpelledChange, IsSpelledCommit, between, state_at, steps, values_with_blobs}
 use Rattle.gx_model.specs.Streams.Gitlinks.{NullGitlinksAreRefused}
 use Rattle.gx_model.specs.Replay.{Outcome, State, refused, replayed, replayed_text, start, step}
 use Rattle.gx_model.proofs.Texts.PathTests.{first, is_true, second}
@@ -126,8 +127,8 @@ commit_with ws c f = record {
   committer = (text_of c).committer;
   encoding = (text_of c).encoding;
   message = (text_of c).message;
-  parent = first_parent ws (list_of (parents_of c));
-  merges = other_parents ws (list_of (parents_of c));
+  parent = first_parent_mark ws (list_of (parents_of c));
+  merges = other_parent_marks ws (list_of (parents_of c));
   changes = Clear ∷ map (file_change ws) f;
 }
 
@@ -156,9 +157,9 @@ items_with : (c : CommitParts) (cs : List Change) → IsSpelledCommit c → AreI
 items_with c cs h g = (
   record { line = ref_is_line c.ref h.ref; no_comment = refl; no_data = refl },
   items_append _ _ (mark_spelled c.mark h.mark)
-      (items_append (optional_line (codes "author") c.author) _ (author_spelled c.author h.has_author h.author) (
+      (items_append (word_line_if (codes "author") c.author) _ (author_spelled c.author h.has_author h.author) (
         record { line = ident_is_line c.committer h.committer; no_comment = refl; no_data = refl },
-        items_append (optional_line (codes "encoding") c.encoding) _ (encoding_spelled c.encoding h.encoding) (
+        items_append (word_line_if (codes "encoding") c.encoding) _ (encoding_spelled c.encoding h.encoding) (
           h.message,
           items_append (from_line c.parent) _ (from_spelled c.parent h.parent)
               (items_append (map merge_item c.merges) _ (merges_spelled c.merges h.merges) (items_append (flat_map change_items cs) (Line [] ∷ []) g (plain_line, tt))),
@@ -169,7 +170,7 @@ items_with c cs h g = (
 link_line : (x : Bytes) (p : Path) → is_name_text x ≡ true → AreItems (change_items (Modify Gitlink (Object x) p))
 link_line x p h = (
   record {
-    line = line_append (mode_digits Gitlink ++ 32 ∷ x) (32 ∷ printed (path_text p)) (line_append (mode_digits Gitlink) (32 ∷ x) refl (line_by is_hex_digit refl x (all_hex x h))) (printed_is_line (path_text p));
+    line = line_append (mode_digits Gitlink ++ 32 ∷ x) (32 ∷ printed (path_text p)) (line_append (mode_digits Gitlink) (32 ∷ x) refl (line_by is_lower_digit refl x (all_hex x h))) (printed_is_line (path_text p));
     no_comment = refl;
     no_data = refl;
   },
@@ -245,7 +246,7 @@ commits_items ws before (c ∷ cs) h f r lt =
 null_where : (x : Bytes) → is_name_text x ≡ true → is_null x ≡ true → where_of x ≡ Err faults.Unsupported
 null_where [] h e = absurd cc
 null_where (b ∷ bs) h e =
-    let c = hex_no_colon b (is_true _ (first (is_hex_digit b) _ (passes _ (all_hex (b ∷ bs) h)))) in
+    let c = hex_no_colon b (is_true _ (first (is_lower_digit b) _ (passes _ (all_hex (b ∷ bs) h)))) in
     ap (λ t. where_by (b ∷ bs) (cond t (Some (mark_number bs)) None)) c ∙ rw (not_inline (b ∷ bs) h, e) refl
 
 null_read : (x : Bytes) (p : Path) (t : Stream) → is_name_text x ≡ true → is_null x ≡ true → modify_at (mode_digits Gitlink ++ 32 ∷ x ++ 32 ∷ printed (path_text p)) t ≡ Err faults.Unsupported
@@ -307,7 +308,7 @@ links_fail parent ms cs line more e h k g =
 
 commit_fails : (ref : Bytes) (n : ℕ) (author committer : Bytes) (encoding : Option Bytes) (message : Bytes) (links : List Item)
     → IsMark n → is_ident author ≡ true → is_ident committer ≡ true → is_optional_encoding encoding ≡ true → links_at (stream links) ≡ Err faults.Unsupported
-    → commit_at ref (stream (Line (codes "mark" ++ 32 ∷ 58 ∷ decimal n) ∷ Line (codes "author" ++ 32 ∷ author) ∷ Line (codes "committer" ++ 32 ∷ committer) ∷ (optional_line (codes "encoding") encoding ++ Data message ∷ links))) ≡ Err faults.Unsupported
+    → commit_at ref (stream (Line (codes "mark" ++ 32 ∷ 58 ∷ decimal n) ∷ Line (codes "author" ++ 32 ∷ author) ∷ Line (codes "committer" ++ 32 ∷ committer) ∷ (word_line_if (codes "encoding") encoding ++ Data message ∷ links))) ≡ Err faults.Unsupported
 unfolding commit_at rest_line_in block_in unsigned_in cut_at
 commit_fails ref n author committer None message links a b c d e = rw (mark_read n a, ident_read author b, ident_read committer c, e) refl
 commit_fails ref n author committer (Some x) message links a b c d e = rw (mark_read n a, ident_read author b, ident_read committer c, encoding_read x d, e) refl
@@ -329,25 +330,25 @@ module _ (ws : List Value) (c : Commit) (good : FileMap Bytes) (p : Path) (x : B
   more = flat_map change_items (map (file_change ws) after) ++ Line [] ∷ rest
 
   abbrev links : List Item
-  links = from_line (first_parent ws (list_of (parents_of c))) ++ (map merge_item (other_parents ws (list_of (parents_of c))) ++ cut_changes (map (file_change ws) good) (null_line x p) more)
+  links = from_line (first_parent_mark ws (list_of (parents_of c))) ++ (map merge_item (other_parent_marks ws (list_of (parents_of c))) ++ cut_changes (map (file_change ws) good) (null_line x p) more)
 
   abbrev behind : List Item
-  behind = Line (codes "mark" ++ 32 ∷ 58 ∷ decimal (suc (length ws))) ∷ Line (codes "author" ++ 32 ∷ (text_of c).author) ∷ Line (codes "committer" ++ 32 ∷ (text_of c).committer) ∷ (optional_line (codes "encoding") (text_of c).encoding ++ Data (text_of c).message ∷ links)
+  behind = Line (codes "mark" ++ 32 ∷ 58 ∷ decimal (suc (length ws))) ∷ Line (codes "author" ++ 32 ∷ (text_of c).author) ∷ Line (codes "committer" ++ 32 ∷ (text_of c).committer) ∷ (word_line_if (codes "encoding") (text_of c).encoding ++ Data (text_of c).message ∷ links)
 
   lines_are : command_items (command.Commit (commit_with ws c (good ++ (p, (Gitlink, x)) ∷ after))) ++ rest ≡ Line (codes "commit" ++ 32 ∷ carrier) ∷ behind
   lines_are =
-      let parent = first_parent ws (list_of (parents_of c)) in
-      let merges = other_parents ws (list_of (parents_of c)) in
+      let parent = first_parent_mark ws (list_of (parents_of c)) in
+      let merges = other_parent_marks ws (list_of (parents_of c)) in
       let cs : List Change = Clear ∷ map (file_change ws) (good ++ (p, (Gitlink, x)) ∷ after) in
       let split : flat_map change_items cs ++ Line [] ∷ rest ≡ cut_changes (map (file_change ws) good) (null_line x p) more =
       ap (λ (qs : List Change). flat_map change_items (Clear ∷ qs) ++ Line [] ∷ rest) (map-append (file_change ws) good ((p, (Gitlink, x)) ∷ after))
       ∙ changes_cut (Clear ∷ map (file_change ws) good) (map (file_change ws) after) x p (Line [] ∷ rest) in
       ap (λ (t : List Item). Line (codes "commit" ++ 32 ∷ carrier) ∷ Line (codes "mark" ++ 32 ∷ 58 ∷ decimal (suc (length ws))) ∷ Line (codes "author" ++ 32 ∷ (text_of c).author) ∷ Line (codes "committer" ++ 32 ∷ (text_of c).committer) ∷ t)
-      (commit_regroup (text_of c).encoding (text_of c).message parent merges cs rest ∙ ap (λ (t : List Item). optional_line (codes "encoding") (text_of c).encoding ++ Data (text_of c).message ∷ (from_line parent ++ (map merge_item merges ++ t))) split)
+      (commit_regroup (text_of c).encoding (text_of c).message parent merges cs rest ∙ ap (λ (t : List Item). word_line_if (codes "encoding") (text_of c).encoding ++ Data (text_of c).message ∷ (from_line parent ++ (map merge_item merges ++ t))) split)
 
   commit_refused : (n : ℕ) (before : List Command) → commands_within (suc n) before (command_items (command.Commit (commit_with ws c (good ++ (p, (Gitlink, x)) ∷ after))) ++ rest) Finished ≡ stops (Some faults.Unsupported)
   commit_refused n before =
-      let fail = links_fail (first_parent ws (list_of (parents_of c))) (other_parents ws (list_of (parents_of c))) (map (file_change ws) good) (null_line x p) more (λ t. line_fails x p t named null) spelled.parent spelled.merges spelled.changes in
+      let fail = links_fail (first_parent_mark ws (list_of (parents_of c))) (other_parent_marks ws (list_of (parents_of c))) (map (file_change ws) good) (null_line x p) more (λ t. line_fails x p t named null) spelled.parent spelled.merges spelled.changes in
       fails_at n before _ 99 (codes "ommit" ++ 32 ∷ carrier) behind lines_are
       (λ early. commit_first early carrier (stream behind) carrier_is_ref
       ∙ commit_fails carrier (suc (length ws)) (text_of c).author (text_of c).committer (text_of c).encoding (text_of c).message links spelled.mark spelled.author spelled.committer spelled.encoding fail)
@@ -372,14 +373,14 @@ module _ (bad : List Item) (fails : (n : ℕ) (before : List Command) → comman
       let rest = flat_map command_items cs ++ bad in
       ap (λ is. commands_within (suc n) before is Finished) (append_assoc (command_items c) (flat_map command_items cs) bad)
       ∙ items.step n before c rest (read_first c rest h.0 (starts_then cs h.1))
-      ∙ ap (with_first c) (read_until n (before ++ c ∷ []) cs (omega arith) h.1)
+      ∙ ap (with_command c) (read_until n (before ++ c ∷ []) cs (omega arith) h.1)
 
   read_refused : (cs : List Command) → AreSpelled cs → 1 ≤ length bad
       → commands_of (stream (Line (codes "feature done") ∷ (flat_map command_items cs ++ bad))) ≡ record { list = command.Asks features.Done ∷ cs; fault = Some faults.Unsupported }
   read_refused cs h some =
       let rest = flat_map command_items cs ++ bad in
       let enough : length cs < length rest = omega (arith, all_items cs h, length-append (flat_map command_items cs) bad, some) in
-      asks_first (length rest) rest ∙ ap (with_first (command.Asks features.Done)) (read_until (length rest) (command.Asks features.Done ∷ []) cs enough h)
+      asks_first (length rest) rest ∙ ap (with_command (command.Asks features.Done)) (read_until (length rest) (command.Asks features.Done ∷ []) cs enough h)
 
 -- ---- what is replayed of it
 
@@ -401,7 +402,7 @@ module _ (name : Kind → Bytes → Bytes) where
 
   -- the commands up to the commit that is refused
   front_replayed : (before : List Commit) (xs : List Bytes) (ps : List Commit) → FollowsAll [] before
-      → (t : State) × (t.progress ≡ []) × (t.kept ≡ (start nothing).kept) × (steps name (state_at [] [] None) (commit_commands [] before ++ (blob_commands (fold with_commit [] before) xs ++ root_reset ps)) ≡ Ok t)
+      → (t : State) × (t.progress ≡ []) × (t.kept ≡ (start no_history).kept) × (steps name (state_at [] [] None) (commit_commands [] before ++ (blob_commands (fold with_commit [] before) xs ++ root_reset ps)) ≡ Ok t)
   front_replayed before xs ps f =
       let ws = fold with_commit [] before in
       let vs = values_after [] [] before in
@@ -412,9 +413,9 @@ module _ (name : Kind → Bytes → Bytes) where
         refl,
         refl,
         steps-append name (state_at [] [] None) (commit_commands [] before) rest
-            ∙ ap (λ r. and_then r (λ u. steps name u rest)) (commits_replayed name [] [] None [] before none_held f)
+            ∙ ap (λ r. r >>= λ u. steps name u rest) (commits_replayed name [] [] None [] before none_held f)
             ∙ steps-append name (state_at ws vs b) (blob_commands ws xs) (root_reset ps)
-            ∙ ap (λ r. and_then r (λ u. steps name u (root_reset ps))) (blobs_replayed name nothing [] ws vs (carried b) xs)
+            ∙ ap (λ r. r >>= λ u. steps name u (root_reset ps)) (blobs_replayed name no_history [] ws vs (carried b) xs)
             ∙ root_replayed (with_blobs ws xs) us b ps,
       )
 
@@ -423,7 +424,7 @@ module _ (name : Kind → Bytes → Bytes) where
   then_refused n s t [] f e = (n + 1, ap (λ (u : State). refused (n + 1) f u.progress u.kept) (same_ok s t e))
   then_refused n s t (c ∷ cs) f e = by (step name s c) (λ u. then_refused (n + 1) u t cs f) e
     where
-      by : (r : Result State Fault) → ((u : State) → steps name u cs ≡ Ok t → (m : ℕ) × (replayed name (n + 1) u cs (Some f) ≡ refused m f t.progress t.kept)) → and_then r (λ u. steps name u cs) ≡ Ok t
+      by : (r : Result State Fault) → ((u : State) → steps name u cs ≡ Ok t → (m : ℕ) × (replayed name (n + 1) u cs (Some f) ≡ refused m f t.progress t.kept)) → (r >>= λ u. steps name u cs) ≡ Ok t
           → (m : ℕ) × (elim r as (λ x. Outcome) [ Ok u ↦ replayed name (n + 1) u cs (Some f) | Err g ↦ refused (n + 1) g s.progress s.kept ] ≡ refused m f t.progress t.kept)
       by (Ok u) again q = again u q
       by (Err g) again q = absurd cc
@@ -571,17 +572,17 @@ module _ (h : History) (is : IsHistory h) (before : List Commit) (bad : Commit) 
       ∙ read_refused bad_items bad_fails (starts_commit (commit_with with_own bad (files_of bad)) rest) front front_spelled (some_lines (commit_with with_own bad (files_of bad)) rest)
 
   import_refused : (name : Kind → Bytes → Bytes)
-      → (n : ℕ) × (replayed_text name nothing (flat_map item_text (flat_map command_items (between (inner_commands all h.refs)))) false ≡ refused n faults.Unsupported [] (start nothing).kept)
+      → (n : ℕ) × (replayed_text name no_history (flat_map item_text (flat_map command_items (between (inner_commands all h.refs)))) false ≡ refused n faults.Unsupported [] (start no_history).kept)
   import_refused name =
       let ran = front_replayed name before (contents (files_of bad)) (list_of (parents_of bad)) follows_before in
-      let end = then_refused name 0 (start nothing) ran.0 (command.Asks features.Done ∷ front) faults.Unsupported ran.3 in
-      (end.0, ap (λ cs. replayed name 0 (start nothing) cs.list cs.fault) commands_are ∙ end.1 ∙ (λ i. refused end.0 faults.Unsupported (ran.1 i) (ran.2 i)))
+      let end = then_refused name 0 (start no_history) ran.0 (command.Asks features.Done ∷ front) faults.Unsupported ran.3 in
+      (end.0, ap (λ cs. replayed name 0 (start no_history) cs.list cs.fault) commands_are ∙ end.1 ∙ (λ i. refused end.0 faults.Unsupported (ran.1 i) (ran.2 i)))
 
 pub nulls_refused : NullGitlinksAreRefused
 nulls_refused name h is some short = by (first_commit (reached_commits h))
   where
-    by : HaveNoNullGitlink (reached_commits h) ⊎ FirstCommit (reached_commits h) → (n : ℕ) × (replayed_text name nothing (export_text h) false ≡ refused n faults.Unsupported [] (start nothing).kept)
+    by : HaveNoNullGitlink (reached_commits h) ⊎ FirstCommit (reached_commits h) → (n : ℕ) × (replayed_text name no_history (export_text h) false ≡ refused n faults.Unsupported [] (start no_history).kept)
     by (inl none) = absurd (some none)
-    by (inr r) = subst (λ cs. AreExported h cs → (n : ℕ) × (replayed_text name nothing (flat_map item_text (flat_map command_items (between (inner_commands cs h.refs)))) false ≡ refused n faults.Unsupported [] (start nothing).kept)) (sym r.are)
+    by (inr r) = subst (λ cs. AreExported h cs → (n : ℕ) × (replayed_text name no_history (flat_map item_text (flat_map command_items (between (inner_commands cs h.refs)))) false ≡ refused n faults.Unsupported [] (start no_history).kept)) (sym r.are)
         (λ known. import_refused h is r.before r.bad r.after r.file r.clean known name)
         (record { follows = all_follow h is; peeled = peeled_ones h is; fits = short })

@@ -4,17 +4,17 @@ use Rattle.std.specs.Bool.{passes}
 use Rattle.std.specs.List.{list_all, fold, AllByRecursion, cons_option}
 use Rattle.std.specs.Prelude.{T, ◌⊎◌}
 use Rattle.gx_model.specs.Streams.Commands.{Change, Clear, Command, CommitIsh}
-use Rattle.gx_model.specs.Export.{all_written, blob_commands, carrier, commit_command, commit_commands, commit_on, content_in, contents, dataref_in, export_items, export_text, file_change, first_by, first_parent, inner_commands, last_reset, marked_in, number_in, one_commit, other_parents, others_by, reached_commits, ref_command, reset_before, root_reset, with_blobs, with_commit}
-use Rattle.gx_model.specs.Laws.ExportLaws.{IsAgain, IsDataRef, IsMark, IsNamedCommit, IsNamedCommitIf, IsNotNull, IsOne, IsReadable, IsReadableCommit, IsReadableFile, IsReadableTarget, IsSpelled, IsSpelledChange, exported_report, nothing}
+use Rattle.gx_model.specs.Export.{all_written, blob_commands, carrier, commit_command, commit_commands, commit_on, contents, dataref_in, export_items, export_text, file_change, first_by, first_parent_mark, inner_commands, last_reset, marked_in, number_in, one_commit, other_parent_marks, others_by, reached_commits, ref_command, reset_before, root_reset, with_blobs, with_commit}
+use Rattle.gx_model.specs.Laws.ExportLaws.{IsAgain, IsDataRef, IsMark, IsNamedCommit, IsNamedCommitIf, IsNotNull, IsOne, IsReadable, IsReadableCommit, IsReadableFile, IsReadableTarget, IsSpelled, IsSpelledChange, exported_report}
 use Rattle.gx_model.specs.Histories.Files.{FileMap, are_file_paths}
 use Rattle.gx_model.specs.Streams.Grammar.{commands_of}
-use Rattle.gx_model.specs.Histories.{History, IsHistory, IsIn, Target, at_commit, at_tag, is_in, value_at}
+use Rattle.gx_model.specs.Histories.{History, IsHistory, IsIn, Target, at_commit, at_tag, is_in, no_history, value_at}
 use Rattle.gx_model.specs.Texts.Idents.{is_ident}
 use Rattle.gx_model.specs.Texts.Paths.{is_file_path}
 use Rattle.gx_model.specs.Texts.RefNames.{is_ref_name, is_tag_name}
 use Rattle.gx_model.specs.Replay.{finished, peeled_at, replayed, replayed_text, start}
 use Rattle.gx_model.specs.Texts.{Bytes}
-use Rattle.gx_model.specs.Histories.Values.{Commit, Value, blob_value, commit_value, files_of, is_content, is_leaf, is_proper, is_proper_text, list_of, parents_of, same_value, text_of}
+use Rattle.gx_model.specs.Histories.Values.{Commit, Value, blob_value, commit_value, files_of, is_content, is_leaf, is_proper, is_proper_text, list_of, parents_of, same_value, text_of, unless_gitlink}
 use Rattle.gx_model.specs.declared.objects.Kind.{Kind}
 use Rattle.gx_model.specs.declared.objects.Mode.{Mode}
 use Rattle.gx_model.specs.declared.objects.Mode.TheVariants.{Dir, Exec, File, Gitlink, Link}
@@ -69,7 +69,7 @@ blobs_spelled ws (x ∷ xs) h lt =
       | false ↦ λ l. (((omega arith, omega (arith, more_blobs (blob_value x ∷ ws) xs)), h.0), blobs_spelled (blob_value x ∷ ws) xs h.1 l)
     ] lt
 
-pub dataref_spelled : (ws : List Value) (m : Mode) (x : Bytes) → length ws < 2 ^ 64 → T (is_leaf m x) → IsNotNull m x → AllByRecursion (λ y. IsIn ws (blob_value y)) (cons_option (content_in m x) []) → IsDataRef m (dataref_in ws m x)
+pub dataref_spelled : (ws : List Value) (m : Mode) (x : Bytes) → length ws < 2 ^ 64 → T (is_leaf m x) → IsNotNull m x → AllByRecursion (λ y. IsIn ws (blob_value y)) (cons_option (unless_gitlink m x) []) → IsDataRef m (dataref_in ws m x)
 dataref_spelled ws File x lt l n h = is_mark ws (blob_value x) h.0 lt
 dataref_spelled ws Exec x lt l n h = is_mark ws (blob_value x) h.0 lt
 dataref_spelled ws Link x lt l n h = is_mark ws (blob_value x) h.0 lt
@@ -79,7 +79,7 @@ dataref_spelled ws Dir x lt l n h = absurd l
 pub changes_spelled : (ws : List Value) (f : FileMap Bytes) → length ws < 2 ^ 64 → T (are_file_paths f) → T (list_all (λ e. is_leaf e.1.0 e.1.1) f) → AllByRecursion IsReadableFile f → AllByRecursion (λ y. IsIn ws (blob_value y)) (contents f) → AllByRecursion IsSpelledChange (map (file_change ws) f)
 changes_spelled ws [] lt p l r h = tt
 changes_spelled ws (e ∷ f) lt p l r h =
-    let o = content_in e.1.0 e.1.1 in
+    let o = unless_gitlink e.1.0 e.1.1 in
     let P = λ (y : Bytes). IsIn ws (blob_value y) in
     ((dataref_spelled ws e.1.0 e.1.1 lt (first _ _ l) r.0.0 (front_of P o (contents f) h), is_true _ (first _ _ p)), changes_spelled ws f lt (second (is_file_path e.0) _ p) (second (is_leaf e.1.0 e.1.1) _ l) r.1 (rest_of P o (contents f) h))
 
@@ -98,10 +98,10 @@ pub all_marks : (ws : List Value) (ps : List Commit) → length ws < 2 ^ 64 → 
 all_marks ws [] lt h = tt
 all_marks ws (p ∷ ps) lt h = (is_mark ws (commit_value p) h.0 lt, all_marks ws ps lt h.1)
 
-pub parent_spelled : (ws : List Value) (ps : List Commit) → length ws < 2 ^ 64 → AllByRecursion (λ p. IsIn ws (commit_value p)) ps → IsNamedCommitIf (first_parent ws ps)
+pub parent_spelled : (ws : List Value) (ps : List Commit) → length ws < 2 ^ 64 → AllByRecursion (λ p. IsIn ws (commit_value p)) ps → IsNamedCommitIf (first_parent_mark ws ps)
 parent_spelled ws ps lt h = first_named (λ p. marked_in ws (commit_value p)) ps (all_marks ws ps lt h)
 
-pub others_spelled : (ws : List Value) (ps : List Commit) → length ws < 2 ^ 64 → AllByRecursion (λ p. IsIn ws (commit_value p)) ps → AllByRecursion IsNamedCommit (other_parents ws ps)
+pub others_spelled : (ws : List Value) (ps : List Commit) → length ws < 2 ^ 64 → AllByRecursion (λ p. IsIn ws (commit_value p)) ps → AllByRecursion IsNamedCommit (other_parent_marks ws ps)
 others_spelled ws ps lt h = others_named (λ p. marked_in ws (commit_value p)) ps (all_marks ws ps lt h)
 
 pub carrier_is_ref : is_ref_name carrier ≡ true
@@ -142,7 +142,7 @@ own_commit_spelled ws c lt r p h g =
 pub contents_fit : (f : FileMap Bytes) → AllByRecursion IsReadableFile f → AllByRecursion (λ x. length x < 2 ^ 64) (contents f)
 contents_fit [] h = tt
 contents_fit ((p, (m, x)) ∷ f) h = by m (contents_fit f h.1) where
-  by : (m : Mode) → AllByRecursion (λ x. length x < 2 ^ 64) (contents f) → AllByRecursion (λ x. length x < 2 ^ 64) (cons_option (content_in m x) (contents f))
+  by : (m : Mode) → AllByRecursion (λ x. length x < 2 ^ 64) (contents f) → AllByRecursion (λ x. length x < 2 ^ 64) (cons_option (unless_gitlink m x) (contents f))
   by Gitlink k = k
   by File k = (h.0.1, k)
   by Exec k = (h.0.1, k)
@@ -184,11 +184,11 @@ export_spelled h x r =
 -- ---- the import of an export
 
 pub export_imported : (name : Kind → Bytes → Bytes) (h : History) → IsHistory h → IsReadable h
-    → (k : History) × IsAgain h k × (replayed_text name nothing (export_text h) false ≡ finished k [] (exported_report h k))
+    → (k : History) × IsAgain h k × (replayed_text name no_history (export_text h) false ≡ finished k [] (exported_report h k))
 export_imported name h x r =
     let inner = inner_commands (reached_commits h) h.refs in
     let s = export_spelled h x r in
     let items = items_read (export_items h) (between_spelled inner s) in
     let commands = ap commands_of items ∙ commands_read inner s in
     let again = export_replayed name h x in
-    (again.0, again.1, ap (λ cs. replayed name 0 (start nothing) cs.list cs.fault) commands ∙ again.2)
+    (again.0, again.1, ap (λ cs. replayed name 0 (start no_history) cs.list cs.fault) commands ∙ again.2)

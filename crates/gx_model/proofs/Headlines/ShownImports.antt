@@ -4,7 +4,7 @@ use Rattle.std.specs.Prelude.{◌||◌, IsTrue}
 use Rattle.std.specs.Bool.{passes}
 use Rattle.std.specs.List.{AllByRecursion, list_all, list_any}
 use Rattle.std.specs.Map.{lookup}
-use Rattle.std.specs.Option.{option_map}
+use Rattle.std.specs.Option.{option_map, option_or}
 use Rattle.std.specs.Ordering.{nat_cmp}
 use Rattle.std.specs.Cmp.Lexicographic.{slice_cmp}
 use Rattle.std.specs.FinMap.Entries.{is_sorted}
@@ -14,23 +14,23 @@ use Rattle.gx_model.specs.declared.objects.Mode.{Mode}
 use Rattle.gx_model.specs.declared.objects.Mode.TheVariants.{File, Exec, Link, Gitlink, Dir}
 use Rattle.gx_model.specs.Texts.{Bytes, same_bytes}
 use Rattle.gx_model.specs.Texts.RefNames.{is_ref_name}
-use Rattle.gx_model.specs.Faults.{Given, and_then}
+use Rattle.gx_model.specs.Faults.{Given, ◌>>=◌}
 use Rattle.gx_model.specs.Texts.Paths.{Path}
 use Rattle.gx_model.specs.Histories.Files.{FileMap, Leaf, file_at, sub_map}
 use Rattle.gx_model.specs.Histories.Values.{Commit, Tag, Value, blob_value, commit_value, tag_value, tree_value}
 use Rattle.gx_model.specs.Objects.{IsNamer, TagParts}
 use Rattle.gx_model.specs.Records.{body_of, commit_body, content_name, kind_of, name_of, parts_of_commit, tag_body, tree_name}
-use Rattle.gx_model.specs.Histories.{AreDistinct, History, IsClosedAfter, IsHistory, IsIn, IsRefOf, IsWhole, Record, Records, StandsFor, Target, itself, record_of, value_at}
+use Rattle.gx_model.specs.Histories.{AreDistinct, History, IsClosedAfter, IsHistory, IsIn, IsRefOf, IsWhole, Record, Records, StandsFor, Target, itself, no_history, record_of, value_at}
 use Rattle.gx_model.specs.Records.HistoryOf.{commit_parts_in, history_of, tag_parts_in}
 use Rattle.gx_model.specs.Records.Sound.{AnyByRecursion, IsSound}
 use Rattle.gx_model.specs.Records.Growth.{record_named}
 use Rattle.gx_model.specs.Records.Walks.{place_in, place_of, walked}
-use Rattle.gx_model.specs.Records.Lookups.{first_named, or_else}
+use Rattle.gx_model.specs.Records.Lookups.{first_named}
 use Rattle.gx_model.specs.Revisions.{Revision}
-use Rattle.gx_model.specs.Revisions.Denotation.{Shown, denoted, file_shown, files_in, first_ref, looked_up, object, of_file, or_ref, ref_names, shown_value, submodule}
+use Rattle.gx_model.specs.Revisions.Denotation.{Shown, denoted, file_shown, files_in, first_ref, looked_up, object, of_file, ref_names, shown_value, submodule}
 use Rattle.gx_model.specs.Replay.{imported_asked}
 use Rattle.gx_model.specs.Laws.ChangesLaws.{RepositoriesComeBackByChanges}
-use Rattle.gx_model.specs.Laws.ExportLaws.{AnyReaches, IsAgain, nothing}
+use Rattle.gx_model.specs.Laws.ExportLaws.{AnyReaches, IsAgain}
 use Rattle.gx_model.specs.Laws.Headline.{ComesBack, Headline, Shows, body_named, file_held, leaf_held, object_denoted, tree_in, tree_named}
 use Rattle.gx_model.proofs.Texts.PathTests.{same_is}
 use Rattle.gx_model.proofs.Histories.AddedValues.{in_left, in_right}
@@ -59,14 +59,14 @@ module _ (f : Target → Bytes) where
   looked n [] = refl
   looked n (r ∷ rs) = elim (same_bytes n r.0) as (λ b. cond b (Some (f r.1)) (lookup (same_bytes n) (with_names rs)) ≡ option_map f (cond b (Some r.1) (lookup (same_bytes n) rs))) [ true ↦ refl | false ↦ looked n rs ]
 
-  or_named : (o p : Option Target) → or_else (option_map f o) (option_map f p) ≡ option_map f (or_ref o p)
+  or_named : (o p : Option Target) → option_or (option_map f o) (option_map f p) ≡ option_map f (option_or o p)
   or_named None p = refl
   or_named (Some t) p = refl
 
   first_of : (h : History) (ns : List Bytes) → first_named (with_names h.refs) ns ≡ option_map f (first_ref h ns)
   first_of h [] = refl
   first_of h (n ∷ ns) =
-      (λ i. or_else (looked n h.refs i) (first_of h ns i)) ∙ or_named (lookup (same_bytes n) h.refs) (first_ref h ns)
+      (λ i. option_or (looked n h.refs i) (first_of h ns i)) ∙ or_named (lookup (same_bytes n) h.refs) (first_ref h ns)
 
 -- ---- what is shown
 
@@ -120,10 +120,10 @@ module _ (name : Kind → Bytes → Bytes) (namer : IsNamer name) (r : Records) 
   tag_told t i = ap (λ (q : TagParts). q.object) (tag_read _ (tag_body name t) (tag_text_is name namer t (proper_in h.values (tag_value t) (passes _ whole.proper) i)))
 
   -- the tree that an object names is that of its value's file map
-  tree_is : (v : Value) → Stands v → tree_named r.records (name_of name v) ≡ and_then (files_in v) (λ f. Ok (tree_name name f))
+  tree_is : (v : Value) → Stands v → tree_named r.records (name_of name v) ≡ (files_in v >>= λ f. Ok (tree_name name f))
   tree_is v i = ap (λ (o : Option Record). elim o [ None ↦ Err UnknownObject | Some held ↦ tree_in r.records held.kind (name_of name v) held.body ]) (record_is v i) ∙ by v i
     where
-      by : (v : Value) → Stands v → tree_in r.records (kind_of name v) (name_of name v) (body_of name v) ≡ and_then (files_in v) (λ f. Ok (tree_name name f))
+      by : (v : Value) → Stands v → tree_in r.records (kind_of name v) (name_of name v) (body_of name v) ≡ (files_in v >>= λ f. Ok (tree_name name f))
       by (blob_value x) j = refl
       by (tree_value f) j = refl
       by (commit_value c) j = ap (λ q. Ok q.tree) (commit_shown c j)
@@ -131,21 +131,21 @@ module _ (name : Kind → Bytes → Bytes) (namer : IsNamer name) (r : Records) 
           ap (λ n. Ok (commit_parts_in (body_named r.records n)).tree) (tag_told t j)
           ∙ ap (λ q. Ok q.tree) (commit_told t.target (parts_in h.values (tag_value t) whole j).0)
 
-  value_shown : (v : Value) (p : Path) → Stands v → file_held r.records (name_of name v) p ≡ and_then (files_in v) (λ f. file_shown f p)
-  value_shown v p i = ap (λ o. and_then o (λ tree. leaf_held r.records (walked r.records tree p))) (tree_is v i) ∙ by (files_in v) refl
+  value_shown : (v : Value) (p : Path) → Stands v → file_held r.records (name_of name v) p ≡ (files_in v >>= λ f. file_shown f p)
+  value_shown v p i = ap (λ o. o >>= λ tree. leaf_held r.records (walked r.records tree p)) (tree_is v i) ∙ by (files_in v) refl
     where
-      by : (o : Given (FileMap Bytes)) → files_in v ≡ o → and_then (and_then o (λ f. Ok (tree_name name f))) (λ tree. leaf_held r.records (walked r.records tree p)) ≡ and_then o (λ f. file_shown f p)
+      by : (o : Given (FileMap Bytes)) → files_in v ≡ o → ((o >>= λ f. Ok (tree_name name f)) >>= λ tree. leaf_held r.records (walked r.records tree p)) ≡ (o >>= λ f. file_shown f p)
       by (Ok f) e = path_shown f p (files_stand name namer h (stands name namer r is).history apart v f i e)
       by (Err g) e = refl
 
   abbrev is_shown : Path → Given Value → Type 0
-  is_shown p o = and_then (and_then o (λ v. Ok (name_of name v))) (λ called. file_held r.records called p) ≡ and_then o (λ v. and_then (files_in v) (λ f. file_shown f p))
+  is_shown p o = ((o >>= λ v. Ok (name_of name v)) >>= λ called. file_held r.records called p) ≡ (o >>= λ v. files_in v >>= λ f. file_shown f p)
 
-  files_shown : (revision : Revision) (p : Path) → and_then (object_denoted name h revision) (λ called. file_held r.records called p) ≡ looked_up name h revision p
+  files_shown : (revision : Revision) (p : Path) → (object_denoted name h revision >>= λ called. file_held r.records called p) ≡ looked_up name h revision p
   unfolding looked_up
   files_shown revision p = by (denoted name h revision) refl
     where
-      by : (o : Given Shown) → denoted name h revision ≡ o → is_shown p (and_then o shown_value)
+      by : (o : Given Shown) → denoted name h revision ≡ o → is_shown p (o >>= shown_value)
       by (Ok (object v)) e = value_shown v p (held_value name namer r is revision v e)
       by (Ok (submodule x)) e = refl
       by (Err g) e = refl
@@ -159,7 +159,7 @@ module _ (name : Kind → Bytes → Bytes) (namer : IsNamer name) (r : Records) 
       let same : history_of r ≡ h = one_history name namer r (history_of r) h (stands name namer r is_sound) s in
       record {
         refs = λ word. ap (λ refs. first_named refs (ref_names word)) s.refs ∙ first_of (λ target. name_of name (value_at target)) h (ref_names word);
-        files = λ revision path. subst (λ k. and_then (object_denoted name k revision) (λ called. file_held r.records called path) ≡ looked_up name k revision path) same (files_shown name namer r is_sound revision path);
+        files = λ revision path. subst (λ k. (object_denoted name k revision >>= λ called. file_held r.records called path) ≡ looked_up name k revision path) same (files_shown name namer r is_sound revision path);
         commits = λ made i. commit_told name namer r is_sound made (subst (λ k. IsIn k.values (commit_value made)) (sym same) i);
       }
 
@@ -229,7 +229,7 @@ module _ (name : Kind → Bytes → Bytes) (namer : IsNamer name) where
   pub headline : Headline name
   unfolding imported_asked
   headline given fails h progress report r e has =
-      let is = texts_give name nothing h given fails progress report nothing_is e in
+      let is = texts_give name no_history h given fails progress report nothing_is e in
       let s : StandsFor name r h = record { history = is; records = has.records; distinct = has.distinct; refs = has.refs } in (
         s,
         shown name namer r h s,
@@ -239,7 +239,7 @@ module _ (name : Kind → Bytes → Bytes) (namer : IsNamer name) where
   pub changes_come_back : RepositoriesComeBackByChanges name
   unfolding imported_asked
   changes_come_back closed given fails h progress report r e has short =
-      let is = texts_give name nothing h given fails progress report nothing_is e in
+      let is = texts_give name no_history h given fails progress report nothing_is e in
       let s : StandsFor name r h = record { history = is; records = has.records; distinct = has.distinct; refs = has.refs } in
       let q = changes_back name closed h given fails progress report e short in
       (q.0, of_history q.0, q.2, comes_back r h q.0 s q.1)

@@ -5,7 +5,7 @@ use Rattle.std.specs.List.{filter, list_any, AllByRecursion}
 use Rattle.std.specs.Bool.{passes}
 use Rattle.std.specs.FinMap.Entries.{below_all, is_sorted}
 use Rattle.gx_model.specs.declared.faults.Fault.{Fault}
-use Rattle.gx_model.specs.Faults.{and_then}
+use Rattle.gx_model.specs.Faults.{◌>>=◌}
 use Rattle.gx_model.specs.Texts.{Bytes}
 use Rattle.gx_model.specs.Texts.Paths.{Path, are_in_line, begins, is_file_path, path_cmp, same_path}
 use Rattle.gx_model.specs.Histories.Files.{FileMap, Leaf, are_file_paths, file_at}
@@ -16,7 +16,8 @@ use Rattle.gx_model.specs.Laws.FileMapLaws.{IsModified}
 use Rattle.gx_model.proofs.Texts.PathTests.{all_filter, begins_itself, first, is_true, left_or, not_both, one_of, path_is, path_same, right_or, same_is, second}
 use Rattle.gx_model.proofs.Histories.PathRuns.{tail_parts}
 use Rattle.gx_model.proofs.Histories.FileMapEdits.{Parts, modified_parts, removed_parts}
-use Rattle.gx_model.proofs.Histories.FoundFiles.{at_filter, or_else}
+use Rattle.gx_model.proofs.Histories.FoundFiles.{at_filter}
+use Rattle.std.specs.Option.{option_or}
 use Rattle.gx_model.proofs.Histories.EditMeanings.{found_first, found_later, modify_means}
 use Rattle.gx_model.proofs.Histories.SameFileMaps.{none_below, one_in_line, same_maps}
 use Rattle.gx_model.proofs.Histories.SameValues.{mode_is}
@@ -108,7 +109,7 @@ module _ (new : FileMap Bytes) where
 -- these files put one after the other
 abbrev pub all_put : FileMap Bytes → FileMap Bytes → Result (FileMap Bytes) Fault
 all_put f [] = Ok f
-all_put f (e ∷ es) = and_then (modified f e.0 e.1) (λ g. all_put g es)
+all_put f (e ∷ es) = modified f e.0 e.1 >>= λ g. all_put g es
 
 -- what is found at a path, as a file map or none
 abbrev AreOf : FileMap Bytes → FileMap Bytes → Type 0
@@ -118,7 +119,7 @@ AreOf new es = AllByRecursion (λ e. file_at new e.0 ≡ Some e.1) es
 record IsPut (f es g : FileMap Bytes) : Type 0 where
   pub put : all_put f es ≡ Ok g
   pub parts : Parts g
-  pub at : (q : Path) → file_at g q ≡ or_else (file_at es q) (file_at f q)
+  pub at : (q : Path) → file_at g q ≡ option_or (file_at es q) (file_at f q)
 
 module _ (new : FileMap Bytes) (h : Parts new) where
   of_new : (es : FileMap Bytes) → AreOf new es → (q : Path) (x : Leaf Bytes) → file_at es q ≡ Some x → file_at new q ≡ Some x
@@ -171,15 +172,15 @@ module _ (new : FileMap Bytes) (h : Parts new) where
       let rest = all_are_put es k.1 (second (is_file_path e.0) _ p) now parts below in (
         rest.0,
         record {
-          put = ap (λ r. and_then r (λ g. all_put g es)) m.1 ∙ rest.1.put;
+          put = ap (λ r. r >>= λ g. all_put g es) m.1 ∙ rest.1.put;
           parts = rest.1.parts;
-          at = λ q. rest.1.at q ∙ ap (or_else (file_at es q)) (at q) ∙ joined q;
+          at = λ q. rest.1.at q ∙ ap (option_or (file_at es q)) (at q) ∙ joined q;
         },
       )
     where
-      joined : (q : Path) → or_else (file_at es q) (cond (same_path q e.0) (Some e.1) (file_at f q)) ≡ or_else (cond (same_path q e.0) (Some e.1) (file_at es q)) (file_at f q)
+      joined : (q : Path) → option_or (file_at es q) (cond (same_path q e.0) (Some e.1) (file_at f q)) ≡ option_or (cond (same_path q e.0) (Some e.1) (file_at es q)) (file_at f q)
       joined q = by (same_path q e.0) refl (file_at es q) refl where
-        by : (b : Bool) → same_path q e.0 ≡ b → (o : Option (Leaf Bytes)) → file_at es q ≡ o → or_else o (cond b (Some e.1) (file_at f q)) ≡ or_else (cond b (Some e.1) o) (file_at f q)
+        by : (b : Bool) → same_path q e.0 ≡ b → (o : Option (Leaf Bytes)) → file_at es q ≡ o → option_or o (cond b (Some e.1) (file_at f q)) ≡ option_or (cond b (Some e.1) o) (file_at f q)
         by false i o j = refl
         by true i None j = refl
         by true i (Some x) j = sym (of_new es k.1 q x j) ∙ ap (file_at new) (path_is q e.0 (passes _ i)) ∙ k.0
@@ -241,10 +242,10 @@ at_changed old (e ∷ es) h q =
           ∙ again
     ] refl
 
-both_together : (old new : Option (Leaf Bytes)) → or_else (unless_same old new) (cond (is_some new) old None) ≡ new
+both_together : (old new : Option (Leaf Bytes)) → option_or (unless_same old new) (cond (is_some new) old None) ≡ new
 both_together old None = refl
 both_together old (Some x) = by (is_this_leaf old x) refl where
-  by : (t : Bool) → is_this_leaf old x ≡ t → or_else (cond t None (Some x)) old ≡ Some x
+  by : (t : Bool) → is_this_leaf old x ≡ t → option_or (cond t None (Some x)) old ≡ Some x
   by true k = same_leaf old x k
   by false k = refl
 
@@ -259,5 +260,5 @@ changes_make old new h k =
     let es = changed_files old new in
     let made = all_are_put new k es (of_filter new (λ e. not (is_this_leaf (file_at old e.0) e.1)) new (of_itself new k)) (all_filter (λ e. is_file_path e.0) (λ e. not (is_this_leaf (file_at old e.0) e.1)) new k.paths)
     kept (all_removed_parts old (gone_paths old new) h) (λ q i. some_or_none (is_some (file_at new q)) (file_at old q) (subst (λ (o : Option (Leaf Bytes)). T (is_some o)) (kept_at new old h q) i)) in
-    let same = same_maps made.0 new made.1.parts k (λ q. made.1.at q ∙ (λ i. or_else (at_changed old new k q i) (kept_at new old h q i)) ∙ both_together (file_at old q) (file_at new q)) in
+    let same = same_maps made.0 new made.1.parts k (λ q. made.1.at q ∙ (λ i. option_or (at_changed old new k q i) (kept_at new old h q i)) ∙ both_together (file_at old q) (file_at new q)) in
     made.1.put ∙ ap (λ g. Ok g) same

@@ -9,11 +9,13 @@ use Rattle.gx_model.specs.declared.faults.Fault.TheVariants.{NoSuchPath, RootNot
 use Rattle.gx_model.specs.Texts.{Bytes}
 use Rattle.gx_model.specs.Texts.Paths.{Path, are_in_line, begins, is_component, is_file_path, is_short, path_cmp, same_path}
 use Rattle.gx_model.specs.Histories.Files.{FileMap, Leaf, are_file_paths, file_at, under}
-use Rattle.gx_model.specs.Histories.Edits.{copied, copy_fault, is_root, modified, moved, unless, removed, renamed, with_all, without, without_line}
+use Rattle.gx_model.specs.Histories.Edits.{copied, copy_fault, is_root, modified, moved, removed, renamed, with_all, without, without_line}
+use Rattle.gx_model.specs.Faults.{unless}
 use Rattle.gx_model.specs.Laws.FileMapLaws.{HasLongPath, IsFileForRoot, IsModified, IsPlaced, IsRefusal, IsRemoved}
 use Rattle.gx_model.proofs.Texts.PathTests.{begins_append, both, first, is_same, is_true, left_or, not_both, path_is, path_same, right_or, same_is, second}
 use Rattle.gx_model.proofs.Histories.FileMapEdits.{Parts, filter_parts, moved_paths, removed_parts}
-use Rattle.gx_model.proofs.Histories.FoundFiles.{at_filter, at_moved, at_put, at_with_all, none_moved, none_where, or_else, or_nothing, test_at}
+use Rattle.gx_model.proofs.Histories.FoundFiles.{at_filter, at_moved, at_put, at_with_all, none_moved, none_where, or_nothing, test_at}
+use Rattle.std.specs.Option.{option_or}
 
 -- ---- paths in line
 
@@ -71,19 +73,19 @@ module _ (es : FileMap Bytes) where
 placed_means : (es rest : FileMap Bytes) (s d : Path) → T (are_file_paths (moved s d (under s es))) → Parts rest → IsPlaced es rest s d (with_all (moved s d (under s es)) (without_line d rest))
 placed_means es rest s d f h =
     let new = moved s d (under s es) in
-    let at : (q : Path) → file_at (with_all new (without_line d rest)) q ≡ or_else (file_at new q) (cond (not (are_in_line d q)) (file_at rest q) None) =
-    λ q. at_with_all new (without_line d rest) q f (filter_parts (λ r. not (are_in_line d r)) rest h).paths ∙ ap (or_else (file_at new q)) (left_of_line rest d q) in
+    let at : (q : Path) → file_at (with_all new (without_line d rest)) q ≡ option_or (file_at new q) (cond (not (are_in_line d q)) (file_at rest q) None) =
+    λ q. at_with_all new (without_line d rest) q f (filter_parts (λ r. not (are_in_line d r)) rest h).paths ∙ ap (option_or (file_at new q)) (left_of_line rest d q) in
     record {
       there = λ p.
           at (d ++ p)
-          ∙ (λ i. or_else (at_moved s d es p i) (cond (not (is_true _ (left_or (begins d (d ++ p)) (begins (d ++ p) d) (begins_append d p)) i)) (file_at rest (d ++ p)) None))
+          ∙ (λ i. option_or (at_moved s d es p i) (cond (not (is_true _ (left_or (begins d (d ++ p)) (begins (d ++ p) d) (begins_append d p)) i)) (file_at rest (d ++ p)) None))
           ∙ or_nothing (file_at es (s ++ p));
       above = λ q h n.
           at q
-          ∙ (λ i. or_else (none_moved s d (under s es) q (λ k. n (begin_each_other d q k (passes _ h))) i) (cond (not (is_true _ (right_or (begins d q) (begins q d) (passes _ h)) i)) (file_at rest q) None));
+          ∙ (λ i. option_or (none_moved s d (under s es) q (λ k. n (begin_each_other d q k (passes _ h))) i) (cond (not (is_true _ (right_or (begins d q) (begins q d) (passes _ h)) i)) (file_at rest q) None));
       elsewhere = λ q h.
           at q
-          ∙ (λ i. or_else (none_moved s d (under s es) q (λ k. let m = sym (is_true _ k) ∙ not_begun d q h in cc) i) (cond (not (h i)) (file_at rest q) None));
+          ∙ (λ i. option_or (none_moved s d (under s es) q (λ k. let m = sym (is_true _ k) ∙ not_begun d q h in cc) i) (cond (not (h i)) (file_at rest q) None));
     }
 
 -- ---- what is refused

@@ -13,7 +13,8 @@ use Rattle.gx_model.specs.Texts.{Bytes}
 use Rattle.gx_model.specs.Texts.Paths.{Path, path_cmp, path_text, begins, are_in_line, is_file_path, is_component, is_short, same_path}
 use Rattle.gx_model.specs.Histories.Files.{are_apart, are_file_paths, is_file_map, under}
 use Rattle.std.specs.Map.{lookup}
-use Rattle.gx_model.specs.Histories.Edits.{without_line, without, with_all, moved, modified, removed, copy_fault, unless, copied, renamed}
+use Rattle.gx_model.specs.Histories.Edits.{without_line, without, with_all, moved, modified, removed, copy_fault, copied, renamed}
+use Rattle.gx_model.specs.Faults.{unless}
 use Rattle.gx_model.proofs.Texts.PathTests.{both, first, second, is_true, not_by, not_both, all_filter, all_passing, all_each, all_append, all_drop, same_is, path_same, or_comm, in_line_above, in_line_moved}
 
 -- the byte order of whole paths is a total order

@@ -1,5 +1,6 @@
 -- What is found at a path of a file map, and after an edit of it.
 use Rattle.std.proofs.Common.{◌≡◌, Bool, true, false, cond, refl, sym, ap, subst, ◌∙◌, List, [], ◌∷◌, ◌++◌, length, drop, Option, None, Some}
+use Rattle.std.specs.Option.{option_or}
 use Rattle.std.specs.Prelude.{T, ◌&&◌, is_some}
 use Rattle.std.specs.List.{list_all, filter}
 use Rattle.std.specs.Bool.{passes}
@@ -43,13 +44,8 @@ swapped true true x y z apart = absurd (apart tt tt)
 swapped true false x y z apart = refl
 swapped false b x y z apart = refl
 
--- the first of two, or else the second
-abbrev pub or_else : {X : Type 0} → Option X → Option X → Option X
-or_else (Some x) o = Some x
-or_else None o = o
-
 -- or else nothing adds nothing
-pub or_nothing : {X : Type 0} (o : Option X) → or_else o None ≡ o
+pub or_nothing : {X : Type 0} (o : Option X) → option_or o None ≡ o
 or_nothing None = refl
 or_nothing (Some x) = refl
 
@@ -131,12 +127,12 @@ module _ {X : Type 0} where
   all_with t (e ∷ new) es h g = all_put t e.0 e.1 (with_all new es) (first _ _ h) (all_with t new es (second _ _ h) g)
 
   -- after many puts, a new leaf is found before an old one
-  pub at_with_all : (new es : List (Path × X)) (q : Path) → T (are_file_paths new) → T (are_file_paths es) → file_at (with_all new es) q ≡ or_else (file_at new q) (file_at es q)
+  pub at_with_all : (new es : List (Path × X)) (q : Path) → T (are_file_paths new) → T (are_file_paths es) → file_at (with_all new es) q ≡ option_or (file_at new q) (file_at es q)
   at_with_all [] es q h g = refl
   at_with_all (e ∷ new) es q h g =
       let rest = second (is_file_path e.0) (are_file_paths new) h in
       at_put e.0 e.1 (with_all new es) q (first _ _ h) (all_with is_file_path new es rest g)
-      ∙ elim (same_path q e.0) as (λ b. cond b (Some e.1) (file_at (with_all new es) q) ≡ or_else (cond b (Some e.1) (file_at new q)) (file_at es q)) [ true ↦ refl | false ↦ at_with_all new es q rest g ]
+      ∙ elim (same_path q e.0) as (λ b. cond b (Some e.1) (file_at (with_all new es) q) ≡ option_or (cond b (Some e.1) (file_at new q)) (file_at es q)) [ true ↦ refl | false ↦ at_with_all new es q rest g ]
 
   -- ---- after a move
 

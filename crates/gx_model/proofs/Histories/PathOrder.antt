@@ -5,17 +5,12 @@ use Rattle.std.specs.List.{list_all}
 use Rattle.std.specs.declared.cmp.Ordering.{Ordering}
 use Rattle.std.specs.declared.cmp.Ordering.TheVariants.{Less, Equal, Greater}
 use Rattle.std.specs.Ordering.{nat_cmp, ordering_then}
-use Rattle.std.specs.Cmp.Lexicographic.{slice_cmp}
 use Rattle.std.specs.FinMap.{nat_cmp-IsAntisymmetric}
-use Rattle.gx_model.specs.Texts.{Bytes}
+use Rattle.gx_model.specs.Texts.{Bytes, byte_cmp}
 use Rattle.gx_model.specs.Texts.Paths.{Path, path_text, path_cmp, is_component}
 use Rattle.gx_model.specs.Objects.{Entry, entry_key}
 use Rattle.gx_model.specs.Laws.ObjectLaws.{IsAtOrBelow}
 use Rattle.gx_model.proofs.Texts.PathTests.{component_free, first, second, not_both}
-
--- the byte order
-abbrev pub byte_cmp : Bytes → Bytes → Ordering
-byte_cmp = slice_cmp nat_cmp
 
 then_strict : (r a b : Ordering) → r ≢ Equal → ordering_then r a ≡ ordering_then r b
 then_strict Less a b h = refl

@@ -8,11 +8,11 @@ use Rattle.std.specs.Ordering.{is_lt, ordering_reverse}
 use Rattle.std.specs.Cmp.Lexicographic.{nat_list_cmp_total}
 use Rattle.std.specs.FinMap.Entries.{below_all}
 use Rattle.std.specs.Bool.{passes}
-use Rattle.gx_model.specs.Texts.{Bytes, same_bytes}
+use Rattle.gx_model.specs.Texts.{Bytes, byte_cmp, same_bytes}
 use Rattle.gx_model.specs.Texts.Paths.{Path, path_cmp, is_component, is_file_path, begins, are_in_line}
 use Rattle.gx_model.specs.Histories.Files.{first_component, first_components, with_first, sub_map, are_apart, are_file_paths}
 use Rattle.gx_model.proofs.Texts.PathTests.{both, first, second, is_true, not_by, not_both, same_is, is_same, left_or}
-use Rattle.gx_model.proofs.Histories.PathOrder.{by_node, node_key, byte_cmp}
+use Rattle.gx_model.proofs.Histories.PathOrder.{by_node, node_key}
 use Rattle.gx_model.proofs.Histories.FileMapEdits.{Parts}
 
 -- a path without its first component

@@ -7,12 +7,11 @@ use Rattle.std.specs.Cmp.{tied_itself, nat_cmp_total}
 use Rattle.std.specs.FinMap.Entries.{is_sorted, below_all}
 use Rattle.std.specs.Bool.{passes}
 use Rattle.std.proofs.lemmas.Bool.{leb-true, le-leb}
-use Rattle.gx_model.specs.Texts.{Bytes, same_bytes}
+use Rattle.gx_model.specs.Texts.{Bytes, byte_cmp, same_bytes}
 use Rattle.gx_model.specs.Texts.Paths.{Path, same_path, path_text, path_cmp, begins, is_short, is_file_path}
 use Rattle.gx_model.specs.Histories.Files.{FileMap, file_at, sub_map, under, are_file_paths, is_file_map}
 use Rattle.gx_model.specs.Histories.Values.{is_content, is_leaf}
 use Rattle.gx_model.proofs.Texts.PathTests.{both, first, second, is_true, not_both, all_filter, all_map, same_is}
-use Rattle.gx_model.proofs.Histories.PathOrder.{byte_cmp}
 use Rattle.gx_model.proofs.Histories.FileMapEdits.{Parts, parts_of, of_parts, apart_moved, all_into_root, none_at, filter_parts, under_passes}
 
 cmp_prefix : (x a b : Bytes) → byte_cmp (x ++ a) (x ++ b) ≡ byte_cmp a b

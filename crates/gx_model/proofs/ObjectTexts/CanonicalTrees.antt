@@ -7,14 +7,13 @@ use Rattle.std.specs.FinMap.Entries.{is_sorted}
 use Rattle.gx_model.specs.declared.objects.Kind.{Kind}
 use Rattle.gx_model.specs.declared.objects.Mode.{Mode}
 use Rattle.gx_model.specs.declared.objects.Mode.TheVariants.{File, Exec, Link, Gitlink, Dir}
-use Rattle.gx_model.specs.Texts.{Bytes, same_bytes}
+use Rattle.gx_model.specs.Texts.{Bytes, byte_cmp, same_bytes}
 use Rattle.gx_model.specs.Histories.Files.{FileMap, Leaf, first_components, file_at, sub_map, is_file_map}
 use Rattle.gx_model.specs.Texts.Paths.{is_component}
 use Rattle.gx_model.specs.Histories.Values.{is_content, is_leaf}
 use Rattle.gx_model.specs.Objects.{IsNamer, entry_key, is_dir, is_canonical, are_different}
 use Rattle.gx_model.specs.Records.{node, entry, entries, named_map, tree_name}
 use Rattle.gx_model.proofs.Texts.PathTests.{both, first, second, is_true}
-use Rattle.gx_model.proofs.Histories.PathOrder.{byte_cmp}
 use Rattle.gx_model.proofs.Histories.FileMapEdits.{Parts, parts_of}
 use Rattle.gx_model.proofs.Histories.PathRuns.{runs, heads, good_runs, AreDistinct, runs_avoid}
 use Rattle.gx_model.proofs.ObjectTexts.SortedKeys.{keys, key_at, sorted_keys}

@@ -6,7 +6,7 @@ use Rattle.std.specs.List.{list_all}
 use Rattle.std.proofs.lemmas.Bool.{and_from, and_parts, lt-ltb, eq-eqb, eqb-true, ltb-true}
 use Rattle.std.proofs.lemmas.Bool.Decides.{nat_tests}
 use Rattle.gx_model.specs.Texts.{Bytes, is_line}
-use Rattle.gx_model.specs.Histories.Values.{is_hex_digit as is_lower_digit, is_name_text}
+use Rattle.gx_model.specs.Texts.Digits.{is_lower_digit, is_name_text}
 use Rattle.gx_model.specs.Objects.{hex, hex_digit, is_name, digit_value, unhex}
 use Rattle.gx_model.specs.Objects.Naming.{lower_name_in}
 use Rattle.gx_model.proofs.ObjectTexts.BodiesReadBack.{unhex_hex}

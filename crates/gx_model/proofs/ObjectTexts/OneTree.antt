@@ -12,7 +12,8 @@ use Rattle.std.specs.Bool.{passes}
 use Rattle.gx_model.specs.Texts.{Bytes, same_bytes}
 use Rattle.gx_model.specs.Texts.Paths.{Path, same_path, begins, is_component, is_file_path, are_in_line}
 use Rattle.gx_model.specs.Histories.Files.{FileMap, Leaf, first_component, first_components, with_first, sub_map, file_at, is_file_map, are_file_paths, are_apart}
-use Rattle.gx_model.specs.Histories.Values.{Value, blob_value, tree_value, blob_of, blobs_of, sub_maps, parts, is_leaf, is_content, is_name_text, is_hex_digit}
+use Rattle.gx_model.specs.Histories.Values.{Value, blob_value, tree_value, blob_of, blobs_of, sub_maps, parts, is_leaf, is_content}
+use Rattle.gx_model.specs.Texts.Digits.{is_lower_digit, is_name_text}
 use Rattle.gx_model.specs.Objects.{IsNamer, Entry, tree_text, unhex}
 use Rattle.gx_model.specs.Records.{node, entry, entries, tree_body, tree_name, content_name, named_map, name_of}
 use Rattle.gx_model.proofs.Texts.PathTests.{both, first, second, is_true, not_both, is_same, path_is, left_or, right_or}
@@ -165,11 +166,11 @@ all_three P Q R S f (x ∷ xs) p q r = (f x p.0 q.0 r.0, all_three P Q R S f xs 
 
 -- a name's digits are 40
 pub forty : (x : Bytes) → T (is_name_text x) → length x ≡ 40
-forty x h = eqb→eq (length x) 40 (first (nat_eq (length x) 40) (list_all is_hex_digit x) h)
+forty x h = eqb→eq (length x) 40 (first (nat_eq (length x) 40) (list_all is_lower_digit x) h)
 
 -- a name's digits are lower-case digits
-pub digits_of : (x : Bytes) → T (is_name_text x) → T (list_all is_hex_digit x)
-digits_of x h = second (nat_eq (length x) 40) (list_all is_hex_digit x) h
+pub digits_of : (x : Bytes) → T (is_name_text x) → T (list_all is_lower_digit x)
+digits_of x h = second (nat_eq (length x) 40) (list_all is_lower_digit x) h
 
 bytes_of : Value → Bytes
 bytes_of (blob_value x) = x

@@ -2,13 +2,13 @@
 use Rattle.std.proofs.Common.{◌≡◌, Bool, true, false, cond, refl, sym, ap, subst, ◌∙◌, List, [], ◌∷◌, ◌++◌, drop, map, Option, None, Some, append-nil}
 use Rattle.std.specs.Prelude.{T, not, ◌&&◌, ◌||◌, is_none}
 use Rattle.std.specs.List.{list_all, list_any, filter, flat_map, cons_option, AllByRecursion}
-use Rattle.std.specs.Option.{option_map}
+use Rattle.std.specs.Option.{option_map, option_or}
 use Rattle.std.specs.Ordering.{is_lt}
 use Rattle.std.specs.FinMap.Entries.{is_sorted, below_all}
 use Rattle.std.specs.Bool.{passes}
 use Rattle.std.proofs.lemmas.List.Elements.{filter-append}
 use Rattle.gx_model.specs.declared.objects.Kind.{Kind}
-use Rattle.gx_model.specs.Texts.{Bytes, same_bytes}
+use Rattle.gx_model.specs.Texts.{Bytes, byte_cmp, same_bytes}
 use Rattle.gx_model.specs.Texts.Paths.{Path, same_path, path_cmp, begins, are_in_line, is_component}
 use Rattle.gx_model.specs.Histories.Files.{FileMap, Leaf, first_components, with_first, file_at, sub_map, under, are_apart, are_file_paths}
 use Rattle.gx_model.specs.Histories.Values.{Value, tree_value, blobs_of, blob_of, sub_maps, parts, is_leaf, is_content}
@@ -16,7 +16,7 @@ use Rattle.gx_model.specs.Objects.{IsNamer, Entry, entry_key, is_canonical, are_
 use Rattle.gx_model.specs.Records.{node, entry, entries, named_map, tree_name, tree_body}
 use Rattle.gx_model.specs.Records.HistoryOf.{placed}
 use Rattle.gx_model.proofs.Texts.PathTests.{both, first, second, all_append}
-use Rattle.gx_model.proofs.Histories.PathOrder.{by_node, node_key, byte_cmp}
+use Rattle.gx_model.proofs.Histories.PathOrder.{by_node, node_key}
 use Rattle.gx_model.proofs.Histories.FileMapEdits.{Parts, of_parts, apart_moved}
 use Rattle.gx_model.proofs.Histories.PathRuns.{flip, same_itself, as_false, other}
 use Rattle.gx_model.proofs.ObjectTexts.OneTree.{spelling, node_entry, node_of, leaf_named}
@@ -76,20 +76,16 @@ sub_other c d (e ∷ es) h =
 
 -- ---- files
 
--- the first of two, or else the second
-abbrev pub or_else : Option (Leaf Bytes) → Option (Leaf Bytes) → Option (Leaf Bytes)
-or_else (Some x) o = Some x
-or_else None o = o
-
-or_none : (o : Option (Leaf Bytes)) → or_else o None ≡ o
+-- or else nothing adds nothing
+or_none : (o : Option (Leaf Bytes)) → option_or o None ≡ o
 or_none None = refl
 or_none (Some x) = refl
 
 -- what is found in two lists in a row is found in the first, or else in the second
-pub at_append : (p : Path) (xs ys : FileMap Bytes) → file_at (xs ++ ys) p ≡ or_else (file_at xs p) (file_at ys p)
+pub at_append : (p : Path) (xs ys : FileMap Bytes) → file_at (xs ++ ys) p ≡ option_or (file_at xs p) (file_at ys p)
 at_append p [] ys = refl
 at_append p (x ∷ xs) ys =
-    elim (same_path p x.0) as (λ b. cond b (Some x.1) (file_at (xs ++ ys) p) ≡ or_else (cond b (Some x.1) (file_at xs p)) (file_at ys p)) [ true ↦ refl | false ↦ at_append p xs ys ]
+    elim (same_path p x.0) as (λ b. cond b (Some x.1) (file_at (xs ++ ys) p) ≡ option_or (cond b (Some x.1) (file_at xs p)) (file_at ys p)) [ true ↦ refl | false ↦ at_append p xs ys ]
 
 at_own : (c : Bytes) (f : FileMap Bytes) → file_at (placed c f) (c ∷ []) ≡ file_at f []
 at_own c [] = refl
@@ -194,7 +190,7 @@ module _ (g : Entry → FileMap Bytes) where
   none_file c [] h = refl
   none_file c (e ∷ es) h =
       at_append (c ∷ []) (placed e.component (g e)) (whole es)
-      ∙ (λ i. or_else (at_other c e.component (g e) (as_false _ (head_other c e.component (components es) h)) i) (none_file c es (tail_other c e.component (components es) h) i))
+      ∙ (λ i. option_or (at_other c e.component (g e) (as_false _ (head_other c e.component (components es) h)) i) (none_file c es (tail_other c e.component (components es) h) i))
 
   -- what a map has at an entry's component is what the entry has
   pub record AtEntry (f : FileMap Bytes) (e : Entry) : Type 0 where
@@ -207,7 +203,7 @@ module _ (g : Entry → FileMap Bytes) where
       let o = as_false _ (flip e.component d.component (head_other e.component d.component (components es) n)) in (
         record {
           sub = sub_append d.component (placed e.component (g e)) rest ∙ (λ i. sub_other d.component e.component (g e) o i ++ h.0.sub i);
-          file = at_append (d.component ∷ []) (placed e.component (g e)) rest ∙ (λ i. or_else (at_other d.component e.component (g e) o i) (h.0.file i));
+          file = at_append (d.component ∷ []) (placed e.component (g e)) rest ∙ (λ i. option_or (at_other d.component e.component (g e) o i) (h.0.file i));
         },
         skip_all e rest es (tail_other e.component d.component (components es) n) h.1,
       )
@@ -219,7 +215,7 @@ module _ (g : Entry → FileMap Bytes) where
       let n = first (not (list_any (same_bytes e.component) (components es))) _ d in (
         record {
           sub = sub_append e.component (placed e.component (g e)) (whole es) ∙ (λ i. sub_own e.component (g e) i ++ none_sub e.component es n i) ∙ append-nil (g e);
-          file = at_append (e.component ∷ []) (placed e.component (g e)) (whole es) ∙ (λ i. or_else (at_own e.component (g e) i) (none_file e.component es n i)) ∙ or_none (file_at (g e) []);
+          file = at_append (e.component ∷ []) (placed e.component (g e)) (whole es) ∙ (λ i. option_or (at_own e.component (g e) i) (none_file e.component es n i)) ∙ or_none (file_at (g e) []);
         },
         skip_all e (whole es) es n (at_all es (second (not (list_any (same_bytes e.component) (components es))) _ d)),
       )

@@ -6,11 +6,11 @@ use Rattle.std.specs.declared.cmp.Ordering.TheVariants.{Less}
 use Rattle.std.specs.Ordering.{is_lt}
 use Rattle.std.specs.FinMap.Entries.{is_sorted, below_all}
 use Rattle.std.specs.Bool.{passes}
-use Rattle.gx_model.specs.Texts.{Bytes, same_bytes}
+use Rattle.gx_model.specs.Texts.{Bytes, byte_cmp, same_bytes}
 use Rattle.gx_model.specs.Texts.Paths.{Path, same_path, path_cmp, is_component, is_file_path, are_in_line, begins}
 use Rattle.gx_model.specs.Histories.Files.{first_component, first_components, with_first, file_at, are_file_paths, are_apart}
 use Rattle.gx_model.proofs.Texts.PathTests.{both, first, second, is_true, not_by, not_both, same_is, is_same, left_or, right_or, path_is, path_same}
-use Rattle.gx_model.proofs.Histories.PathOrder.{by_node, node_key, byte_cmp}
+use Rattle.gx_model.proofs.Histories.PathOrder.{by_node, node_key}
 use Rattle.gx_model.proofs.Histories.FileMapEdits.{Parts}
 use Rattle.gx_model.proofs.Histories.PathRuns.{tail_parts, avoids_rest, component_of, less_is, other, as_false, avoids}
 

@@ -11,7 +11,8 @@ use Rattle.gx_model.specs.declared.objects.Mode.TheVariants.{File, Exec, Link, G
 use Rattle.gx_model.specs.Texts.{Bytes, same_bytes}
 use Rattle.gx_model.specs.Texts.Paths.{Path, same_path, is_file_path}
 use Rattle.gx_model.specs.Histories.Files.{FileMap, Leaf, first_component, first_components, with_first, file_at, sub_map, under, are_file_paths, are_apart, is_file_map}
-use Rattle.gx_model.specs.Histories.Values.{Value, tree_value, is_content, is_leaf, is_hex_digit}
+use Rattle.gx_model.specs.Histories.Values.{Value, tree_value, is_content, is_leaf}
+use Rattle.gx_model.specs.Texts.Digits.{is_lower_digit}
 use Rattle.gx_model.specs.Objects.{IsNamer, unhex, digit_value, Entry, is_name, IsTreeText}
 use Rattle.gx_model.specs.Records.{content_name, node, entries, named_map, tree_name, tree_body, name_of, body_of}
 use Rattle.gx_model.specs.Histories.{Record, AreDistinct, IsIn, record_of}
@@ -126,15 +127,15 @@ no_dir_leaf : (x : Leaf Bytes) → T (is_leaf x.0 x.1) → x.0 ≡ Dir → ⊥
 no_dir_leaf x h e = subst (λ m. T (is_leaf m x.1)) e h
 
 -- the bytes of lower-case digits are below 256
-pub unhex_bytes : (x : Bytes) → T (list_all is_hex_digit x) → T (list_all (λ b. nat_lt b 256) (unhex x))
+pub unhex_bytes : (x : Bytes) → T (list_all is_lower_digit x) → T (list_all (λ b. nat_lt b 256) (unhex x))
 unhex_bytes [] h = tt
 unhex_bytes (a ∷ []) h = tt
 unhex_bytes (a ∷ b ∷ x) h =
-    let u = value_is a (first (is_hex_digit a) (list_all is_hex_digit (b ∷ x)) h) in
-    let k = second (is_hex_digit a) (list_all is_hex_digit (b ∷ x)) h in
-    let v = value_is b (first (is_hex_digit b) (list_all is_hex_digit x) k) in
+    let u = value_is a (first (is_lower_digit a) (list_all is_lower_digit (b ∷ x)) h) in
+    let k = second (is_lower_digit a) (list_all is_lower_digit (b ∷ x)) h in
+    let v = value_is b (first (is_lower_digit b) (list_all is_lower_digit x) k) in
     let l : 16 * digit_value a + digit_value b < 256 = pair (digit_value a) (digit_value b) u.0 v.0 in
-    both _ _ (passes _ (lt_test _ _ l)) (unhex_bytes x (second (is_hex_digit b) (list_all is_hex_digit x) k))
+    both _ _ (passes _ (lt_test _ _ l)) (unhex_bytes x (second (is_lower_digit b) (list_all is_lower_digit x) k))
   where
     pair : (m n : ℕ) → m < 16 → n < 16 → 16 * m + n < 256
     pair m n h k = omega arith

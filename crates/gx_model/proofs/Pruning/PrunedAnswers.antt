@@ -10,8 +10,8 @@ use Rattle.gx_model.specs.declared.objects.Kind.{Kind}
 use Rattle.gx_model.specs.declared.faults.Fault.{Fault}
 use Rattle.gx_model.specs.declared.faults.Fault.TheVariants as fault
 use Rattle.gx_model.specs.Texts.{Bytes, same_bytes}
-use Rattle.gx_model.specs.Faults.{Given, and_then}
-use Rattle.gx_model.specs.Histories.Values.{Commit, Value, blob_value, commit_value, parents_of, tag_value, tree_value}
+use Rattle.gx_model.specs.Faults.{Given, ◌>>=◌}
+use Rattle.gx_model.specs.Histories.Values.{Commit, Value, blob_value, commit_of, commit_value, parents_of, tag_value, tree_value}
 use Rattle.gx_model.specs.Histories.{History, IsIn, IsWhole, Records, Target, is_in, itself, value_at}
 use Rattle.gx_model.specs.Laws.ExportLaws.{IsReached}
 use Rattle.gx_model.specs.Laws.HistoryLaws.{IsParent}
@@ -22,8 +22,9 @@ use Rattle.gx_model.specs.Records.{name_of}
 use Rattle.gx_model.specs.Records.HistoryOf.{history_of}
 use Rattle.gx_model.specs.Records.Sound.{IsSound}
 use Rattle.gx_model.specs.Revisions.{AllParents, Alone, Apart, Between, RangeWord, Revision, WithAncestors, WithoutAncestors, WithoutOne}
-use Rattle.gx_model.specs.Revisions.Denotation.{Shown, all_suffixed, are_digits, base_value, begins_with_digits, begun_by, commit_denoted, commit_in, denoted, find_ref, first_ref, full_name, nth_parent, object, or_ref, ref_at, ref_names, shown_at, shown_value, submodule, the_one}
-use Rattle.gx_model.specs.Revisions.Ranges.{Word, WordFault, all_parents, alone, apart, at_word, between, commit_of, each_from, listed, listing, reaches, some_reaches, span, with_ancestors, without_ancestors, without_one, word_denoted}
+use Rattle.gx_model.specs.Revisions.Denotation.{Shown, all_suffixed, are_digits, base_value, begins_with_digits, begun_by, commit_denoted, commit_in, denoted, find_ref, first_ref, full_name, nth_parent, object, ref_at, ref_names, shown_at, shown_value, submodule, the_one}
+use Rattle.std.specs.Option.{option_or}
+use Rattle.gx_model.specs.Revisions.Ranges.{Word, WordFault, all_parents, alone, apart, at_word, between, each_from, listed, listing, reaches, some_reaches, span, with_ancestors, without_ancestors, without_one, word_denoted}
 use Rattle.gx_model.proofs.Histories.AddedValues.{is_in_is}
 use Rattle.gx_model.proofs.Records.GrownRecords.{is_is_in, whole_of}
 use Rattle.gx_model.proofs.Records.HistoriesExist.{stands}
@@ -88,7 +89,7 @@ look_in n (q ∷ refs) t e = by (same_bytes n q.0) e (look_in n refs t) where
 first_in : (h : History) (ns : List Bytes) (t : Target) → first_ref h ns ≡ Some t → IsIn (Tips h.refs) (value_at t)
 first_in h [] t e = absurd (cc)
 first_in h (n ∷ ns) t e = by (ref_at h n) refl e (first_in h ns t) where
-  by : (o : Option Target) → ref_at h n ≡ o → or_ref o (first_ref h ns) ≡ Some t → (first_ref h ns ≡ Some t → IsIn (Tips h.refs) (value_at t)) → IsIn (Tips h.refs) (value_at t)
+  by : (o : Option Target) → ref_at h n ≡ o → option_or o (first_ref h ns) ≡ Some t → (first_ref h ns ≡ Some t → IsIn (Tips h.refs) (value_at t)) → IsIn (Tips h.refs) (value_at t)
   by (Some u) k m again = look_in n h.refs t (k ∙ m)
   by None k m again = again m
 
@@ -167,7 +168,7 @@ module _ (name : Kind → Bytes → Bytes) (namer : IsNamer name) (r : Records) 
   pub same_revision : (a : Revision) → GivesReached name h a.base → denoted name k a ≡ denoted name h a
   unfolding denoted
   same_revision a g =
-      ap (λ b. and_then b (λ v. and_then (all_suffixed v a.suffixes) (λ w. shown_at w a.path))) (same_base a.base g.0 g.1 g.2 ∙ sym g.1)
+      ap (λ b. b >>= λ v. all_suffixed v a.suffixes >>= λ w. shown_at w a.path) (same_base a.base g.0 g.1 g.2 ∙ sym g.1)
 
   -- ---- ranges
 
@@ -185,7 +186,7 @@ module _ (name : Kind → Bytes → Bytes) (namer : IsNamer name) (r : Records) 
 
   commit_stands : (a : Revision) (c : Commit) → commit_denoted name k a ≡ Ok c → Stands c
   commit_stands a c e = by (denoted name k a) refl e where
-    by : (o : Result Shown Fault) → denoted name k a ≡ o → and_then (and_then o shown_value) commit_in ≡ Ok c → Stands c
+    by : (o : Result Shown Fault) → denoted name k a ≡ o → ((o >>= shown_value) >>= commit_in) ≡ Ok c → Stands c
     by (Ok (object v)) q f = commit_of_value v c (held_value name namer (pruned r) (pruned_sound name namer r s) a v q) f
     by (Ok (submodule x)) q f = absurd (cc)
     by (Err g) q f = absurd (cc)
@@ -208,26 +209,26 @@ module _ (name : Kind → Bytes → Bytes) (namer : IsNamer name) (r : Records) 
   abbrev IncludesStanding : Word → Type 0
   IncludesStanding w = (d : Commit) → T ((span w).included d) → Stands d
 
-  after_one : (a : Revision) (f : Commit → Word) (w : Word) → ((c : Commit) → Stands c → IncludesStanding (f c)) → and_then (commit_denoted name k a) (λ c. Ok (f c)) ≡ Ok w → IncludesStanding w
+  after_one : (a : Revision) (f : Commit → Word) (w : Word) → ((c : Commit) → Stands c → IncludesStanding (f c)) → (commit_denoted name k a >>= λ c. Ok (f c)) ≡ Ok w → IncludesStanding w
   after_one a f w fine e = by (commit_denoted name k a) refl e where
-    by : (o : Given Commit) → commit_denoted name k a ≡ o → and_then o (λ c. Ok (f c)) ≡ Ok w → IncludesStanding w
+    by : (o : Given Commit) → commit_denoted name k a ≡ o → (o >>= λ c. Ok (f c)) ≡ Ok w → IncludesStanding w
     by (Err g) q m = absurd (cc)
     by (Ok c) q m = let same : f c ≡ w = cc m in subst IncludesStanding same (fine c (commit_stands a c q))
 
   after_two : (a b : Revision) (f : Commit → Commit → Word) (w : Word) → ((c d : Commit) → Stands c → Stands d → IncludesStanding (f c d))
-      → and_then (commit_denoted name k a) (λ c. and_then (commit_denoted name k b) (λ d. Ok (f c d))) ≡ Ok w → IncludesStanding w
+      → (commit_denoted name k a >>= λ c. commit_denoted name k b >>= λ d. Ok (f c d)) ≡ Ok w → IncludesStanding w
   after_two a b f w fine e = by (commit_denoted name k a) refl e where
-    by : (o : Given Commit) → commit_denoted name k a ≡ o → and_then o (λ c. and_then (commit_denoted name k b) (λ d. Ok (f c d))) ≡ Ok w → IncludesStanding w
+    by : (o : Given Commit) → commit_denoted name k a ≡ o → (o >>= λ c. commit_denoted name k b >>= λ d. Ok (f c d)) ≡ Ok w → IncludesStanding w
     by (Err g) q m = absurd (cc)
     by (Ok c) q m = after_one b (f c) w (λ d i. fine c d (commit_stands a c q) i) m
 
-  after_parent : (a : Revision) (n : ℕ) (w : Word) → and_then (commit_denoted name k a) (λ c. and_then (nth_parent n c) (λ p. Ok (without_one c p))) ≡ Ok w → IncludesStanding w
+  after_parent : (a : Revision) (n : ℕ) (w : Word) → (commit_denoted name k a >>= λ c. nth_parent n c >>= λ p. Ok (without_one c p)) ≡ Ok w → IncludesStanding w
   after_parent a n w e = by (commit_denoted name k a) refl e where
-    then_one : (c : Commit) → Stands c → (o : Given Commit) → and_then o (λ p. Ok (without_one c p)) ≡ Ok w → IncludesStanding w
+    then_one : (c : Commit) → Stands c → (o : Given Commit) → (o >>= λ p. Ok (without_one c p)) ≡ Ok w → IncludesStanding w
     then_one c i (Err g) m = absurd (cc)
     then_one c i (Ok p) m = let same : without_one c p ≡ w = cc m in subst IncludesStanding same (λ d h. reach_stands c d i h)
 
-    by : (o : Given Commit) → commit_denoted name k a ≡ o → and_then o (λ c. and_then (nth_parent n c) (λ p. Ok (without_one c p))) ≡ Ok w → IncludesStanding w
+    by : (o : Given Commit) → commit_denoted name k a ≡ o → (o >>= λ c. nth_parent n c >>= λ p. Ok (without_one c p)) ≡ Ok w → IncludesStanding w
     by (Err g) q m = absurd (cc)
     by (Ok c) q m = then_one c (commit_stands a c q) (nth_parent n c) m
 
@@ -243,12 +244,12 @@ module _ (name : Kind → Bytes → Bytes) (namer : IsNamer name) (r : Records) 
   words_stand : (xs : List RangeWord) (n : ℕ) (ws : List Word) → each_from n (word_denoted name k) xs ≡ Ok ws → AllByRecursion IncludesStanding ws
   words_stand [] n ws e = let none : [] ≡ ws = cc e in subst (AllByRecursion IncludesStanding) none tt
   words_stand (x ∷ xs) n ws e = by (word_denoted name k x) refl e (words_stand xs (n + 1)) where
-    then_rest : (w : Word) → IncludesStanding w → (o : Result (List Word) WordFault) → each_from (n + 1) (word_denoted name k) xs ≡ o → and_then o (λ us. Ok (w ∷ us)) ≡ Ok ws
+    then_rest : (w : Word) → IncludesStanding w → (o : Result (List Word) WordFault) → each_from (n + 1) (word_denoted name k) xs ≡ o → (o >>= λ us. Ok (w ∷ us)) ≡ Ok ws
         → ((us : List Word) → each_from (n + 1) (word_denoted name k) xs ≡ Ok us → AllByRecursion IncludesStanding us) → AllByRecursion IncludesStanding ws
     then_rest w i (Err g) q m again = absurd (cc)
     then_rest w i (Ok us) q m again = let same : w ∷ us ≡ ws = cc m in subst (AllByRecursion IncludesStanding) same (i, again us q)
 
-    by : (o : Given Word) → word_denoted name k x ≡ o → and_then (at_word n o) (λ w. and_then (each_from (n + 1) (word_denoted name k) xs) (λ us. Ok (w ∷ us))) ≡ Ok ws
+    by : (o : Given Word) → word_denoted name k x ≡ o → (at_word n o >>= λ w. each_from (n + 1) (word_denoted name k) xs >>= λ us. Ok (w ∷ us)) ≡ Ok ws
         → ((us : List Word) → each_from (n + 1) (word_denoted name k) xs ≡ Ok us → AllByRecursion IncludesStanding us) → AllByRecursion IncludesStanding ws
     by (Err g) q m again = absurd (cc)
     by (Ok w) q m again = then_rest w (word_stands x w q) (each_from (n + 1) (word_denoted name k) xs) refl m again
@@ -269,27 +270,27 @@ module _ (name : Kind → Bytes → Bytes) (namer : IsNamer name) (r : Records) 
       ∙ sym (filter_reverse (listed_by ws) (filter_map commit_of h.values))
 
   same_commit_of : (a : Revision) → GivesReached name h a.base → commit_denoted name k a ≡ commit_denoted name h a
-  same_commit_of a g = ap (λ d. and_then (and_then d shown_value) commit_in) (same_revision a g)
+  same_commit_of a g = ap (λ d. (d >>= shown_value) >>= commit_in) (same_revision a g)
 
   same_word : (x : RangeWord) → HasReached name h x → word_denoted name k x ≡ word_denoted name h x
-  same_word (WithAncestors a) g = ap (λ o. and_then o (λ c. Ok (with_ancestors c))) (same_commit_of a g)
-  same_word (WithoutAncestors a) g = ap (λ o. and_then o (λ c. Ok (without_ancestors c))) (same_commit_of a g)
-  same_word (Between a b) g = λ i. and_then (same_commit_of a g.0 i) (λ c. and_then (same_commit_of b g.1 i) (λ d. Ok (between c d)))
-  same_word (Apart a b) g = λ i. and_then (same_commit_of a g.0 i) (λ c. and_then (same_commit_of b g.1 i) (λ d. Ok (apart c d)))
-  same_word (AllParents a) g = ap (λ o. and_then o (λ c. Ok (all_parents c))) (same_commit_of a g)
-  same_word (Alone a) g = ap (λ o. and_then o (λ c. Ok (alone c))) (same_commit_of a g)
-  same_word (WithoutOne a n) g = ap (λ o. and_then o (λ c. and_then (nth_parent n c) (λ p. Ok (without_one c p)))) (same_commit_of a g)
+  same_word (WithAncestors a) g = ap (λ o. o >>= λ c. Ok (with_ancestors c)) (same_commit_of a g)
+  same_word (WithoutAncestors a) g = ap (λ o. o >>= λ c. Ok (without_ancestors c)) (same_commit_of a g)
+  same_word (Between a b) g = λ i. same_commit_of a g.0 i >>= λ c. same_commit_of b g.1 i >>= λ d. Ok (between c d)
+  same_word (Apart a b) g = λ i. same_commit_of a g.0 i >>= λ c. same_commit_of b g.1 i >>= λ d. Ok (apart c d)
+  same_word (AllParents a) g = ap (λ o. o >>= λ c. Ok (all_parents c)) (same_commit_of a g)
+  same_word (Alone a) g = ap (λ o. o >>= λ c. Ok (alone c)) (same_commit_of a g)
+  same_word (WithoutOne a n) g = ap (λ o. o >>= λ c. nth_parent n c >>= λ p. Ok (without_one c p)) (same_commit_of a g)
 
   same_words : (xs : List RangeWord) (n : ℕ) → AllByRecursion (HasReached name h) xs → each_from n (word_denoted name k) xs ≡ each_from n (word_denoted name h) xs
   same_words [] n g = refl
-  same_words (x ∷ xs) n g = λ i. and_then (at_word n (same_word x g.0 i)) (λ w. and_then (same_words xs (n + 1) g.1 i) (λ us. Ok (w ∷ us)))
+  same_words (x ∷ xs) n g = λ i. at_word n (same_word x g.0 i) >>= λ w. same_words xs (n + 1) g.1 i >>= λ us. Ok (w ∷ us)
 
   -- ranges of words whose bases give what refs reach list what they listed
   pub same_range : (xs : List RangeWord) → AllByRecursion (HasReached name h) xs → listed name k xs ≡ listed name h xs
   unfolding listed
-  same_range xs g = by (each_from 1 (word_denoted name k) xs) refl ∙ ap (λ o. and_then o (λ ws. Ok (map (λ c. name_of name (commit_value c)) (listing h ws)))) (same_words xs 1 g)
+  same_range xs g = by (each_from 1 (word_denoted name k) xs) refl ∙ ap (λ o. o >>= λ ws. Ok (map (λ c. name_of name (commit_value c)) (listing h ws))) (same_words xs 1 g)
     where
       by : (o : Result (List Word) WordFault) → each_from 1 (word_denoted name k) xs ≡ o
-          → and_then o (λ ws. Ok (map (λ c. name_of name (commit_value c)) (listing k ws))) ≡ and_then o (λ ws. Ok (map (λ c. name_of name (commit_value c)) (listing h ws)))
+          → (o >>= λ ws. Ok (map (λ c. name_of name (commit_value c)) (listing k ws))) ≡ (o >>= λ ws. Ok (map (λ c. name_of name (commit_value c)) (listing h ws)))
       by (Err e) q = refl
       by (Ok ws) q = ap (λ cs. Ok (map (λ c. name_of name (commit_value c)) cs)) (same_listing ws (words_stand xs 1 ws q))

@@ -10,12 +10,12 @@ use Rattle.gx_model.specs.declared.objects.Mode.{Mode}
 use Rattle.gx_model.specs.declared.objects.Mode.TheVariants.{Dir, Exec, File, Gitlink, Link}
 use Rattle.gx_model.specs.Texts.{Bytes, same_bytes}
 use Rattle.gx_model.specs.Histories.Files.{FileMap, Leaf, depth, file_at, first_components, sub_map}
-use Rattle.gx_model.specs.Histories.Values.{Commit, Commits, Tag, Value, blob_of, blob_value, blobs_of, commit_value, files_of, is_content, is_leaf, is_proper, list_of, more, none, parents_of, parts, sub_maps, tag_value, tree_value}
+use Rattle.gx_model.specs.Histories.Values.{Commit, Commits, Tag, Value, blob_of, blob_value, blobs_of, commit_value, files_of, is_content, is_leaf, is_proper, list_of, more, none, parents_of, parts, sub_maps, tag_value, tree_value, unless_gitlink}
 use Rattle.gx_model.specs.Histories.{AreDistinct, IsClosedAfter, IsIn, IsWhole, Reaches, Record, Target, itself, record_of, through, value_at}
 use Rattle.gx_model.specs.Laws.ExportLaws.{AnyReaches}
 use Rattle.gx_model.specs.Laws.PruningLaws.{LinksHave}
 use Rattle.gx_model.specs.Objects.{IsNamer}
-use Rattle.gx_model.specs.Pruning.{is_reachable, is_tip, link_of, linked, links_of, links_to}
+use Rattle.gx_model.specs.Pruning.{is_reachable, is_tip, link_of, links_of, links_to}
 use Rattle.gx_model.specs.Records.HistoryOf.{placed}
 use Rattle.gx_model.specs.Records.{body_of, commit_body, content_name, entry, kind_of, name_of, named_map, names_of, node, parts_of_commit, tag_body, tree_body, tree_name}
 use Rattle.gx_model.proofs.Histories.AddedValues.{all_join, empty_of, in_right, paths_of}
@@ -113,7 +113,7 @@ module _ (name : Kind → Bytes → Bytes) (namer : IsNamer name) where
   abbrev Names : List Value → Bytes → Type 0
   Names ws n = (w : Value) × IsIn ws w × (name_of name w ≡ n)
 
-  leaf_named_by : (ws : List Value) (m : Mode) (b : Bytes) → T (is_leaf m b) → IsKnown (IsIn ws) (m, b) → IfSome (linked m (content_name name m b)) (Names ws)
+  leaf_named_by : (ws : List Value) (m : Mode) (b : Bytes) → T (is_leaf m b) → IsKnown (IsIn ws) (m, b) → IfSome (unless_gitlink m (content_name name m b)) (Names ws)
   leaf_named_by ws File b l k = (blob_value b, k, refl)
   leaf_named_by ws Exec b l k = (blob_value b, k, refl)
   leaf_named_by ws Link b l k = (blob_value b, k, refl)
@@ -199,7 +199,7 @@ module _ (name : Kind → Bytes → Bytes) (namer : IsNamer name) where
       pub links_reached : (v : Value) → IsIn vs v → ReachValue vs v → AllByRecursion (Reach vs) (links v)
       links_reached v i h = links_reach [] vs whole.closed distinct (passes _ whole.proper) v i h
 
-      file_reached : (m : Mode) (x : Bytes) → T (is_leaf m x) → IfSome (linked m (content_name name m x)) (Reach vs) → AllByRecursion (ReachValue vs) (cons_option (blob_of m x) [])
+      file_reached : (m : Mode) (x : Bytes) → T (is_leaf m x) → IfSome (unless_gitlink m (content_name name m x)) (Reach vs) → AllByRecursion (ReachValue vs) (cons_option (blob_of m x) [])
       file_reached File x l h = (h, tt)
       file_reached Exec x l h = (h, tt)
       file_reached Link x l h = (h, tt)

@@ -5,11 +5,11 @@ use Rattle.std.specs.FinMap.Entries.{find}
 use Rattle.std.specs.List.{filter}
 use Rattle.std.specs.Ordering.{eq_by_cmp}
 use Rattle.std.specs.Prelude.{T}
-use Rattle.gx_model.specs.Texts.{Bytes}
+use Rattle.gx_model.specs.Texts.{Bytes, byte_cmp}
 use Rattle.gx_model.specs.Histories.Values.{Commit}
 use Rattle.gx_model.specs.Histories.{Target}
 use Rattle.gx_model.specs.Revisions.Ranges.{reaches}
-use Rattle.gx_model.specs.Replay.{byte_cmp, peeled_at}
+use Rattle.gx_model.specs.Replay.{peeled_at}
 use Rattle.gx_model.specs.Export.{is_reached}
 use Rattle.gx_model.specs.Changes.{commit_ref, first_or_carrier, is_branch}
 use Rattle.gx_model.proofs.Changes.ChangeReplays.{some_reach}

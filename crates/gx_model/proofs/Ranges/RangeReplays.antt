@@ -7,7 +7,7 @@ use Rattle.std.specs.Map.{lookup}
 use Rattle.std.specs.Prelude.{reverse, T, ◌⊎◌}
 use Rattle.gx_model.specs.declared.faults.Fault.TheVariants as faults
 use Rattle.gx_model.specs.declared.objects.Kind.{Kind}
-use Rattle.gx_model.specs.Texts.{Bytes, same_bytes}
+use Rattle.gx_model.specs.Texts.{Bytes, byte_cmp, same_bytes}
 use Rattle.gx_model.specs.Texts.RefNames.{is_ref_name}
 use Rattle.gx_model.specs.Streams.Commands.{Command}
 use Rattle.gx_model.specs.Histories.Values.{Commit, Value, commit_value, is_proper, tag_value}
@@ -15,7 +15,7 @@ use Rattle.gx_model.specs.Histories.{History, IsHistory, IsIn, IsRefOf, IsWhole,
 use Rattle.gx_model.specs.Objects.{IsNamer}
 use Rattle.gx_model.specs.Revisions.Denotation.{ref_at}
 use Rattle.gx_model.specs.Revisions.Ranges.{Word, listing}
-use Rattle.gx_model.specs.Replay.{byte_cmp, final, final_refs, finished, is_fast_forward, is_forward, overwritten, peeled_at, refused, replayed, report, start}
+use Rattle.gx_model.specs.Replay.{final, final_refs, finished, is_fast_forward, is_forward, overwritten, peeled_at, refused, replayed, report, start}
 use Rattle.gx_model.specs.Export.{carrier, is_reached, ref_by, to_nothing}
 use Rattle.gx_model.specs.Changes.{all_changes, carrier_reset, commits_with_changes, is_in_range, named_in, range_commands, sending_commands, set_refs}
 use Rattle.gx_model.specs.Laws.ExportLaws.{AnyReaches, IsOne, steps}

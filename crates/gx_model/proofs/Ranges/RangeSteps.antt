@@ -10,9 +10,9 @@ use Rattle.std.proofs.lemmas.Slice.Eq.{bytes_eq-Decides}
 use Rattle.gx_model.specs.declared.faults.Fault.{Fault}
 use Rattle.gx_model.specs.declared.faults.Fault.TheVariants as faults
 use Rattle.gx_model.specs.declared.objects.Kind.{Kind}
-use Rattle.gx_model.specs.Texts.{Bytes, same_bytes}
+use Rattle.gx_model.specs.Texts.{Bytes, byte_cmp, same_bytes}
 use Rattle.gx_model.specs.Texts.RefNames.{is_ref_name}
-use Rattle.gx_model.specs.Faults.{and_then}
+use Rattle.gx_model.specs.Faults.{◌>>=◌}
 use Rattle.gx_model.specs.Streams.Commands.{Named}
 use Rattle.gx_model.specs.Histories.Values.{Commit, Value, commit_value, files_of, is_content, is_proper_text, list_of, parents_of, tag_value, text_of}
 use Rattle.gx_model.specs.Histories.{History, IsIn, IsRefOf, at_commit, at_tag, is_in, with_one}
@@ -21,7 +21,8 @@ use Rattle.gx_model.specs.Records.{name_of}
 use Rattle.gx_model.specs.Revisions.{parent, revision_of}
 use Rattle.gx_model.specs.Revisions.Denotation.{commit_in, value_denoted}
 use Rattle.gx_model.specs.Revisions.Ranges.{reaches}
-use Rattle.gx_model.specs.Replay.{byte_cmp, commit_alone, committed, committed_for, is_itself, ok_or_mark, or_branch, peeled_at}
+use Rattle.gx_model.specs.Replay.{commit_alone, committed, committed_for, names_itself, or_branch, peeled_at}
+use Rattle.std.specs.Option.{ok_or}
 use Rattle.gx_model.specs.Export.{carrier, contents, marked_in, ref_by, with_blobs}
 use Rattle.gx_model.specs.Changes.{commit_changes, commit_ref, commit_revision, commit_with_changes, commits_with_changes, first_or_carrier, is_branch, named_in, own_files, reaching, with_changes}
 use Rattle.gx_model.specs.Laws.ExportLaws.{steps, values_with_blobs}
@@ -105,22 +106,22 @@ module _ (name : Kind → Bytes → Bytes) (namer : IsNamer name) (h : History) 
       let y = commit_revision name p in
       let text = name_is_text name namer (commit_value p) in
       let denoted = subst (λ (us : List Value). value_denoted name (record { values = us; refs = h.refs }) (record { base = x; suffixes = parent 0 ∷ []; path = None }) ≡ Ok (commit_value p)) (sym f.1) (digits_denote name namer h.values f.0 h.refs p told i) in
-      ap (λ o. or_branch o (and_then (and_then (revision_of y) (λ r. value_denoted name (record { values = vs; refs = h.refs }) r)) kind)) (lookup_is y bs ∙ plain y (no_ref_has_caret x))
-      ∙ ap (λ r. and_then (and_then r (λ r. value_denoted name (record { values = vs; refs = h.refs }) r)) kind) (digits_are_revision x text)
-      ∙ ap (λ r. and_then r kind) denoted ∙ e
+      ap (λ o. or_branch o ((revision_of y >>= λ r. value_denoted name (record { values = vs; refs = h.refs }) r) >>= kind)) (lookup_is y bs ∙ plain y (no_ref_has_caret x))
+      ∙ ap (λ r. (r >>= λ r. value_denoted name (record { values = vs; refs = h.refs }) r) >>= kind) (digits_are_revision x text)
+      ∙ ap (λ r. r >>= kind) denoted ∙ e
 
   -- what names a commit gives it
   pub name_gives : (kind : Value → Result Commit Fault) (p : Commit) → kind (commit_value p) ≡ Ok p → (ws vs : List Value) (bs : Branches) (ts : Tags) → IsFront h.values vs → ArePlain bs → IsWrittenOrHeld ws p
       → committed name kind (state_with h ws vs bs ts) (named_in name ws p) ≡ Ok p
   name_gives kind p e ws vs bs ts f plain k =
       elim (is_in ws (commit_value p)) as (λ t. is_in ws (commit_value p) ≡ t → committed name kind (state_with h ws vs bs ts) (cond t (marked_in ws (commit_value p)) (Named (commit_revision name p))) ≡ Ok p) [
-        | true ↦ λ t. ap (λ o. and_then (ok_or_mark o) kind) (number_found ws (commit_value p) (is_in_is ws (commit_value p) (passes _ t))) ∙ e
+        | true ↦ λ t. ap (λ o. ok_or o faults.UnknownMark >>= kind) (number_found ws (commit_value p) (is_in_is ws (commit_value p) (passes _ t))) ∙ e
         | false ↦ λ t. by_digits kind p e ws vs bs ts f plain (elim k [ inl i ↦ absurd (false≢true (sym t ∙ is_is_in ws (commit_value p) i)) | inr i ↦ i ])
       ] refl
 
-  itself_apart : (r : Bytes) (ws : List Value) (p : Commit) → is_ref_name r ≡ true → is_itself r (named_in name ws p) ≡ false
+  itself_apart : (r : Bytes) (ws : List Value) (p : Commit) → is_ref_name r ≡ true → names_itself r (named_in name ws p) ≡ false
   itself_apart r ws p n =
-      elim (is_in ws (commit_value p)) as (λ t. is_itself r (cond t (marked_in ws (commit_value p)) (Named (commit_revision name p))) ≡ false) [
+      elim (is_in ws (commit_value p)) as (λ t. names_itself r (cond t (marked_in ws (commit_value p)) (Named (commit_revision name p))) ≡ false) [
         | true ↦ refl
         | false ↦ apart_text r (commit_revision name p) n (no_ref_has_caret (digits_of p))
       ]

@@ -6,9 +6,9 @@ use Rattle.std.specs.Prelude.{IsTrue, ◌⊎◌}
 use Rattle.gx_model.specs.Texts.{Bytes}
 use Rattle.gx_model.specs.Texts.Paths.{Path}
 use Rattle.gx_model.specs.Histories.Files.{FileMap, Leaf}
-use Rattle.gx_model.specs.Histories.Values.{Commit, Value, blob_value, blobs_of, commit_value, files_of, is_content, is_proper, is_proper_text, list_of, parents_of, sub_maps, text_of, tree_value}
+use Rattle.gx_model.specs.Histories.Values.{Commit, Value, blob_value, blobs_of, commit_value, files_of, is_content, is_proper, is_proper_text, list_of, parents_of, sub_maps, text_of, tree_value, unless_gitlink}
 use Rattle.gx_model.specs.Histories.{IsIn, IsWhole, is_in, with_one, with_value}
-use Rattle.gx_model.specs.Export.{content_in, contents, with_blobs}
+use Rattle.gx_model.specs.Export.{contents, with_blobs}
 use Rattle.gx_model.specs.Changes.{base_files, own_files, with_changes}
 use Rattle.gx_model.specs.Laws.ExportLaws.{AnyReaches, IsOne, values_with_blobs}
 use Rattle.gx_model.specs.Laws.HistoryLaws.{IsAdded}
@@ -45,12 +45,12 @@ front_blobs held ws vs (x ∷ xs) f =
 
 module _ (P : Bytes → Type 0) (t : Path × Leaf Bytes → Bool) where
   -- what holds of the bytes of some files, and of those of the others, holds of all
-  all_files : (f : FileMap Bytes) → AllByRecursion P (contents (filter t f)) → AllByRecursion (λ e. t e ≡ false → AllByRecursion P (cons_option (content_in e.1.0 e.1.1) [])) f → AllByRecursion P (contents f)
+  all_files : (f : FileMap Bytes) → AllByRecursion P (contents (filter t f)) → AllByRecursion (λ e. t e ≡ false → AllByRecursion P (cons_option (unless_gitlink e.1.0 e.1.1) [])) f → AllByRecursion P (contents f)
   all_files [] h k = tt
   all_files (e ∷ f) h k =
       elim (t e) as (λ b. t e ≡ b → AllByRecursion P (contents (cond b (e ∷ filter t f) (filter t f))) → AllByRecursion P (contents (e ∷ f))) [
-        | true ↦ λ i g. taken (content_in e.1.0 e.1.1) g (λ g. all_files f g k.1)
-        | false ↦ λ i g. left (content_in e.1.0 e.1.1) (k.0 i) (all_files f g k.1)
+        | true ↦ λ i g. taken (unless_gitlink e.1.0 e.1.1) g (λ g. all_files f g k.1)
+        | false ↦ λ i g. left (unless_gitlink e.1.0 e.1.1) (k.0 i) (all_files f g k.1)
       ] refl h
     where
       taken : (o : Option Bytes) → AllByRecursion P (cons_option o (contents (filter t f))) → (AllByRecursion P (contents (filter t f)) → AllByRecursion P (contents f)) → AllByRecursion P (cons_option o (contents f))
@@ -66,8 +66,8 @@ some_files : (t : Path × Leaf Bytes → Bool) (f : FileMap Bytes) (u : Value) �
 some_files t [] u i = i
 some_files t (e ∷ f) u i =
     elim (t e) as (λ b. IsIn (map blob_value (contents (cond b (e ∷ filter t f) (filter t f)))) u → IsIn (map blob_value (contents (e ∷ f))) u) [
-      | true ↦ λ j. taken (content_in e.1.0 e.1.1) j (λ k. some_files t f u k)
-      | false ↦ λ j. left (content_in e.1.0 e.1.1) (some_files t f u j)
+      | true ↦ λ j. taken (unless_gitlink e.1.0 e.1.1) j (λ k. some_files t f u k)
+      | false ↦ λ j. left (unless_gitlink e.1.0 e.1.1) (some_files t f u j)
     ] i
   where
     taken : (o : Option Bytes) → IsIn (map blob_value (cons_option o (contents (filter t f)))) u → (IsIn (map blob_value (contents (filter t f))) u → IsIn (map blob_value (contents f)) u) → IsIn (map blob_value (cons_option o (contents f))) u

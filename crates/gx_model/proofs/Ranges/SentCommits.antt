@@ -5,9 +5,9 @@ use Rattle.std.proofs.lemmas.List.Elements.{filter-append}
 use Rattle.std.specs.List.{filter, filter_map, list_all, list_any, AllByRecursion}
 use Rattle.std.specs.Prelude.{reverse, T, ◌⊎◌}
 use Rattle.gx_model.specs.Texts.{Bytes}
-use Rattle.gx_model.specs.Histories.Values.{Commit, Value, blob_value, commit_value, is_proper, parents_of, tag_value, tree_value}
+use Rattle.gx_model.specs.Histories.Values.{Commit, Value, blob_value, commit_of, commit_value, is_proper, parents_of, tag_value, tree_value}
 use Rattle.gx_model.specs.Histories.{History, IsClosedAfter, IsIn, Target}
-use Rattle.gx_model.specs.Revisions.Ranges.{Word, all_parents, alone, apart, between, commit_of, listing, reaches, span, with_ancestors, without_ancestors, without_one}
+use Rattle.gx_model.specs.Revisions.Ranges.{Word, all_parents, alone, apart, between, listing, reaches, span, with_ancestors, without_ancestors, without_one}
 use Rattle.gx_model.specs.Changes.{is_in_range}
 use Rattle.gx_model.specs.Laws.ExportLaws.{IsOne}
 use Rattle.gx_model.specs.Laws.HistoryLaws.{IsParent}

@@ -6,11 +6,11 @@ use Rattle.std.specs.List.{filter, fold, list_all, AllByRecursion}
 use Rattle.std.specs.Ordering.{eq_by_cmp, is_lt}
 use Rattle.std.specs.Prelude.{T, is_some}
 use Rattle.std.proofs.lemmas.Bool.{false≢true}
-use Rattle.gx_model.specs.Texts.{Bytes}
+use Rattle.gx_model.specs.Texts.{Bytes, byte_cmp}
 use Rattle.gx_model.specs.Histories.Values.{Commit, list_of, parents_of}
 use Rattle.gx_model.specs.Histories.{Target, at_commit, at_tag}
 use Rattle.gx_model.specs.Revisions.Ranges.{reaches}
-use Rattle.gx_model.specs.Replay.{byte_cmp, peeled_at, with_branch}
+use Rattle.gx_model.specs.Replay.{peeled_at, with_branch}
 use Rattle.gx_model.specs.Export.{carrier, is_reached}
 use Rattle.gx_model.specs.Changes.{commit_ref, first_or_carrier, is_branch, reaching}
 use Rattle.gx_model.specs.Laws.ExportLaws.{IsOne}

@@ -8,13 +8,13 @@ use Rattle.gx_model.specs.Texts.{Bytes}
 use Rattle.gx_model.specs.Texts.RefNames.{is_ref_name, is_tag_name}
 use Rattle.gx_model.specs.Streams.Commands.{Named}
 use Rattle.gx_model.specs.Streams.Grammar.{commands_of}
-use Rattle.gx_model.specs.Histories.Values.{Commit, Value, commit_value, files_of, is_content, is_proper, is_proper_text, list_of, parents_of, text_of}
+use Rattle.gx_model.specs.Histories.Values.{Commit, Value, commit_of, commit_value, files_of, is_content, is_proper, is_proper_text, list_of, parents_of, text_of}
 use Rattle.gx_model.specs.Histories.{History, IsHistory, IsIn, IsWhole, Records, Target, at_commit, at_tag, is_in, value_at}
 use Rattle.gx_model.specs.Objects.{IsNamer, hex}
 use Rattle.gx_model.specs.Records.{name_of}
 use Rattle.gx_model.specs.Records.HistoryOf.{history_of}
 use Rattle.gx_model.specs.Records.Sound.{IsSound}
-use Rattle.gx_model.specs.Revisions.Ranges.{Word, commit_of, listing}
+use Rattle.gx_model.specs.Revisions.Ranges.{Word, listing}
 use Rattle.gx_model.specs.Replay.{finished, peeled_at, replayed, replayed_text, start}
 use Rattle.gx_model.specs.Export.{blob_commands, carrier, command_items, contents, is_reached, marked_in, ref_by, reset_before, to_nothing, with_blobs}
 use Rattle.gx_model.specs.Changes.{all_changes, base_files, carrier_reset, commit_changes, commit_ref, commit_revision, commit_with_changes, commits_with_changes, is_in_range, named_in, own_files, range_commands, range_text, sending_commands, set_refs, with_changes}

@@ -8,17 +8,18 @@ use Rattle.std.specs.FinMap.Entries.{by_order, is_sorted, is_sorted-put, put}
 use Rattle.gx_model.specs.declared.faults.Fault.{Fault}
 use Rattle.gx_model.specs.declared.faults.Fault.TheVariants.{BadRefName, UnknownObject, WrongKind}
 use Rattle.gx_model.specs.declared.objects.Kind.{Kind}
-use Rattle.gx_model.specs.Texts.{Bytes}
+use Rattle.gx_model.specs.Texts.{Bytes, byte_cmp}
 use Rattle.gx_model.specs.Texts.RefNames.{is_ref_name}
 use Rattle.gx_model.specs.Objects.{IsNamer}
 use Rattle.gx_model.specs.Histories.{Record, Records}
 use Rattle.gx_model.specs.Records.Sound.{IsSound, IsTarget}
 use Rattle.gx_model.specs.Records.Growth.{record_named}
-use Rattle.gx_model.specs.Replay.{byte_cmp}
 use Rattle.gx_model.specs.Laws.RepositoryLaws.{PartsChange, values_of, with_refs}
 use Rattle.gx_model.specs.Stores.StoreReading.{is_target, is_target_of_kind}
 use Rattle.gx_model.proofs.Texts.PathTests.{both, first, second, is_true}
-use Rattle.gx_model.specs.Records.Publishing.{Change, Ref, change_fault, changes_fault, first_fault, published, unless, with_changes}
+use Rattle.gx_model.specs.Records.Publishing.{Change, Ref, change_fault, changes_fault, published, with_changes}
+use Rattle.gx_model.specs.Faults.{unless}
+use Rattle.std.specs.Option.{option_or}
 use Rattle.gx_model.proofs.Records.HeldObjects.{IsShown, is_target_of}
 use Rattle.gx_model.proofs.Records.SortedRefs.{order, same_text}
 
@@ -88,7 +89,7 @@ module _ (name : Kind → Bytes → Bytes) (namer : IsNamer name) (changes_law :
   changed : (refs : List Ref) (changes : List Change) → changes_fault r.records changes ≡ None → AreRefs refs → AreRefs (with_changes refs changes)
   changed refs [] e h = h
   changed refs (c ∷ cs) e h =
-      elim (change_fault r.records c) as (λ o. change_fault r.records c ≡ o → first_fault o (changes_fault r.records cs) ≡ None → AreRefs (with_changes refs (c ∷ cs))) [
+      elim (change_fault r.records c) as (λ o. change_fault r.records c ≡ o → option_or o (changes_fault r.records cs) ≡ None → AreRefs (with_changes refs (c ∷ cs))) [
         | None ↦ λ f g.
             let is = good r.records c f in
             changed (put byte_cmp c.0 c.1 refs) cs g (record {

@@ -1,7 +1,7 @@
 -- Refs, digits and names find the same among records as in the history.
 use Rattle.std.proofs.Common.{◌≡◌, true, false, cond, refl, sym, ap, ◌∙◌, List, [], ◌∷◌, map, Option, None, Some}
 use Rattle.std.specs.List.{filter}
-use Rattle.std.specs.Option.{option_map}
+use Rattle.std.specs.Option.{option_map, option_or}
 use Rattle.std.specs.Map.{lookup}
 use Rattle.std.specs.Bool.{passes}
 use Rattle.gx_model.specs.declared.objects.Kind.{Kind}
@@ -12,8 +12,8 @@ use Rattle.gx_model.specs.Records.{name_of, kind_of, body_of}
 use Rattle.gx_model.specs.Histories.{Record, Records, IsIn, Target, record_of}
 use Rattle.gx_model.specs.Records.Sound.{IsSound}
 use Rattle.gx_model.specs.Records.HistoryOf.{target_in, value_of_name, history_of}
-use Rattle.gx_model.specs.Revisions.Denotation.{first_ref, or_ref, begins_with_digits, begun_by}
-use Rattle.gx_model.specs.Records.Lookups.{or_else, first_named, records_begun_by, commit_of_record, commit_named, commit_name_of}
+use Rattle.gx_model.specs.Revisions.Denotation.{first_ref, begins_with_digits, begun_by}
+use Rattle.gx_model.specs.Records.Lookups.{first_named, records_begun_by, commit_of_record, commit_named, commit_name_of}
 use Rattle.gx_model.proofs.Records.LinkedValues.{proper_in}
 use Rattle.gx_model.proofs.ObjectTexts.BodiesReadBack.{tag_read}
 use Rattle.gx_model.proofs.Records.HistoriesExist.{stands, tag_text_is}
@@ -24,7 +24,7 @@ module _ (f : Bytes → Target) where
   look n [] = refl
   look n (r ∷ rs) = elim (same_bytes n r.0) as (λ b. cond b (Some (f r.1)) (lookup (same_bytes n) (map (λ (x : Bytes × Bytes). let q : Bytes × Target = (x.0, f x.1) in q) rs)) ≡ option_map f (cond b (Some r.1) (lookup (same_bytes n) rs))) [ true ↦ refl | false ↦ look n rs ]
 
-  or_mapped : (o p : Option Bytes) → or_ref (option_map f o) (option_map f p) ≡ option_map f (or_else o p)
+  or_mapped : (o p : Option Bytes) → option_or (option_map f o) (option_map f p) ≡ option_map f (option_or o p)
   or_mapped None p = refl
   or_mapped (Some n) p = refl
 
@@ -32,7 +32,7 @@ module _ (f : Bytes → Target) where
 pub first_found : (r : Records) (ns : List Bytes) → first_ref (history_of r) ns ≡ option_map (λ m. target_in (value_of_name r.records m)) (first_named r.refs ns)
 first_found r [] = refl
 first_found r (n ∷ ns) =
-    (λ i. or_ref (look (λ m. target_in (value_of_name r.records m)) n r.refs i) (first_found r ns i))
+    (λ i. option_or (look (λ m. target_in (value_of_name r.records m)) n r.refs i) (first_found r ns i))
     ∙ or_mapped (λ m. target_in (value_of_name r.records m)) (lookup (same_bytes n) r.refs) (first_named r.refs ns)
 
 module _ (name : Kind → Bytes → Bytes) (namer : IsNamer name) where

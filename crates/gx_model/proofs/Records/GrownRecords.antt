@@ -2,7 +2,7 @@
 use Rattle.std.proofs.Common.{◌≡◌, Bool, true, false, cond, refl, sym, ap, subst, ◌∙◌, List, [], ◌∷◌, ◌++◌, map, Option, None, Some, inl, inr}
 use Rattle.std.specs.Prelude.{T, not, ◌&&◌, ◌||◌, ◌⊎◌, IsTrue}
 use Rattle.std.specs.List.{list_any, fold, AllByRecursion}
-use Rattle.std.specs.Option.{option_map}
+use Rattle.std.specs.Option.{option_and_then, option_map}
 use Rattle.std.specs.Bool.{passes}
 use Rattle.std.proofs.lemmas.List.{map-append}
 use Rattle.gx_model.specs.declared.objects.Kind.{Kind}
@@ -15,7 +15,7 @@ use Rattle.gx_model.specs.Histories.{IsHistory, Record, Records, AreDistinct, Is
 use Rattle.gx_model.specs.Histories.{IsWhole}
 use Rattle.gx_model.specs.Records.Sound.{IsSound}
 use Rattle.gx_model.specs.Records.HistoryOf.{history_of}
-use Rattle.gx_model.specs.Records.Growth.{same_kind, same_object, record_named, put_under, put, and_some, put_all, AreReady, clashes, with_values}
+use Rattle.gx_model.specs.Records.Growth.{same_kind, same_object, record_named, put_under, put, put_all, AreReady, clashes, with_values}
 use Rattle.gx_model.proofs.Texts.PathTests.{both, first, second, is_true, is_same, same_is}
 use Rattle.gx_model.proofs.Histories.SameValues.{value_same}
 use Rattle.gx_model.proofs.Histories.AddedValues.{is_in_is, keeps, one_added}
@@ -133,10 +133,10 @@ module _ (name : Kind → Bytes → Bytes) (namer : IsNamer name) where
   pub all_put : (ws vs : List Value) → IsWhole vs → AreDistinct (names vs) → AreReady vs ws → put_all (map (record_of name) vs) (map (record_of name) ws) ≡ option_map (map (record_of name)) (with_values name vs ws)
   all_put [] vs h d r = refl
   all_put (w ∷ ws) vs h d r =
-      ap (λ o. and_some o (λ s. put_all s (map (record_of name) ws))) (one_put vs h d w (passes _ r.0) r.1) ∙ by (clashes name vs w) refl (λ n. all_put ws (with_one vs w) (one_added vs w h (passes _ r.0) r.1).whole (distinct_one vs d w n) r.2)
+      ap (λ o. option_and_then (λ s. put_all s (map (record_of name) ws)) o) (one_put vs h d w (passes _ r.0) r.1) ∙ by (clashes name vs w) refl (λ n. all_put ws (with_one vs w) (one_added vs w h (passes _ r.0) r.1).whole (distinct_one vs d w n) r.2)
     where
       by : (b : Bool) → clashes name vs w ≡ b → (clashes name vs w ≡ false → put_all (map (record_of name) (with_one vs w)) (map (record_of name) ws) ≡ option_map (map (record_of name)) (with_values name (with_one vs w) ws))
-          → and_some (cond b None (Some (map (record_of name) (with_one vs w)))) (λ s. put_all s (map (record_of name) ws)) ≡ option_map (map (record_of name)) (cond b None (with_values name (with_one vs w) ws))
+          → option_and_then (λ s. put_all s (map (record_of name) ws)) (cond b None (Some (map (record_of name) (with_one vs w)))) ≡ option_map (map (record_of name)) (cond b None (with_values name (with_one vs w) ws))
       by true e rest = refl
       by false e rest = rest e
 
@@ -225,7 +225,7 @@ module _ (name : Kind → Bytes → Bytes) (namer : IsNamer name) where
   pub put_grows : (r : Records) → IsSound name r → (v : Value) → IsTrue (is_proper v) → AllByRecursion (IsIn (history_of r).values) (parts v) → (rs : List Record) → put r.records (record_of name v) ≡ Some rs
       → IsSound name (record { records = rs; refs = r.refs }) × (history_of (record { records = rs; refs = r.refs }) ≡ record { values = with_one (history_of r).values v; refs = (history_of r).refs })
   put_grows r i v p q rs e =
-      let g = puts_grow r i (v ∷ []) (p, q, tt) rs (ap (λ o. and_some o (λ s. Some s)) e) in
+      let g = puts_grow r i (v ∷ []) (p, q, tt) rs (ap (λ o. option_and_then (λ s. Some s) o) e) in
       (g.sound, g.history)
 
 -- to put what is held changes nothing

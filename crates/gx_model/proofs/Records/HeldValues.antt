@@ -3,12 +3,12 @@ use Rattle.std.proofs.Common.{◌≡◌, ℕ, zero, suc, ◌-◌, ◌<◌, Bool,
 use Rattle.std.specs.Prelude.{T, is_some, IsTrue}
 use Rattle.std.specs.Bool.{passes}
 use Rattle.std.specs.List.{AllByRecursion, list_all, slice_get}
-use Rattle.std.specs.Option.{option_map}
+use Rattle.std.specs.Option.{ok_or, option_map}
 use Rattle.gx_model.specs.declared.faults.Fault.TheVariants as fault
 use Rattle.gx_model.specs.declared.objects.Kind.{Kind}
 use Rattle.gx_model.specs.declared.objects.Kind.TheVariants as kind
 use Rattle.gx_model.specs.Texts.{Bytes}
-use Rattle.gx_model.specs.Faults.{and_then}
+use Rattle.gx_model.specs.Faults.{◌>>=◌}
 use Rattle.gx_model.specs.Histories.Values.{Commit, Commits, Value, blob_value, commit, commit_value, files_of, is_content, is_proper_text, list_of, more, none, parents_of, tag_value, text_of, tree_value}
 use Rattle.gx_model.specs.Objects.{IsCommitText, IsNamer, is_name}
 use Rattle.gx_model.specs.Records.{body_of, commit_body, kind_of, name_of, named_map, names_of, parts_of_commit, tree_body}
@@ -18,7 +18,7 @@ use Rattle.gx_model.specs.Records.Growth.{record_named, same_kind}
 use Rattle.gx_model.specs.Records.RecordFaults.{is_held, is_of_kind}
 use Rattle.gx_model.specs.Records.Sound.{AnyByRecursion, Holds, IsSound}
 use Rattle.gx_model.specs.Records.Lookups.{commit_name_of, commit_named}
-use Rattle.gx_model.specs.Revisions.Denotation.{commit_in, files_in, nth_ancestor, nth_parent, or_no_parent, peel}
+use Rattle.gx_model.specs.Revisions.Denotation.{commit_in, files_in, nth_ancestor, nth_parent, peel}
 use Rattle.gx_model.proofs.Texts.PathTests.{both, is_true, second}
 use Rattle.gx_model.proofs.Records.LinkedValues.{found, holds, is_commit, is_tree, named, parts_in, proper_in}
 use Rattle.gx_model.proofs.ObjectTexts.TreePaths.{name_is_name}
@@ -60,7 +60,7 @@ files_by_commit (commit_value d) c e = let same : d ≡ c = cc in ap (λ u. Ok (
 files_by_commit (tag_value t) c e = let same : t.target ≡ c = cc in ap (λ u. Ok (files_of u)) same
 
 -- one first parent up, and then the rest
-pub next_ancestor : (n : ℕ) (c : Commit) → 0 < n → nth_ancestor n c ≡ and_then (nth_parent 1 c) (nth_ancestor (n - 1))
+pub next_ancestor : (n : ℕ) (c : Commit) → 0 < n → nth_ancestor n c ≡ (nth_parent 1 c >>= nth_ancestor (n - 1))
 next_ancestor zero c h = absurd (omega arith)
 next_ancestor (suc n) c h = let e : suc n - 1 ≡ n = omega arith in rw e refl
 
@@ -206,14 +206,14 @@ module _ (name : Kind → Bytes → Bytes) (namer : IsNamer name) (r : Records) 
       less = omega arith
 
       by : (o : Option Commit) → slice_get (list_of (parents_of c)) k ≡ o → Some p ≡ option_map (λ d. name_of name (commit_value d)) (slice_get (list_of (parents_of c)) k)
-          → (or_no_parent (slice_get (list_of (parents_of c)) k) ≡ Ok (commit_of_value (Named p))) × IsTrue (is_held r.records kind.Commit p)
+          → (ok_or (slice_get (list_of (parents_of c)) k) fault.NoParent ≡ Ok (commit_of_value (Named p))) × IsTrue (is_held r.records kind.Commit p)
       by None f g = absurd (let i = g ∙ ap (option_map (λ d. name_of name (commit_value d))) f in cc i)
       by (Some d) f g =
           let i = g ∙ ap (option_map (λ d. name_of name (commit_value d))) f in
           let s : p ≡ name_of name (commit_value d) = cc i in
           let j = nth_in (list_of (parents_of c)) k d (parts_in (history_of r).values (commit_value c) all_whole (commit_stands n h).1).1 f in
           let v = value_held kind.Commit (commit_value d) p j refl s in
-          (ap or_no_parent f ∙ ap (λ u. Ok (commit_of_value u)) (sym v.1), v.0)
+          (ap (λ o. ok_or o fault.NoParent) f ∙ ap (λ u. Ok (commit_of_value u)) (sym v.1), v.0)
 
   -- the parent at a place
   pub parent_there : (n p : Bytes) (k : ℕ) → IsTrue (is_held r.records kind.Commit n) → Some p ≡ slice_get (names_of name (parents_of (commit_of_value (Named n)))) k
@@ -254,8 +254,8 @@ module _ (name : Kind → Bytes → Bytes) (namer : IsNamer name) (r : Records) 
       less = omega arith
 
       by : (o : Option Commit) → slice_get (list_of (parents_of c)) k ≡ o → None ≡ option_map (λ d. name_of name (commit_value d)) (slice_get (list_of (parents_of c)) k)
-          → or_no_parent (slice_get (list_of (parents_of c)) k) ≡ Err fault.NoParent
-      by None f g = ap or_no_parent f
+          → ok_or (slice_get (list_of (parents_of c)) k) fault.NoParent ≡ Err fault.NoParent
+      by None f g = ap (λ o. ok_or o fault.NoParent) f
       by (Some d) f g = absurd (let i = g ∙ ap (option_map (λ d. name_of name (commit_value d))) f in cc i)
 
   -- ---- trees

@@ -16,7 +16,8 @@ use Rattle.gx_model.specs.declared.objects.Mode.TheVariants.{File, Exec, Link, G
 use Rattle.gx_model.specs.Texts.{Bytes, same_bytes}
 use Rattle.gx_model.specs.Texts.Paths.{Path, path_cmp, is_component, is_short, is_file_path}
 use Rattle.gx_model.specs.Histories.Files.{FileMap, Leaf, are_file_paths, is_file_map}
-use Rattle.gx_model.specs.Histories.Values.{blobs_of, sub_maps, commits_of, list_of, Tag, Value, blob_value, tree_value, commit_value, tag_value, parts, is_proper, is_content, is_name_text, is_hex_digit, is_optional_ident}
+use Rattle.gx_model.specs.Histories.Values.{blobs_of, sub_maps, commits_of, list_of, Tag, Value, blob_value, tree_value, commit_value, tag_value, parts, is_proper, is_content, is_optional_ident}
+use Rattle.gx_model.specs.Texts.Digits.{is_lower_digit, is_name_text}
 use Rattle.gx_model.specs.Texts.RefNames.{is_tag_name, is_ref_name, tag_ref}
 use Rattle.gx_model.specs.Objects.{IsNamer, Entry, is_name, IsTreeText, IsTagText, commit_text, TagParts, tag_text, hex, hex_digit}
 use Rattle.gx_model.specs.Records.{node, named_map, tree_body, tree_name, kind_of, body_of, name_of, commit_body, names_of, tag_body}
@@ -38,20 +39,20 @@ use Rattle.gx_model.proofs.ObjectTexts.TreePaths.{text_of_tree, name_is_name, ha
 
 -- ---- digits
 
-hex_digits : (n : Bytes) → T (list_all (λ b. nat_lt b 256) n) → T (list_all is_hex_digit (hex n))
+hex_digits : (n : Bytes) → T (list_all (λ b. nat_lt b 256) n) → T (list_all is_lower_digit (hex n))
 hex_digits [] h = tt
 hex_digits (b ∷ x) h =
     let s = is_true _ (first (nat_lt b 256) _ h) in
     let l : b < 256 = grind (arith, nat_tests) in
     both _ _ (digit (b / 16) (omega arith)) (both _ _ (digit (b % 16) (omega arith)) (hex_digits x (second (nat_lt b 256) _ h)))
   where
-    low : (d : ℕ) → 48 ≤ d → d ≤ 57 → T (is_hex_digit d)
+    low : (d : ℕ) → 48 ≤ d → d ≤ 57 → T (is_lower_digit d)
     low d a b = let p : nat_le 48 d ≡ true = grind (arith, nat_tests) in let q : nat_le d 57 ≡ true = grind (arith, nat_tests) in subst T (sym (λ i. (p i && q i) || (nat_le 97 d && nat_le d 102))) tt
 
-    high : (d : ℕ) → 97 ≤ d → d ≤ 102 → T (is_hex_digit d)
+    high : (d : ℕ) → 97 ≤ d → d ≤ 102 → T (is_lower_digit d)
     high d a b = let p : nat_le 97 d ≡ true = grind (arith, nat_tests) in let q : nat_le d 102 ≡ true = grind (arith, nat_tests) in let r : nat_le d 57 ≡ false = grind (arith, nat_tests) in let s : nat_le 48 d ≡ true = grind (arith, nat_tests) in subst T (sym (λ i. (s i && r i) || (p i && q i))) tt
 
-    digit : (n : ℕ) → n < 16 → T (is_hex_digit (hex_digit n))
+    digit : (n : ℕ) → n < 16 → T (is_lower_digit (hex_digit n))
     digit n k = elim (digit_is n k).1 [ inl a ↦ low (hex_digit n) (omega arith) (omega arith) | inr a ↦ high (hex_digit n) (omega arith) (omega arith) ]
 
 -- there are two digits a byte

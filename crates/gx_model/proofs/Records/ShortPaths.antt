@@ -21,7 +21,8 @@ use Rattle.gx_model.proofs.Texts.PathTests.{both, first, second, is_true, path_i
 use Rattle.gx_model.proofs.Histories.PathRuns.{same_itself}
 use Rattle.gx_model.proofs.Records.OneHistory.{told_by_name}
 use Rattle.gx_model.proofs.ObjectTexts.BodiesReadBack.{entries_read}
-use Rattle.gx_model.proofs.ObjectTexts.RebuiltValues.{or_else, at_append}
+use Rattle.gx_model.proofs.ObjectTexts.RebuiltValues.{at_append}
+use Rattle.std.specs.Option.{option_or}
 use Rattle.gx_model.proofs.Records.LinkedValues.{named, is_tree, found, holds}
 use Rattle.gx_model.proofs.ObjectTexts.TreePaths.{entries_of, text_of_tree, content_in, path_held, some_unrecord}
 use Rattle.gx_model.proofs.Records.HistoriesExist.{stands, named_is, entry_short}
@@ -40,11 +41,11 @@ own c q [] = refl
 own c q (e ∷ es) =
     ap (λ b. cond (b && same_path q e.0) (Some e.1) (file_at (placed c es) (c ∷ q))) (same_itself c) ∙ ap (λ o. cond (same_path q e.0) (Some e.1) o) (own c q es)
 
-left_some : (o p : Option (Leaf Bytes)) → is_some o ≡ true → is_some (or_else o p) ≡ true
+left_some : (o p : Option (Leaf Bytes)) → is_some o ≡ true → is_some (option_or o p) ≡ true
 left_some None p h = absurd (cc)
 left_some (Some x) p h = refl
 
-right_some : (o p : Option (Leaf Bytes)) → is_some p ≡ true → is_some (or_else o p) ≡ true
+right_some : (o p : Option (Leaf Bytes)) → is_some p ≡ true → is_some (option_or o p) ≡ true
 right_some None p h = h
 right_some (Some x) p h = refl
 

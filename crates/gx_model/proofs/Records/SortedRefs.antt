@@ -14,8 +14,7 @@ use Rattle.std.proofs.lemmas.Bool.{false≢true, true≢false, false_from_ne_tru
 use Rattle.std.proofs.lemmas.List.Sorted.{searchable_from_sorted}
 use Rattle.std.proofs.lemmas.Map.Text.{is_eq-slice_cmp}
 use Rattle.std.proofs.lemmas.Slice.Eq.{bytes_eq-Decides}
-use Rattle.gx_model.specs.Texts.{Bytes, same_bytes}
-use Rattle.gx_model.specs.Replay.{byte_cmp}
+use Rattle.gx_model.specs.Texts.{Bytes, byte_cmp, same_bytes}
 use Rattle.gx_model.proofs.Texts.PathTests.{first, second, is_true, is_same, same_is}
 
 pub order : IsTotalOrder byte_cmp

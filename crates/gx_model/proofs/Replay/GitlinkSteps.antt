@@ -12,23 +12,23 @@ use Rattle.gx_model.specs.declared.features.Feature.TheVariants as features
 use Rattle.gx_model.specs.declared.objects.Kind.{Kind}
 use Rattle.gx_model.specs.declared.objects.Mode.{Mode}
 use Rattle.gx_model.specs.declared.objects.Mode.TheVariants.{File, Exec, Link, Gitlink, Dir}
-use Rattle.gx_model.specs.Texts.{Bytes}
+use Rattle.gx_model.specs.Texts.{Bytes, byte_cmp}
 use Rattle.gx_model.specs.Texts.RefNames.{tag_ref}
-use Rattle.gx_model.specs.Faults.{and_then}
+use Rattle.gx_model.specs.Faults.{◌>>=◌}
 use Rattle.gx_model.specs.Texts.Paths.{Path}
 use Rattle.gx_model.specs.Histories.Files.{FileMap}
 use Rattle.gx_model.specs.Histories.Edits.{copied, modified, renamed}
-use Rattle.gx_model.specs.Histories.Values.{Commit, Tag, Value, blob_value, commit, commit_value, commits_of, files_of, list_of, parents_of, tag_value, tree_value}
+use Rattle.gx_model.specs.Histories.Values.{Commit, Tag, Value, blob_value, commit, commit_of, commit_value, commits_of, files_of, list_of, parents_of, tag_value, tree_value}
 use Rattle.gx_model.specs.Histories.{History, IsHistory, IsIn, Target, at_commit, at_tag, value_at, with_tree, with_value}
-use Rattle.gx_model.specs.Revisions.Denotation.{base_value, lower}
+use Rattle.gx_model.specs.Revisions.Denotation.{base_value}
+use Rattle.gx_model.specs.Texts.Digits.{lower}
 use Rattle.gx_model.specs.Streams.Items.{items_of}
-use Rattle.gx_model.specs.Revisions.Ranges.{commit_of}
 use Rattle.gx_model.specs.Streams.Commands as command
 use Rattle.gx_model.specs.Streams.Commands.{Asks, Blob, Change, Checkpoint, Clear, Command, CommitIsh, CommitParts, Copy, DataRef, Done, Inline, Mark, Marked, Modify, Named, Object, OptionLine, Progress, Remove, Rename, Reset, TagParts}
 use Rattle.gx_model.specs.Streams.Grammar.{commands_of, is_null}
 use Rattle.gx_model.specs.Laws.ExportLaws.{IsNotNull}
 use Rattle.gx_model.specs.Streams.Gitlinks.{BringsNoNullGitlink, GivesNoNullGitlink, HoldsNoNullGitlink, HoldsTellsHas, RefusalsKeepNone, ReplaysKeepNone, TextsBringNone}
-use Rattle.gx_model.specs.Replay.{Outcome, State, added, all_changed, all_committed, at, blob_bytes, byte_cmp, changed, checkpointed, commit_alone, committed, committed_for, content, ended, final, finished, first_parent, is_fast_forward, marked, on_branch, refused, replayed, report, start, starting_files, step, step_checkpoint, step_commit, step_reset, step_tag, text_made, with_branch, with_first_parent}
+use Rattle.gx_model.specs.Replay.{Outcome, State, added, all_changed, all_committed, at, blob_bytes, changed, checkpointed, commit_alone, committed, committed_for, content, ended, final, finished, first_parent, is_fast_forward, marked, on_branch, refused, replayed, report, start, starting_files, step, step_checkpoint, step_commit, step_reset, step_tag, text_made, with_branch, with_first_parent}
 use Rattle.gx_model.proofs.Replay.GivenCommits.{IsStateOf, MayBeOf, OfCommit, all_committed_kept, all_each, alone_kept, committed_kept, first_kept, for_branch, with_first_kept}
 use Rattle.gx_model.proofs.Export.KeptCommits.{all_in}
 use Rattle.gx_model.proofs.Streams.ReadGitlinks.{none_brought}
@@ -175,7 +175,7 @@ module _ (name : Kind → Bytes → Bytes) where
   abbrev given_bytes : State → Bytes → Result (State × Bytes) Fault
   given_bytes s x = Ok (s, x)
 
-  blob_given : (s : State) (m : Mode) → ((x : Bytes) → IsNotNull m x) → IsFreeState s → (r : Result Value Fault) → IfOk (and_then r (λ v. and_then (blob_bytes v) (given_bytes s))) (GivesFree m)
+  blob_given : (s : State) (m : Mode) → ((x : Bytes) → IsNotNull m x) → IsFreeState s → (r : Result Value Fault) → IfOk (r >>= λ v. blob_bytes v >>= given_bytes s) (GivesFree m)
   blob_given s m plain h (Err e) = tt
   blob_given s m plain h (Ok (blob_value x)) = (h, plain x)
   blob_given s m plain h (Ok (tree_value f)) = tt
@@ -202,12 +202,12 @@ module _ (name : Kind → Bytes → Bytes) where
   abbrev with_files : State → FileMap Bytes → Result (State × FileMap Bytes) Fault
   with_files s f = Ok (s, f)
 
-  edited : (s : State) (r : Result (FileMap Bytes) Fault) → IsFreeState s → IfOk r AreNotNull → IfOk (and_then r (with_files s)) FilesFree
+  edited : (s : State) (r : Result (FileMap Bytes) Fault) → IsFreeState s → IfOk r AreNotNull → IfOk (r >>= with_files s) FilesFree
   edited s r h k = then_if AreNotNull FilesFree r (with_files s) k (λ f l. (h, l))
 
   changed_free : (s : State) (f : FileMap Bytes) (c : Change) → IsFreeState s → AreNotNull f → GivesNoNullGitlink c → IfOk (changed name s f c) FilesFree
   changed_free s f (Modify m d p) h k l =
-      then_if (GivesFree m) FilesFree (content name s m d) (λ r. and_then (modified f p (m, r.1)) (with_files r.0)) (content_free s m d p h l)
+      then_if (GivesFree m) FilesFree (content name s m d) (λ r. modified f p (m, r.1) >>= with_files r.0) (content_free s m d p h l)
       (λ r given. edited r.0 (modified f p (m, r.1)) given.0 (modified_leaves (λ leaf. IsNotNull leaf.0 leaf.1) f p (m, r.1) given.1 k))
   changed_free s f (Remove p) h k l = (h, all_pass (λ file. IsNotNull file.1.0 file.1.1) _ f k)
   changed_free s f (Copy p q) h k l = edited s (copied f p q) h (copied_leaves (λ leaf. IsNotNull leaf.0 leaf.1) f p q k)

@@ -9,15 +9,16 @@ use Rattle.gx_model.specs.declared.objects.Kind.{Kind}
 use Rattle.gx_model.specs.declared.objects.Mode.{Mode}
 use Rattle.gx_model.specs.declared.objects.Mode.TheVariants.{File, Exec, Link, Gitlink, Dir}
 use Rattle.gx_model.specs.Texts.{Bytes, same_bytes}
-use Rattle.gx_model.specs.Faults.{and_then}
+use Rattle.gx_model.specs.Faults.{◌>>=◌}
 use Rattle.gx_model.specs.Texts.Paths.{Path}
 use Rattle.gx_model.specs.Histories.Files.{FileMap, Leaf, file_at, sub_map}
 use Rattle.gx_model.specs.Histories.Values.{Commit, Value, blob_value, commit_value, list_of, parents_of, tag_value, tree_value}
 use Rattle.gx_model.specs.Histories.{History, Target, value_at}
 use Rattle.gx_model.specs.Revisions.{Revision, Suffix, ancestor, as_blob, as_commit, as_tag, as_tree, itself, parent, peeled, revision_of}
-use Rattle.gx_model.specs.Revisions.Denotation.{Shown, all_suffixed, are_digits, at_path, base_value, begun_by, commit_in, denoted, files_in, find_ref, first_ref, full_name, nth_ancestor, nth_parent, of_leaf, of_sub_map, or_no_parent, or_ref, ref_at, ref_names, shown_at, shown_value, suffixed, the_one, value_denoted}
+use Rattle.gx_model.specs.Revisions.Denotation.{Shown, all_suffixed, are_digits, at_path, base_value, begun_by, commit_in, denoted, files_in, find_ref, first_ref, full_name, nth_ancestor, nth_parent, of_leaf, of_sub_map, ref_at, ref_names, shown_at, shown_value, suffixed, the_one, value_denoted}
+use Rattle.std.specs.Option.{ok_or, option_or}
 use Rattle.gx_model.specs.Streams.Commands.{CommitIsh, CommitParts, Marked, Named}
-use Rattle.gx_model.specs.Replay.{State, all_committed, at, commit_alone, committed, committed_for, first_parent, is_itself, ok_or_mark, or_branch, own_commit, revision_value, with_first_parent}
+use Rattle.gx_model.specs.Replay.{State, all_committed, at, commit_alone, committed, committed_for, first_parent, names_itself, or_branch, own_commit, revision_value, with_first_parent}
 use Rattle.gx_model.proofs.Replay.NullGitlinks.{all_pass, found, then_if}
 
 -- ---- lists
@@ -44,7 +45,7 @@ module _ (Q : Value → Type 0) where
     ref_kept [] = tt
     ref_kept (n ∷ ns) = by (ref_at h n) (found (λ t. Q (value_at t)) (same_bytes n) h.refs refs) (ref_kept ns)
       where
-        by : (o : Option Target) → IfSome o (λ t. Q (value_at t)) → IfSome (first_ref h ns) (λ t. Q (value_at t)) → IfSome (or_ref o (first_ref h ns)) (λ t. Q (value_at t))
+        by : (o : Option Target) → IfSome o (λ t. Q (value_at t)) → IfSome (first_ref h ns) (λ t. Q (value_at t)) → IfSome (option_or o (first_ref h ns)) (λ t. Q (value_at t))
         by (Some t) k l = k
         by None k l = l
 
@@ -76,7 +77,7 @@ module _ (P : Commit → Type 0) where
   OfCommit (commit_value c) = P c
   OfCommit (tag_value t) = P t.target
 
-  nth_kept : (cs : List Commit) (n : ℕ) → AllByRecursion P cs → IfOk (or_no_parent (slice_get cs n)) P
+  nth_kept : (cs : List Commit) (n : ℕ) → AllByRecursion P cs → IfOk (ok_or (slice_get cs n) fault.NoParent) P
   nth_kept [] n h = tt
   nth_kept (c ∷ cs) zero h = h.0
   nth_kept (c ∷ cs) (suc n) h = nth_kept cs n h.1
@@ -146,10 +147,10 @@ module _ (P : Commit → Type 0) where
 
     suffixed_kept : (v : Value) (s : Suffix) → OfCommit v → IfOk (suffixed v s) OfCommit
     suffixed_kept v (parent n) h =
-        then_if P OfCommit (commit_in v) (λ c. and_then (nth_parent n c) (λ d. Ok (commit_value d))) (commit_kept v h)
+        then_if P OfCommit (commit_in v) (λ c. nth_parent n c >>= λ d. Ok (commit_value d)) (commit_kept v h)
         (λ c k. then_if P OfCommit (nth_parent n c) (λ d. Ok (commit_value d)) (parent_kept n c k) (λ d l. l))
     suffixed_kept v (ancestor n) h =
-        then_if P OfCommit (commit_in v) (λ c. and_then (nth_ancestor n c) (λ d. Ok (commit_value d))) (commit_kept v h)
+        then_if P OfCommit (commit_in v) (λ c. nth_ancestor n c >>= λ d. Ok (commit_value d)) (commit_kept v h)
         (λ c k. then_if P OfCommit (nth_ancestor n c) (λ d. Ok (commit_value d)) (ancestor_kept n c k) (λ d l. l))
     suffixed_kept (blob_value x) peeled h = tt
     suffixed_kept (tree_value f) peeled h = tt
@@ -182,7 +183,7 @@ module _ (P : Commit → Type 0) where
       unfolding denoted
       denoted_kept r =
           then_if ShowsOf OfCommit (denoted name h r) shown_value
-          (then_if OfCommit ShowsOf (base_value name h r.base) (λ v. and_then (all_suffixed v r.suffixes) (λ w. shown_at w r.path)) (base_kept OfCommit name h values refs r.base)
+          (then_if OfCommit ShowsOf (base_value name h r.base) (λ v. all_suffixed v r.suffixes >>= λ w. shown_at w r.path) (base_kept OfCommit name h values refs r.base)
           (λ v k. then_if OfCommit ShowsOf (all_suffixed v r.suffixes) (λ w. shown_at w r.path) (all_suffixed_kept v r.suffixes k) (λ w l. shown_kept w r.path l)))
           (λ s k. k)
 
@@ -192,14 +193,14 @@ module _ (P : Commit → Type 0) where
       at_kept : (s : State) (n : ℕ) → IsStateOf s → IfOk (at s n) OfCommit
       at_kept s n h = by (lookup (nat_eq n) s.marks) (found OfCommit (nat_eq n) s.marks h.marks)
         where
-          by : (o : Option Value) → IfSome o OfCommit → IfOk (ok_or_mark o) OfCommit
+          by : (o : Option Value) → IfSome o OfCommit → IfOk (ok_or o fault.UnknownMark) OfCommit
           by None k = tt
           by (Some v) k = k
 
       revision_kept : (s : State) (x : Bytes) → IsStateOf s → IfOk (revision_value name s x) OfCommit
       revision_kept s x h = by (revision_of x)
         where
-          by : (r : Result Revision Fault) → IfOk (and_then r (λ a. value_denoted name s.history a)) OfCommit
+          by : (r : Result Revision Fault) → IfOk (r >>= λ a. value_denoted name s.history a) OfCommit
           by (Ok a) = denoted_kept name s.history h.values h.refs a
           by (Err e) = tt
 
@@ -207,14 +208,14 @@ module _ (P : Commit → Type 0) where
       committed_kept kind keeps s (Marked n) h = then_if OfCommit P (at s n) kind (at_kept s n h) keeps
       committed_kept kind keeps s (Named x) h = by (lookup (same_bytes x) s.branches) (found (λ o. IfSome o P) (same_bytes x) s.branches h.branches)
         where
-          by : (o : Option (Option Commit)) → IfSome o (λ c. IfSome c P) → IfOk (or_branch o (and_then (revision_value name s x) kind)) P
+          by : (o : Option (Option Commit)) → IfSome o (λ c. IfSome c P) → IfOk (or_branch o (revision_value name s x >>= kind)) P
           by None k = then_if OfCommit P (revision_value name s x) kind (revision_kept s x h) keeps
           by (Some None) k = tt
           by (Some (Some c)) k = k
 
       pub for_branch : (b : Bytes) (s : State) (x : CommitIsh) → IsStateOf s → IfOk (committed_for name b s x) P
       for_branch b s x h =
-          elim (is_itself b x) as (λ t. IfOk (cond t (Err fault.FromItself) (committed name commit_in s x)) P) [
+          elim (names_itself b x) as (λ t. IfOk (cond t (Err fault.FromItself) (committed name commit_in s x)) P) [
             | true ↦ tt
             | false ↦ committed_kept commit_in commit_kept s x h
           ]
@@ -222,7 +223,7 @@ module _ (P : Commit → Type 0) where
       pub all_committed_kept : (b : Bytes) (s : State) (xs : List CommitIsh) → IsStateOf s → IfOk (all_committed name b s xs) (AllByRecursion P)
       all_committed_kept b s [] h = tt
       all_committed_kept b s (x ∷ xs) h =
-          then_if P (AllByRecursion P) (committed_for name b s x) (λ c. and_then (all_committed name b s xs) (λ cs. Ok (c ∷ cs))) (for_branch b s x h)
+          then_if P (AllByRecursion P) (committed_for name b s x) (λ c. all_committed name b s xs >>= λ cs. Ok (c ∷ cs)) (for_branch b s x h)
           (λ c k. then_if (AllByRecursion P) (AllByRecursion P) (all_committed name b s xs) (λ cs. Ok (c ∷ cs)) (all_committed_kept b s xs h) (λ cs l. (k, l)))
 
       pub first_kept : (s : State) (c : CommitParts) → IsStateOf s → IfOk (first_parent name s c) MayBeOf
@@ -233,7 +234,7 @@ module _ (P : Commit → Type 0) where
           own (Some None) k = tt
           own (Some (Some d)) k = k
 
-          by : (o : Option CommitIsh) → IfOk (elim o as (λ _. Result (Option Commit) Fault) [ None ↦ Ok (own_commit (lookup (same_bytes c.ref) s.branches)) | Some x ↦ and_then (committed_for name c.ref s x) (λ p. Ok (Some p)) ]) MayBeOf
+          by : (o : Option CommitIsh) → IfOk (elim o as (λ _. Result (Option Commit) Fault) [ None ↦ Ok (own_commit (lookup (same_bytes c.ref) s.branches)) | Some x ↦ committed_for name c.ref s x >>= λ p. Ok (Some p) ]) MayBeOf
           by None = own (lookup (same_bytes c.ref) s.branches) (found MayBeOf (same_bytes c.ref) s.branches h.branches)
           by (Some x) = then_if P MayBeOf (committed_for name c.ref s x) (λ p. Ok (Some p)) (for_branch c.ref s x h) (λ p k. k)
 

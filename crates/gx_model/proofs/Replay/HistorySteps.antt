@@ -14,25 +14,25 @@ use Rattle.gx_model.specs.declared.features.Feature.TheVariants as features
 use Rattle.gx_model.specs.declared.objects.Kind.{Kind}
 use Rattle.gx_model.specs.declared.objects.Mode.{Mode}
 use Rattle.gx_model.specs.declared.objects.Mode.TheVariants.{File, Exec, Link, Gitlink, Dir}
-use Rattle.gx_model.specs.Texts.{Bytes}
+use Rattle.gx_model.specs.Texts.{Bytes, byte_cmp}
 use Rattle.gx_model.specs.Texts.RefNames.{is_ref_name, tag_ref}
 use Rattle.gx_model.specs.Texts.Idents.{is_ident}
-use Rattle.gx_model.specs.Faults.{and_then}
+use Rattle.gx_model.specs.Faults.{◌>>=◌}
 use Rattle.gx_model.specs.Texts.Paths.{Path, is_component, is_short}
 use Rattle.gx_model.specs.Histories.Files.{FileMap, Leaf, is_file_map}
 use Rattle.gx_model.specs.Histories.Edits.{copied, modified, renamed}
-use Rattle.gx_model.specs.Histories.Values.{Commit, Tag, Value, blob_of, blob_value, blobs_of, commit, commit_value, commits_of, files_of, is_content, is_hex_digit, is_leaf, is_name_text, is_optional_ident, is_proper, is_proper_text, list_of, parents_of, sub_maps, tag_value, tree_value}
-use Rattle.gx_model.specs.Histories.{History, IsHistory, IsIn, IsRefOf, IsWhole, Target, at_commit, at_tag, value_at, with_value}
+use Rattle.gx_model.specs.Histories.Values.{Commit, Tag, Value, blob_of, blob_value, blobs_of, commit, commit_value, commits_of, files_of, is_content, is_leaf, is_optional_ident, is_proper, is_proper_text, list_of, parents_of, sub_maps, tag_value, tree_value}
+use Rattle.gx_model.specs.Texts.Digits.{is_any_digit, is_any_name_text, is_lower_digit, is_name_text, lower}
+use Rattle.gx_model.specs.Histories.{History, IsHistory, IsIn, IsRefOf, IsWhole, Target, at_commit, at_tag, no_history, value_at, with_value}
 use Rattle.gx_model.specs.Laws.HistoryLaws.{needs}
-use Rattle.gx_model.specs.Revisions.Denotation.{base_value, lower}
+use Rattle.gx_model.specs.Revisions.Denotation.{base_value}
 use Rattle.gx_model.specs.Streams.Items.{items_of}
 use Rattle.gx_model.specs.Streams.Commands as command
 use Rattle.gx_model.specs.Streams.Commands.{Asks, Blob, Change, Checkpoint, Clear, Command, CommitIsh, CommitParts, Copy, DataRef, Done, Inline, Mark, Modify, Object, OptionLine, Progress, Remove, Rename, Reset, TagParts}
-use Rattle.gx_model.specs.Streams.Grammar.{commands_of, is_name}
-use Rattle.gx_model.specs.Streams.Grammar.{is_hex_digit as is_any_digit}
-use Rattle.gx_model.specs.Laws.ExportLaws.{nothing}
+use Rattle.gx_model.specs.Streams.Grammar.{commands_of}
 use Rattle.gx_model.specs.Replay.ProperReplays.{IsContent, IsProperChange, IsProperCommand, IsProperCommit, IsProperTag, IsWholePath, RefusalsKeepHistories, ReplaysGiveHistories, TextsGiveHistories}
-use Rattle.gx_model.specs.Replay.{Outcome, State, added, all_changed, all_committed, at, blob_bytes, byte_cmp, changed, checkpointed, commit_alone, committed, committed_for, content, ended, final, final_refs, finished, first_parent, is_fast_forward, marked, ok_or_mark, on_branch, or_else, refused, replayed, report, start, starting_files, step, step_checkpoint, step_commit, step_reset, step_tag, text_made, with_branch, with_first_parent}
+use Rattle.gx_model.specs.Replay.{Outcome, State, added, all_changed, all_committed, at, blob_bytes, changed, checkpointed, commit_alone, committed, committed_for, content, ended, final, final_refs, finished, first_parent, is_fast_forward, marked, on_branch, refused, replayed, report, start, starting_files, step, step_checkpoint, step_commit, step_reset, step_tag, text_made, with_branch, with_first_parent}
+use Rattle.std.specs.Option.{ok_or, unwrap_or}
 use Rattle.gx_model.proofs.Texts.PathTests.{both, first, is_true, second}
 use Rattle.gx_model.proofs.Histories.FileMapEdits.{Parts, copied_parts, modified_parts, of_parts, parts_of, removed_parts, renamed_parts}
 use Rattle.gx_model.proofs.ObjectTexts.OneTree.{all_left, all_unmap}
@@ -139,10 +139,10 @@ files_held vs whole c i =
     }
 
 -- a name's digits, in lower case
-digit_lowered : (d : ℕ) → is_any_digit d ≡ true → is_hex_digit (lower d) ≡ true
+digit_lowered : (d : ℕ) → is_any_digit d ≡ true → is_lower_digit (lower d) ≡ true
 digit_lowered d h = grind (arith, common_steps, nat_tests, h)
 
-digits_lowered : (x : Bytes) → T (list_all is_any_digit x) → T (list_all is_hex_digit (map lower x))
+digits_lowered : (x : Bytes) → T (list_all is_any_digit x) → T (list_all is_lower_digit (map lower x))
 digits_lowered [] h = tt
 digits_lowered (d ∷ x) h = both _ _ (passes _ (digit_lowered d (is_true _ (first (is_any_digit d) _ h)))) (digits_lowered x (second (is_any_digit d) _ h))
 
@@ -150,7 +150,7 @@ length_lowered : (x : Bytes) → length (map lower x) ≡ length x
 length_lowered [] = refl
 length_lowered (d ∷ x) = ap suc (length_lowered x)
 
-name_lowered : (x : Bytes) → T (is_name x) → T (is_name_text (map lower x))
+name_lowered : (x : Bytes) → T (is_any_name_text x) → T (is_name_text (map lower x))
 name_lowered x h = both _ _ (subst (λ n. T (n == 40)) (sym (length_lowered x)) (second (list_all is_any_digit x) _ h)) (digits_lowered x (first (list_all is_any_digit x) _ h))
 
 -- ---- states
@@ -318,7 +318,7 @@ module _ (name : Kind → Bytes → Bytes) where
   given_bytes s x = Ok (s, x)
 
   blob_given : (s : State) (m : Mode) → ((x : Bytes) → IsIn s.history.values (blob_value x) → IsKept s.history.values (m, x)) → IsProperState s
-      → (r : Result Value Fault) → IfOk r (IsIn s.history.values) → IfOk (and_then r (λ v. and_then (blob_bytes v) (given_bytes s))) (GivesContent s m)
+      → (r : Result Value Fault) → IfOk r (IsIn s.history.values) → IfOk (r >>= λ v. blob_bytes v >>= given_bytes s) (GivesContent s m)
   blob_given s m plain h (Err e) k = tt
   blob_given s m plain h (Ok (blob_value x)) k = record { state = h; grows = λ u i. i; made = plain x k }
   blob_given s m plain h (Ok (tree_value f)) k = tt
@@ -328,7 +328,7 @@ module _ (name : Kind → Bytes → Bytes) where
   at_held : (s : State) (n : ℕ) → IsProperState s → IfOk (at s n) (IsIn s.history.values)
   at_held s n h = by (lookup (nat_eq n) s.marks) (found (IsIn s.history.values) (nat_eq n) s.marks h.marks)
     where
-      by : (o : Option Value) → IfSome o (IsIn s.history.values) → IfOk (ok_or_mark o) (IsIn s.history.values)
+      by : (o : Option Value) → IfSome o (IsIn s.history.values) → IfOk (ok_or o fault.UnknownMark) (IsIn s.history.values)
       by None k = tt
       by (Some v) k = k
 
@@ -359,7 +359,7 @@ module _ (name : Kind → Bytes → Bytes) where
   with_files s f = Ok (s, f)
 
   edited : (s t : State) (r : Result (FileMap Bytes) Fault) → IsProperState t → Grows s.history.values t.history.values
-      → IfOk r Parts → IfOk r (AllByRecursion (λ file. IsKept t.history.values file.1)) → IfOk (and_then r (with_files t)) (GivesFiles s)
+      → IfOk r Parts → IfOk r (AllByRecursion (λ file. IsKept t.history.values file.1)) → IfOk (r >>= with_files t) (GivesFiles s)
   edited s t r h g k l =
       then_if (λ f. Parts f × AllByRecursion (λ file. IsKept t.history.values file.1) f) (GivesFiles s) r (with_files t) (both_ok Parts (AllByRecursion (λ file. IsKept t.history.values file.1)) r k l)
       (λ f m. record { state = h; grows = g; made = record { parts = m.0; leaves = m.1 } })
@@ -373,7 +373,7 @@ module _ (name : Kind → Bytes → Bytes) where
 
   changed_proper : (s : State) (f : FileMap Bytes) (c : Change) → IsProperState s → AreFiles s.history.values f → IsProperChange c → IfOk (changed name s f c) (GivesFiles s)
   changed_proper s f (Modify m d p) h k l =
-      then_if (GivesContent s m) (GivesFiles s) (content name s m d) (λ r. and_then (modified f p (m, r.1)) (with_files r.0)) (content_given s m d h l.0)
+      then_if (GivesContent s m) (GivesFiles s) (content name s m d) (λ r. modified f p (m, r.1) >>= with_files r.0) (content_given s m d h l.0)
       (λ r given.
       let files = grown s.history.values r.0.history.values given.grows f k in
       edited s r.0 (modified f p (m, r.1)) given.state given.grows (modified_files f p (m, r.1) l.1 files.parts)
@@ -410,9 +410,9 @@ module _ (name : Kind → Bytes → Bytes) where
   parents_held vs ws g (c ∷ cs) h = (g (commit_value c) h.0, parents_held vs ws g cs h.1)
 
   text_proper : (c : CommitParts) → IsProperCommit c → T (is_proper_text (text_made c))
-  text_proper c h = both (is_ident (or_else c.author c.committer) && is_ident c.committer) _ (both (is_ident (or_else c.author c.committer)) _ (by c.author h.author) (passes _ h.committer)) (passes _ h.encoding)
+  text_proper c h = both (is_ident (unwrap_or c.author c.committer) && is_ident c.committer) _ (both (is_ident (unwrap_or c.author c.committer)) _ (by c.author h.author) (passes _ h.committer)) (passes _ h.encoding)
     where
-      by : (o : Option Bytes) → IsTrue (is_optional_ident o) → T (is_ident (or_else o c.committer))
+      by : (o : Option Bytes) → IsTrue (is_optional_ident o) → T (is_ident (unwrap_or o c.committer))
       by None k = passes _ h.committer
       by (Some x) k = passes _ k
 
@@ -507,7 +507,7 @@ module _ (name : Kind → Bytes → Bytes) where
 
 -- ---- the laws
 
-pub nothing_is : IsHistory nothing
+pub nothing_is : IsHistory no_history
 nothing_is = record { proper = refl; closed = tt; sorted = refl; ref_names = refl; held = tt; own = tt }
 
 pub replays_give : ReplaysGiveHistories

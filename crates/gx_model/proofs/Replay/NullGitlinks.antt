@@ -7,15 +7,14 @@ use Rattle.std.specs.Map.{lookup}
 use Rattle.std.specs.FinMap.Entries.{by_order, put}
 use Rattle.gx_model.specs.declared.faults.Fault.{Fault}
 use Rattle.gx_model.specs.Texts.{Bytes}
-use Rattle.gx_model.specs.Faults.{and_then}
+use Rattle.gx_model.specs.Faults.{unless, ◌>>=◌}
 use Rattle.gx_model.specs.Texts.Paths.{Path, path_cmp}
 use Rattle.gx_model.specs.Histories.Files.{FileMap, under}
-use Rattle.gx_model.specs.Histories.Edits.{copied, copy_fault, modified, moved, renamed, unless, with_all, without, without_line}
-use Rattle.gx_model.specs.Histories.Values.{Commit, Commits, Value, blob_value, commit, commit_value, commits_of, files_of, list_of, more, none, parents_of, tag_value, tree_value}
+use Rattle.gx_model.specs.Histories.Edits.{copied, copy_fault, modified, moved, renamed, with_all, without, without_line}
+use Rattle.gx_model.specs.Histories.Values.{Commit, Commits, Value, blob_value, commit, commit_of, commit_value, commits_of, files_of, list_of, more, none, parents_of, tag_value, tree_value}
 use Rattle.gx_model.specs.Histories.{IsClosedAfter, IsIn, is_in, with_one, with_tree}
 use Rattle.gx_model.specs.Records.Growth.{all_trees}
 use Rattle.gx_model.specs.Laws.ExportLaws.{HaveNoNullGitlink, IsNotNull}
-use Rattle.gx_model.specs.Revisions.Ranges.{commit_of}
 use Rattle.gx_model.proofs.Records.GrownTrees.{trees_fold}
 use Rattle.gx_model.proofs.Export.KeptCommits.{all_in}
 
@@ -37,7 +36,7 @@ module _ {K X : Type 0} (P : X → Type 0) where
 
 module _ {A B E : Type 0} (P : A → Type 0) (Q : B → Type 0) where
   -- what holds after both steps
-  pub then_if : (r : Result A E) (f : A → Result B E) → IfOk r P → ((x : A) → P x → IfOk (f x) Q) → IfOk (and_then r f) Q
+  pub then_if : (r : Result A E) (f : A → Result B E) → IfOk r P → ((x : A) → P x → IfOk (f x) Q) → IfOk (r >>= f) Q
   then_if (Ok x) f h k = k x h
   then_if (Err e) f h k = tt
 

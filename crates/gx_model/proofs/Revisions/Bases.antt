@@ -3,7 +3,7 @@ use Rattle.std.proofs.Common.{◌≡◌, ℕ, Bool, true, false, cond, refl, sym
 use Rattle.std.specs.Prelude.{◌&&◌, is_some, nat_eq, nat_le, nat_lt, IsTrue}
 use Rattle.std.specs.Bool.{passes}
 use Rattle.std.specs.List.{AllByRecursion, filter, list_all}
-use Rattle.std.specs.Option.{option_map}
+use Rattle.std.specs.Option.{option_map, option_or}
 use Rattle.std.specs.Map.{lookup}
 use Rattle.std.proofs.lemmas.Bool.{and_from, and_parts, eqb-true}
 use Rattle.std.proofs.lemmas.Bool.Decides.{nat_tests}
@@ -11,7 +11,8 @@ use Rattle.std.proofs.lemmas.List.{length-map, take_all}
 use Rattle.gx_model.specs.declared.faults.Fault.TheVariants as fault
 use Rattle.gx_model.specs.declared.objects.Kind.{Kind}
 use Rattle.gx_model.specs.Texts.{Bytes, same_bytes}
-use Rattle.gx_model.specs.Histories.Values.{Value, is_hex_digit}
+use Rattle.gx_model.specs.Histories.Values.{Value}
+use Rattle.gx_model.specs.Texts.Digits.{is_any_digit, is_lower_digit, lower}
 use Rattle.gx_model.specs.Objects.{IsNamer, hex, unhex}
 use Rattle.gx_model.specs.Objects.Naming.{name_in}
 use Rattle.gx_model.proofs.ObjectTexts.BodiesReadBack.{unhex_hex}
@@ -21,8 +22,8 @@ use Rattle.gx_model.specs.Histories.{IsIn, Record, Records, Target, object_of, v
 use Rattle.gx_model.specs.Records.HistoryOf.{history_of, target_in, value_of_name}
 use Rattle.gx_model.specs.Records.Growth.{record_named}
 use Rattle.gx_model.specs.Records.Sound.{IsSound}
-use Rattle.gx_model.specs.Records.Lookups.{first_named, or_else}
-use Rattle.gx_model.specs.Revisions.Denotation.{base_value, begins_with_digits, begun_by, find_ref, first_ref, full_name, is_any_digit, lower, or_ref, ref_at, ref_names, the_one}
+use Rattle.gx_model.specs.Records.Lookups.{first_named}
+use Rattle.gx_model.specs.Revisions.Denotation.{base_value, begins_with_digits, begun_by, find_ref, first_ref, full_name, ref_at, ref_names, the_one}
 use Rattle.gx_model.proofs.Texts.PathTests.{is_same, is_true, same_is}
 use Rattle.gx_model.proofs.Records.HistoriesExist.{stands}
 use Rattle.gx_model.proofs.Records.FoundRecords.{first_found}
@@ -47,10 +48,10 @@ filtered_in t (w ∷ vs) v i e =
 
 -- ---- 40 digits
 
-lower_digit : (d : ℕ) → is_any_digit d ≡ true → is_hex_digit (lower d) ≡ true
+lower_digit : (d : ℕ) → is_any_digit d ≡ true → is_lower_digit (lower d) ≡ true
 lower_digit d h = grind (arith, nat_tests)
 
-lower_digits : (x : Bytes) → list_all is_any_digit x ≡ true → list_all is_hex_digit (map lower x) ≡ true
+lower_digits : (x : Bytes) → list_all is_any_digit x ≡ true → list_all is_lower_digit (map lower x) ≡ true
 lower_digits [] h = refl
 lower_digits (d ∷ x) h = let p = and_parts (is_any_digit d) _ h in and_from _ _ (lower_digit d p.0) (lower_digits x p.1)
 
@@ -131,15 +132,15 @@ module _ (name : Kind → Bytes → Bytes) (namer : IsNamer name) (r : Records) 
       meant : lookup (same_bytes ref) r.refs ≡ lookup (same_bytes ref) (map (λ (x : Bytes × Target). let q : Bytes × Bytes = (x.0, name_of name (value_at x.1)) in q) (history_of r).refs)
       meant = ap (lookup (same_bytes ref)) (stands name namer r sound).refs
 
-      by : (o : Option Bytes) → lookup (same_bytes ref) r.refs ≡ o → or_else o (first_named r.refs ns) ≡ Some n
+      by : (o : Option Bytes) → lookup (same_bytes ref) r.refs ≡ o → option_or o (first_named r.refs ns) ≡ Some n
           → (first_named r.refs ns ≡ Some n → (t : Target) × Stands (value_at t) × (n ≡ name_of name (value_at t)) × (first_ref (history_of r) ns ≡ Some t))
-          → (t : Target) × Stands (value_at t) × (n ≡ name_of name (value_at t)) × (or_ref (ref_at (history_of r) ref) (first_ref (history_of r) ns) ≡ Some t)
+          → (t : Target) × Stands (value_at t) × (n ≡ name_of name (value_at t)) × (option_or (ref_at (history_of r) ref) (first_ref (history_of r) ns) ≡ Some t)
       by (Some m) k l rest =
           let f = ref_held ref n (history_of r).refs (stands name namer r sound).history.held (sym meant ∙ k ∙ l) in
-          (f.0, f.1, f.2, ap (λ o. or_ref o (first_ref (history_of r) ns)) f.3)
+          (f.0, f.1, f.2, ap (λ o. option_or o (first_ref (history_of r) ns)) f.3)
       by None k l rest =
           let f = rest l in
-          (f.0, f.1, f.2, ap (λ o. or_ref o (first_ref (history_of r) ns)) (ref_lacks ref (history_of r).refs (sym meant ∙ k)) ∙ f.3)
+          (f.0, f.1, f.2, ap (λ o. option_or o (first_ref (history_of r) ns)) (ref_lacks ref (history_of r).refs (sym meant ∙ k)) ∙ f.3)
 
   pub ref_found : (x n : Bytes) → Some n ≡ first_named r.refs (ref_names x) → ((t : Target) × (find_ref (history_of r) x ≡ Some t) × (Named n ≡ value_at t)) × IsTrue (is_some (record_named r.records n))
   ref_found x n e =

@@ -12,13 +12,14 @@ use Rattle.std.proofs.lemmas.Slice.Eq.{bytes_eq-Decides}
 use Rattle.gx_model.specs.declared.objects.Kind.{Kind}
 use Rattle.gx_model.specs.Texts.{Bytes, cut_at, has_pair, lacks, same_bytes}
 use Rattle.gx_model.specs.Texts.RefNames.{is_ref_byte, is_ref_component, is_ref_name, ref_components}
-use Rattle.gx_model.specs.Histories.Values.{Commit, Value, commit_value, is_hex_digit, is_name_text}
+use Rattle.gx_model.specs.Histories.Values.{Commit, Value, commit_value}
+use Rattle.gx_model.specs.Texts.Digits.{is_any_digit, is_lower_digit, is_name_text, lower}
 use Rattle.gx_model.specs.Histories.{IsIn, Target}
 use Rattle.gx_model.specs.Objects.{IsNamer, hex, unhex}
 use Rattle.gx_model.specs.Records.{body_of, kind_of, name_of}
 use Rattle.gx_model.specs.Laws.RangeLaws.{AreToldByName}
 use Rattle.gx_model.specs.Revisions.{base_and_suffixes, base_of, parent, revision_of}
-use Rattle.gx_model.specs.Revisions.Denotation.{base_value, begins_with_digits, denoted, full_name, is_any_digit, lower, value_denoted}
+use Rattle.gx_model.specs.Revisions.Denotation.{base_value, begins_with_digits, denoted, full_name, value_denoted}
 use Rattle.gx_model.proofs.Revisions.Bases.{begins_own, filtered_in, in_filtered, own_begins}
 use Rattle.gx_model.proofs.ObjectTexts.BodiesReadBack.{unhex_hex}
 use Rattle.gx_model.proofs.Texts.Cuts.{lacks-cons}
@@ -31,70 +32,70 @@ use Rattle.gx_model.proofs.Texts.PathTests.{all_drop, is_true}
 
 -- bytes that are no digits
 abbrev AreDigits : Bytes → Type 0
-AreDigits x = list_all is_hex_digit x ≡ true
+AreDigits x = list_all is_lower_digit x ≡ true
 
 no_cut : (c : ℕ) (xs : Bytes) → lacks c xs ≡ true → cut_at c xs ≡ None
 unfolding cut_at
 no_cut c [] h = refl
 no_cut c (x ∷ xs) h = let p = lacks-cons c x xs h in rw (p.0, no_cut c xs p.1) refl
 
-no_colon : (b : ℕ) → is_hex_digit b ≡ true → (b == 58) ≡ false
+no_colon : (b : ℕ) → is_lower_digit b ≡ true → (b == 58) ≡ false
 no_colon b e = grind (arith, nat_tests)
 
 -- digits and `^0`
 lacks_colon : (xs : Bytes) → AreDigits xs → lacks 58 (xs ++ codes "^0") ≡ true
 lacks_colon [] h = refl
-lacks_colon (x ∷ xs) h = let p = and_parts (is_hex_digit x) _ h in rw (no_colon x p.0) (lacks_colon xs p.1)
+lacks_colon (x ∷ xs) h = let p = and_parts (is_lower_digit x) _ h in rw (no_colon x p.0) (lacks_colon xs p.1)
 
-no_suffix_first : (b : ℕ) → is_hex_digit b ≡ true → (b == 94 || b == 126) ≡ false
+no_suffix_first : (b : ℕ) → is_lower_digit b ≡ true → (b == 94 || b == 126) ≡ false
 no_suffix_first b e = grind (arith, nat_tests)
 
 one_suffix : (xs : Bytes) → AreDigits xs → base_and_suffixes (xs ++ codes "^0") ≡ (xs, codes "^0" ∷ [])
 one_suffix [] h = refl
-one_suffix (x ∷ xs) h = let p = and_parts (is_hex_digit x) _ h in rw (no_suffix_first x p.0, one_suffix xs p.1) refl
+one_suffix (x ∷ xs) h = let p = and_parts (is_lower_digit x) _ h in rw (no_suffix_first x p.0, one_suffix xs p.1) refl
 
 -- ---- as a ref name
 
-no_slash : (b : ℕ) → is_hex_digit b ≡ true → (b == 47) ≡ false
+no_slash : (b : ℕ) → is_lower_digit b ≡ true → (b == 47) ≡ false
 no_slash b e = grind (arith, nat_tests)
 
 one_component : (xs : Bytes) → AreDigits xs → slice_split (λ b. b == 47) xs ≡ xs ∷ []
 one_component [] h = refl
 one_component (x ∷ xs) h =
-    let p = and_parts (is_hex_digit x) _ h in
+    let p = and_parts (is_lower_digit x) _ h in
     slice_split-cons_no (λ b. b == 47) x xs (no_slash x p.0) ∙ ap (onto_first x) (one_component xs p.1)
 
-ref_byte : (b : ℕ) → is_hex_digit b ≡ true → is_ref_byte b ≡ true
+ref_byte : (b : ℕ) → is_lower_digit b ≡ true → is_ref_byte b ≡ true
 ref_byte b e = grind (arith, nat_tests)
 
 ref_bytes : (xs : Bytes) → AreDigits xs → list_all is_ref_byte xs ≡ true
 ref_bytes [] h = refl
-ref_bytes (x ∷ xs) h = let p = and_parts (is_hex_digit x) _ h in and_from _ _ (ref_byte x p.0) (ref_bytes xs p.1)
+ref_bytes (x ∷ xs) h = let p = and_parts (is_lower_digit x) _ h in and_from _ _ (ref_byte x p.0) (ref_bytes xs p.1)
 
-no_dot : (b : ℕ) → is_hex_digit b ≡ true → (b == 46) ≡ false
+no_dot : (b : ℕ) → is_lower_digit b ≡ true → (b == 46) ≡ false
 no_dot b e = grind (arith, nat_tests)
 
-no_at : (b : ℕ) → is_hex_digit b ≡ true → (b == 64) ≡ false
+no_at : (b : ℕ) → is_lower_digit b ≡ true → (b == 64) ≡ false
 no_at b e = grind (arith, nat_tests)
 
-no_pair : (k l : ℕ) → ((b : ℕ) → is_hex_digit b ≡ true → (b == k) ≡ false) → (xs : Bytes) → AreDigits xs → has_pair k l xs ≡ false
+no_pair : (k l : ℕ) → ((b : ℕ) → is_lower_digit b ≡ true → (b == k) ≡ false) → (xs : Bytes) → AreDigits xs → has_pair k l xs ≡ false
 no_pair k l f [] h = refl
 no_pair k l f (x ∷ []) h = refl
-no_pair k l f (x ∷ y ∷ zs) h = let p = and_parts (is_hex_digit x) _ h in rw (f x p.0) (no_pair k l f (y ∷ zs) p.1)
+no_pair k l f (x ∷ y ∷ zs) h = let p = and_parts (is_lower_digit x) _ h in rw (f x p.0) (no_pair k l f (y ∷ zs) p.1)
 
-dot_apart : (b : ℕ) → is_hex_digit b ≡ true → nat_eq 46 b ≡ false
+dot_apart : (b : ℕ) → is_lower_digit b ≡ true → nat_eq 46 b ≡ false
 dot_apart b e = grind (arith, nat_tests)
 
 no_dot_first : (ks xs : Bytes) → AreDigits xs → pointwise nat_eq (46 ∷ ks) xs ≡ false
 no_dot_first ks [] h = refl
-no_dot_first ks (x ∷ xs) h = rw (dot_apart x (and_parts (is_hex_digit x) _ h).0) refl
+no_dot_first ks (x ∷ xs) h = rw (dot_apart x (and_parts (is_lower_digit x) _ h).0) refl
 
 not_at_end : (ks xs : Bytes) → AreDigits xs → ends_with nat_eq xs (46 ∷ ks) ≡ false
-not_at_end ks xs h = no_dot_first ks (drop (length xs - length (46 ∷ ks)) xs) (is_true _ (all_drop is_hex_digit (length xs - length (46 ∷ ks)) xs (passes _ h)))
+not_at_end ks xs h = no_dot_first ks (drop (length xs - length (46 ∷ ks)) xs) (is_true _ (all_drop is_lower_digit (length xs - length (46 ∷ ks)) xs (passes _ h)))
 
 not_first : (ks xs : Bytes) → AreDigits xs → starts_with nat_eq xs (46 ∷ ks) ≡ false
 not_first ks [] h = refl
-not_first ks (x ∷ xs) h = rw (dot_apart x (and_parts (is_hex_digit x) _ h).0) refl
+not_first ks (x ∷ xs) h = rw (dot_apart x (and_parts (is_lower_digit x) _ h).0) refl
 
 long_enough : (n : ℕ) → n ≡ 40 → (n == 0) ≡ false
 long_enough n e = grind (arith, nat_tests)
@@ -138,12 +139,12 @@ digits_are_revision x h =
 
 -- ---- what they name
 
-any_digit : (b : ℕ) → is_hex_digit b ≡ true → is_any_digit b ≡ true
+any_digit : (b : ℕ) → is_lower_digit b ≡ true → is_any_digit b ≡ true
 any_digit b e = grind (arith, nat_tests)
 
 any_digits : (xs : Bytes) → AreDigits xs → list_all is_any_digit xs ≡ true
 any_digits [] h = refl
-any_digits (x ∷ xs) h = let p = and_parts (is_hex_digit x) _ h in and_from _ _ (any_digit x p.0) (any_digits xs p.1)
+any_digits (x ∷ xs) h = let p = and_parts (is_lower_digit x) _ h in and_from _ _ (any_digit x p.0) (any_digits xs p.1)
 
 module _ (name : Kind → Bytes → Bytes) (namer : IsNamer name) where
   pub name_is_text : (v : Value) → is_name_text (hex (name_of name v)) ≡ true

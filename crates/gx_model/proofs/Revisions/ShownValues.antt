@@ -9,7 +9,7 @@ use Rattle.gx_model.specs.declared.objects.Kind.{Kind}
 use Rattle.gx_model.specs.declared.objects.Mode.{Mode}
 use Rattle.gx_model.specs.declared.objects.Mode.TheVariants.{File, Exec, Link, Gitlink, Dir}
 use Rattle.gx_model.specs.Texts.{Bytes, same_bytes}
-use Rattle.gx_model.specs.Faults.{and_then}
+use Rattle.gx_model.specs.Faults.{◌>>=◌}
 use Rattle.gx_model.specs.Texts.Paths.{Path}
 use Rattle.gx_model.specs.Histories.Files.{FileMap, Leaf, file_at, sub_map}
 use Rattle.gx_model.specs.Histories.Values.{Commit, Value, blob_of, blob_value, blobs_of, commit_value, files_of, is_content, is_leaf, list_of, parents_of, parts, sub_maps, tag_value, tree_value}
@@ -19,7 +19,8 @@ use Rattle.gx_model.specs.Histories.{AreDistinct, History, IsHistory, IsIn, IsWh
 use Rattle.gx_model.specs.Records.HistoryOf.{history_of}
 use Rattle.gx_model.specs.Records.Sound.{IsSound}
 use Rattle.gx_model.specs.Revisions.{Revision, Suffix, ancestor, as_blob, as_commit, as_tag, as_tree, itself, parent, peeled}
-use Rattle.gx_model.specs.Revisions.Denotation.{Shown, all_suffixed, are_digits, at_path, base_value, begun_by, commit_in, denoted, files_in, find_ref, first_ref, full_name, nth_ancestor, nth_parent, object, of_leaf, of_sub_map, only_blob, only_commit, only_tag, or_no_parent, or_ref, peel, ref_at, ref_names, shown_at, submodule, suffixed, the_one}
+use Rattle.gx_model.specs.Revisions.Denotation.{Shown, all_suffixed, are_digits, at_path, base_value, begun_by, commit_in, denoted, files_in, find_ref, first_ref, full_name, nth_ancestor, nth_parent, object, of_leaf, of_sub_map, only_blob, only_commit, only_tag, peel, ref_at, ref_names, shown_at, submodule, suffixed, the_one}
+use Rattle.std.specs.Option.{ok_or, option_or}
 use Rattle.gx_model.specs.Laws.RepositoryLaws.{AreOneAnswer}
 use Rattle.gx_model.proofs.ObjectTexts.OneTree.{all_left, found_known, only_file}
 use Rattle.gx_model.proofs.Records.OneHistory.{told_by_name}
@@ -33,7 +34,7 @@ use Rattle.gx_model.proofs.Records.HistoriesExist.{stands}
 -- ---- steps that may be refused
 
 -- what both steps gave
-both_gave : {A B : Type 0} (r : Result A Fault) (f : A → Result B Fault) (b : B) → and_then r f ≡ Ok b → (a : A) × (r ≡ Ok a) × (f a ≡ Ok b)
+both_gave : {A B : Type 0} (r : Result A Fault) (f : A → Result B Fault) (b : B) → (r >>= f) ≡ Ok b → (a : A) × (r ≡ Ok a) × (f a ≡ Ok b)
 both_gave (Ok a) f b e = (a, refl, e)
 both_gave (Err g) f b e = absurd cc
 
@@ -133,7 +134,7 @@ module _ (name : Kind → Bytes → Bytes) (namer : IsNamer name) (h : History) 
   ref_stands [] t e = absurd cc
   ref_stands (n ∷ ns) t e = by (ref_at h n) refl e (ref_stands ns t)
     where
-      by : (o : Option Target) → ref_at h n ≡ o → or_ref o (first_ref h ns) ≡ Some t → (first_ref h ns ≡ Some t → Stands (value_at t)) → Stands (value_at t)
+      by : (o : Option Target) → ref_at h n ≡ o → option_or o (first_ref h ns) ≡ Some t → (first_ref h ns ≡ Some t → Stands (value_at t)) → Stands (value_at t)
       by (Some u) k l rest = held_ref n h.refs t history.held (k ∙ l)
       by None k l rest = rest l
 
@@ -184,7 +185,7 @@ module _ (name : Kind → Bytes → Bytes) (namer : IsNamer name) (h : History) 
   parent_stands zero c d i e = subst Stands (ap commit_value (ok_is c d e)) i
   parent_stands (suc n) c d i e = by (slice_get (list_of (parents_of c)) n) refl e
     where
-      by : (o : Option Commit) → slice_get (list_of (parents_of c)) n ≡ o → or_no_parent o ≡ Ok d → Stands (commit_value d)
+      by : (o : Option Commit) → slice_get (list_of (parents_of c)) n ≡ o → ok_or o fault.NoParent ≡ Ok d → Stands (commit_value d)
       by None k l = absurd cc
       by (Some u) k l = nth_stands (list_of (parents_of c)) n d (parts_stand (commit_value c) i).1 (k ∙ ap Some (ok_is u d l))
 
@@ -212,11 +213,11 @@ module _ (name : Kind → Bytes → Bytes) (namer : IsNamer name) (h : History) 
 
   suffixed_stands : (v : Value) (s : Suffix) (w : Value) → Stands v → suffixed v s ≡ Ok w → Stands w
   suffixed_stands v (parent n) w i e =
-      let g = both_gave (commit_in v) (λ c. and_then (nth_parent n c) (λ d. Ok (commit_value d))) w e in
+      let g = both_gave (commit_in v) (λ c. nth_parent n c >>= λ d. Ok (commit_value d)) w e in
       let k = both_gave (nth_parent n g.0) (λ d. Ok (commit_value d)) w g.2 in
       subst Stands (ok_is (commit_value k.0) w k.2) (parent_stands n g.0 k.0 (commit_stands v g.0 i g.1) k.1)
   suffixed_stands v (ancestor n) w i e =
-      let g = both_gave (commit_in v) (λ c. and_then (nth_ancestor n c) (λ d. Ok (commit_value d))) w e in
+      let g = both_gave (commit_in v) (λ c. nth_ancestor n c >>= λ d. Ok (commit_value d)) w e in
       let k = both_gave (nth_ancestor n g.0) (λ d. Ok (commit_value d)) w g.2 in
       subst Stands (ok_is (commit_value k.0) w k.2) (ancestor_stands n g.0 k.0 (commit_stands v g.0 i g.1) k.1)
   suffixed_stands v peeled w i e = subst Stands (ok_is (peel v) w e) (peel_stands v i)
@@ -239,7 +240,7 @@ module _ (name : Kind → Bytes → Bytes) (namer : IsNamer name) (h : History) 
   denoted_stands : (a : Revision) (w : Value) → denoted name h a ≡ Ok (object w) → Stands w
   unfolding denoted
   denoted_stands a w e =
-      let g = both_gave (base_value name h a.base) (λ v. and_then (all_suffixed v a.suffixes) (λ u. shown_at u a.path)) (object w) e in
+      let g = both_gave (base_value name h a.base) (λ v. all_suffixed v a.suffixes >>= λ u. shown_at u a.path) (object w) e in
       let k = both_gave (all_suffixed g.0 a.suffixes) (λ u. shown_at u a.path) (object w) g.2 in
       shown_stands k.0 a.path w (all_suffixed_stands g.0 a.suffixes k.0 (base_stands a.base g.0 g.1) k.1) k.2
 

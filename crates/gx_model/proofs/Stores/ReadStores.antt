@@ -6,7 +6,7 @@ use Rattle.std.specs.Fmt.{decimal}
 use Rattle.gx_model.specs.declared.objects.Kind.{Kind}
 use Rattle.gx_model.specs.declared.store_versions.Version.{Version}
 use Rattle.gx_model.specs.Texts.{Bytes}
-use Rattle.gx_model.specs.Faults.{and_then}
+use Rattle.gx_model.specs.Faults.{◌>>=◌}
 use Rattle.gx_model.specs.Objects.{IsNamer, hex, line}
 use Rattle.gx_model.specs.Histories.{Record, Records}
 use Rattle.gx_model.specs.Objects.Naming.{kind_word}
@@ -101,23 +101,23 @@ parts_short a b c d e f limit h =
 module _ (name : Kind → Bytes → Bytes) where
   -- what is read once the refs are
   abbrev whole : List Record → List (Bytes × Bytes) × Bytes → Stored Records
-  whole rs named = and_then (stored_end named.1) (λ u. Ok (record { records = rs; refs = named.0 }))
+  whole rs named = stored_end named.1 >>= λ u. Ok (record { records = rs; refs = named.0 })
 
   -- what is read once the refs are counted
   abbrev refs_rest : List Record → ℕ × Bytes → Stored Records
-  refs_rest rs refs = and_then (next_refs refs.0 rs None refs.1) (whole rs)
+  refs_rest rs refs = next_refs refs.0 rs None refs.1 >>= whole rs
 
   -- what is read once the records are
   abbrev refs_count : List Record × Bytes → Stored Records
-  refs_count records = and_then (stored_count (codes "refs") records.1) (refs_rest records.0)
+  refs_count records = stored_count (codes "refs") records.1 >>= refs_rest records.0
 
   -- what is read once the records are counted
   abbrev records_rest : Version → ℕ × Bytes → Stored Records
-  records_rest v objects = and_then (next_records name v objects.0 [] objects.1) refs_count
+  records_rest v objects = (next_records name v objects.0 [] objects.1) >>= refs_count
 
   -- what is read once the first line is
   abbrev records_count : Version × Bytes → Stored Records
-  records_count start = and_then (stored_count (codes "objects") start.1) (records_rest start.0)
+  records_count start = stored_count (codes "objects") start.1 >>= records_rest start.0
 
   module _ (namer : IsNamer name) where
     -- a repository of nothing is sound
@@ -173,12 +173,12 @@ module _ (name : Kind → Bytes → Bytes) where
         let few_refs = fewer (length xs) (length (flat_map stored_ref xs)) (2 ^ 64) (many_bytes stored_ref (λ x. line_some (hex x.1) x.0) xs) short.1 in
         let alone : IsSound name (record { records = rs; refs = [] }) = record { named = i.named; distinct = i.distinct; linked = i.linked; paths = i.paths; sorted = refl; ref_names = refl; held = tt } in
         ap (store_of name) (store_text_flat v r)
-        ∙ ap (λ s. and_then s records_count) (magic_read v (line (codes "objects") (decimal (length rs)) ++ objects_text))
-        ∙ ap (λ s. and_then s (records_rest v)) (count_read (codes "objects") (length rs) objects_text tt few)
-        ∙ ap (λ s. and_then s refs_count) (records_read name v namer [] rs (line (codes "refs") (decimal (length xs)) ++ refs_text) alone (bodies_short v (2 ^ 64) rs short.0))
-        ∙ ap (λ s. and_then s (refs_rest rs)) (count_read (codes "refs") (length xs) refs_text tt few_refs)
-        ∙ ap (λ s. and_then s (whole rs)) (refs_read rs None xs ends (targets_name name namer rs i.distinct i.named xs i.held) (passes _ i.ref_names) (targets_test rs i.distinct xs i.held) tt (passes _ i.sorted))
-        ∙ ap (λ s. and_then s (λ u. Ok (record { records = rs; refs = xs }))) end_read
+        ∙ ap (λ s. s >>= records_count) (magic_read v (line (codes "objects") (decimal (length rs)) ++ objects_text))
+        ∙ ap (λ s. s >>= records_rest v) (count_read (codes "objects") (length rs) objects_text tt few)
+        ∙ ap (λ s. s >>= refs_count) (records_read name v namer [] rs (line (codes "refs") (decimal (length xs)) ++ refs_text) alone (bodies_short v (2 ^ 64) rs short.0))
+        ∙ ap (λ s. s >>= refs_rest rs) (count_read (codes "refs") (length xs) refs_text tt few_refs)
+        ∙ ap (λ s. s >>= whole rs) (refs_read rs None xs ends (targets_name name namer rs i.distinct i.named xs i.held) (passes _ i.ref_names) (targets_test rs i.distinct xs i.held) tt (passes _ i.sorted))
+        ∙ ap (λ s. s >>= λ u. Ok (record { records = rs; refs = xs })) end_read
       where
         fewer : (n m limit : ℕ) → n ≤ m → m < limit → n < limit
         fewer n m limit a b = omega arith

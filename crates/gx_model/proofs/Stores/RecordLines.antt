@@ -10,11 +10,11 @@ use Rattle.gx_model.specs.declared.objects.Kind.TheVariants as kind
 use Rattle.gx_model.specs.declared.store_versions.Version.{Version}
 use Rattle.gx_model.specs.declared.store_versions.Version.TheVariants.{One, Two}
 use Rattle.gx_model.specs.Texts.{Bytes, cut_at, is_line, lacks, same_bytes}
-use Rattle.gx_model.specs.Histories.Values.{is_name_text}
+use Rattle.gx_model.specs.Texts.Digits.{is_name_text}
 use Rattle.gx_model.specs.Objects.{hex, is_name, unhex}
 use Rattle.gx_model.specs.Objects.Naming.{kind_word}
 use Rattle.gx_model.specs.Stores.StoreText.{length_text}
-use Rattle.gx_model.specs.Stores.StoreReading.{Length, is_named, kind_words, length_field, record_line, stored_number, with_digits, with_length}
+use Rattle.gx_model.specs.Stores.StoreReading.{Length, is_stated, kind_words, length_field, record_line, stored_number, with_digits, with_length}
 use Rattle.gx_model.proofs.Texts.PathTests.{both, is_same, is_true, same_is}
 use Rattle.gx_model.proofs.Texts.Cuts.{cut_after, cut_spelled}
 use Rattle.gx_model.proofs.Texts.LineTexts.{line_append}
@@ -47,23 +47,23 @@ stated_name One name = None
 stated_name Two name = Some name
 
 -- a stated name is the record's
-pub stated_is_named : (v : Version) (name : Bytes) → is_named (stated_name v name) name ≡ true
+pub stated_is_named : (v : Version) (name : Bytes) → is_stated (stated_name v name) name ≡ true
 stated_is_named One name = refl
 stated_is_named Two name = is_true _ (is_same name name refl)
 
 -- a name's digits are read where they state this name
-digits_state : (digits name : Bytes) (n : ℕ) (y : Length) → with_digits digits n ≡ Some y → is_named y.1 name ≡ true → (n ≡ y.0) × (digits ≡ hex name)
+digits_state : (digits name : Bytes) (n : ℕ) (y : Length) → with_digits digits n ≡ Some y → is_stated y.1 name ≡ true → (n ≡ y.0) × (digits ≡ hex name)
 digits_state digits name n y e s = by (is_name_text digits) refl e
   where
     by : (b : Bool) → is_name_text digits ≡ b → cond b (Some (n, Some (unhex digits))) None ≡ Some y → (n ≡ y.0) × (digits ≡ hex name)
     by false h i = absurd (cc)
     by true h i =
         let same : ◌≡◌ {A = Length} (n, Some (unhex digits)) y = cc i in
-        let stated : is_named (Some (unhex digits)) name ≡ true = ap (λ (z : Length). is_named z.1 name) same ∙ s in
+        let stated : is_stated (Some (unhex digits)) name ≡ true = ap (λ (z : Length). is_stated z.1 name) same ∙ s in
         (ap (λ (z : Length). z.0) same, sym (hex_unhex digits (passes _ h)) ∙ ap hex (same_is (unhex digits) name (passes _ stated)))
 
 -- a length is a decimal, with the digits of the name that it states
-field_of : (v : Version) (x name : Bytes) (y : Length) → length_field v x ≡ Some y → is_named y.1 name ≡ true → x ≡ length_text v y.0 name
+field_of : (v : Version) (x name : Bytes) (y : Length) → length_field v x ≡ Some y → is_stated y.1 name ≡ true → x ≡ length_text v y.0 name
 field_of One x name y e s =
     let p = both_some (λ (n : ℕ). Some (n, None)) (stored_number x) y e in
     let same : ◌≡◌ {A = Length} (p.0, None) y = cc (p.2) in
@@ -120,13 +120,13 @@ abbrev kind_rest : Version → Bytes × Bytes → Option (Kind × Length)
 kind_rest v p = option_and_then (with_length v p.1) (lookup (same_bytes p.0) kind_words)
 
 -- a record's line has a kind's word and a length, with the name that it states
-pub record_line_of : (v : Version) (l name : Bytes) (x : Kind × Length) → record_line v l ≡ Some x → is_named x.1.1 name ≡ true → l ≡ kind_word x.0 ++ 32 ∷ length_text v x.1.0 name
+pub record_line_of : (v : Version) (l name : Bytes) (x : Kind × Length) → record_line v l ≡ Some x → is_stated x.1.1 name ≡ true → l ≡ kind_word x.0 ++ 32 ∷ length_text v x.1.0 name
 record_line_of v l name x e s =
     let p = both_some (kind_rest v) (cut_at 32 l) x e in
     let k = both_some (with_length v p.0.1) (lookup (same_bytes p.0.0) kind_words) x p.2 in
     let n = both_some (λ (n : Length). Some (k.0, n)) (length_field v p.0.1) x k.2 in
     let same : ◌≡◌ {A = Kind × Length} (k.0, n.0) x = cc (n.2) in
-    let stated : is_named n.0.1 name ≡ true = ap (λ (z : Kind × Length). is_named z.1.1 name) same ∙ s in
+    let stated : is_stated n.0.1 name ≡ true = ap (λ (z : Kind × Length). is_stated z.1.1 name) same ∙ s in
     cut_spelled 32 l p.0 p.1 ∙ (λ i. kind_of p.0.0 k.0 k.1 i ++ 32 ∷ field_of v p.0.1 name n.0 n.1 stated i) ∙ ap (λ (z : Kind × Length). kind_word z.0 ++ 32 ∷ length_text v z.1.0 name) same
 
 -- a record's line is read as its kind and length

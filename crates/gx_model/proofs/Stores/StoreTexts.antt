@@ -3,7 +3,7 @@ use Rattle.std.proofs.Common.{◌≡◌, ℕ, ◌+◌, ◌<◌, ◌^◌, Bool, t
 use Rattle.std.specs.Prelude.{T, not, ◌||◌, nat_eq, nat_lt}
 use Rattle.std.specs.Bool.{passes}
 use Rattle.std.specs.List.{starts_with}
-use Rattle.std.specs.Option.{option_and_then}
+use Rattle.std.specs.Option.{ok_or, option_and_then}
 use Rattle.std.specs.Fmt.{decimal}
 use Rattle.std.proofs.Math.Seq.{drop-append-add}
 use Rattle.std.proofs.lemmas.Bool.{not-true}
@@ -16,10 +16,10 @@ use Rattle.gx_model.specs.declared.store_faults.FileFault.{FileFault}
 use Rattle.gx_model.specs.declared.store_faults.FileFault.TheVariants as fault
 use Rattle.gx_model.specs.Texts.{Bytes, cut_at, is_line, lacks, same_bytes}
 use Rattle.gx_model.specs.Texts.Numbers.{decimal_of}
-use Rattle.gx_model.specs.Faults.{and_then}
+use Rattle.gx_model.specs.Faults.{◌>>=◌}
 use Rattle.gx_model.specs.Objects.{line}
 use Rattle.gx_model.specs.Stores.StoreText.{version_text}
-use Rattle.gx_model.specs.Stores.StoreReading.{Stored, after_magic, after_word, if_written_so, stored_body, stored_count, stored_end, stored_if, stored_line, stored_number, unless, version_of}
+use Rattle.gx_model.specs.Stores.StoreReading.{Stored, after_magic, after_word, if_written_so, only_if, stored_body, stored_count, stored_end, stored_line, stored_number, version_of}
 use Rattle.gx_model.proofs.Texts.PathTests.{first, is_same, is_true, same_is, second}
 use Rattle.gx_model.proofs.Texts.Cuts.{cut_after, cut_spelled}
 use Rattle.gx_model.proofs.Texts.Decimals.{decimal_digits, decimal_read}
@@ -29,7 +29,7 @@ use Rattle.gx_model.proofs.Records.OneHistory.{line_flat}
 -- ---- steps
 
 -- where two steps give something, so does the first, and the second with it
-pub both_steps : {A B : Type 0} (r : Stored A) (f : A → Stored B) (b : B) → and_then r f ≡ Ok b → (a : A) × (r ≡ Ok a) × (f a ≡ Ok b)
+pub both_steps : {A B : Type 0} (r : Stored A) (f : A → Stored B) (b : B) → (r >>= f) ≡ Ok b → (a : A) × (r ≡ Ok a) × (f a ≡ Ok b)
 both_steps (Ok a) f b e = (a, refl, e)
 both_steps (Err g) f b e = absurd (cc)
 
@@ -38,12 +38,12 @@ pub ok_is : {A : Type 0} (a b : A) → ◌≡◌ {A = Stored A} (Ok a) (Ok b) �
 ok_is a b e = cc
 
 -- what is read where a test holds
-pub if_there : {A : Type 0} (g : FileFault) (o : Option A) (x : A) → stored_if g o ≡ Ok x → o ≡ Some x
+pub if_there : {A : Type 0} (g : FileFault) (o : Option A) (x : A) → ok_or o g ≡ Ok x → o ≡ Some x
 if_there g None x e = absurd (cc)
 if_there g (Some y) x e = let s : y ≡ x = cc in ap Some s
 
 -- what is read unless there is a fault
-pub unless_holds : (b : Bool) (g : FileFault) (u : Unit {0}) → unless b g ≡ Ok u → b ≡ true
+pub unless_holds : (b : Bool) (g : FileFault) (u : Unit {0}) → only_if b g ≡ Ok u → b ≡ true
 unless_holds true g u e = refl
 unless_holds false g u e = absurd (cc)
 
@@ -72,7 +72,7 @@ line_of text l e = cut_spelled 10 text l (if_there fault.Truncated (cut_at 10 te
 
 -- a line before an LF is the first one
 pub line_read : (x r : Bytes) → lacks 10 x ≡ true → stored_line (x ++ 10 ∷ r) ≡ Ok (x, r)
-line_read x r h = ap (stored_if fault.Truncated) (cut_after 10 x r h)
+line_read x r h = ap (λ o. ok_or o fault.Truncated) (cut_after 10 x r h)
 
 -- a word's line is the first one
 pub word_line_read : (w x r : Bytes) → T (is_line w) → T (is_line x) → stored_line (line w x ++ r) ≡ Ok (w ++ 32 ∷ x, r)
@@ -118,13 +118,13 @@ decimal_line n h = passes _ (digits_are_line (decimal n) (decimal_digits n h))
 
 -- what is read in the line of a count
 abbrev count_rest : Bytes → Bytes × Bytes → Stored (ℕ × Bytes)
-count_rest w l = and_then (stored_if fault.BadRecord (option_and_then stored_number (after_word w l.0))) (λ n. Ok (n, l.1))
+count_rest w l = ok_or (option_and_then stored_number (after_word w l.0)) fault.BadRecord >>= λ n. Ok (n, l.1)
 
 -- a count stands in a line behind its word
 pub count_of : (w text : Bytes) (x : ℕ × Bytes) → stored_count w text ≡ Ok x → text ≡ line w (decimal x.0) ++ x.1
 count_of w text x e =
     let p = both_steps (stored_line text) (count_rest w) x e in
-    let q = both_steps (stored_if fault.BadRecord (option_and_then stored_number (after_word w p.0.0))) (λ n. Ok (n, p.0.1)) x p.2 in
+    let q = both_steps (ok_or (option_and_then stored_number (after_word w p.0.0)) fault.BadRecord) (λ n. Ok (n, p.0.1)) x p.2 in
     let k = both_some stored_number (after_word w p.0.0) q.0 (if_there fault.BadRecord (option_and_then stored_number (after_word w p.0.0)) q.0 q.1) in
     let spelled : p.0.0 ≡ w ++ 32 ∷ decimal q.0 = word_of w p.0.0 k.0 k.1 ∙ ap (λ z. w ++ 32 ∷ z) (number_of k.0 q.0 k.2) in
     let same : ◌≡◌ {A = ℕ × Bytes} (q.0, p.0.1) x = ok_is (q.0, p.0.1) x q.2 in
@@ -133,15 +133,15 @@ count_of w text x e =
 -- a count's line is read as the count
 pub count_read : (w : Bytes) (n : ℕ) (r : Bytes) → T (is_line w) → n < 2 ^ 64 → stored_count w (line w (decimal n) ++ r) ≡ Ok (n, r)
 count_read w n r h l =
-    ap (λ s. and_then s (count_rest w)) (word_line_read w (decimal n) r h (decimal_line n l))
-    ∙ ap (λ o. and_then (stored_if fault.BadRecord (option_and_then stored_number o)) (λ m. Ok (m, r))) (word_read w (decimal n))
-    ∙ ap (λ o. and_then (stored_if fault.BadRecord o) (λ m. Ok (m, r))) (number_read n l)
+    ap (λ s. s >>= count_rest w) (word_line_read w (decimal n) r h (decimal_line n l))
+    ∙ ap (λ o. ok_or (option_and_then stored_number o) fault.BadRecord >>= λ m. Ok (m, r)) (word_read w (decimal n))
+    ∙ ap (λ o. ok_or o fault.BadRecord >>= λ m. Ok (m, r)) (number_read n l)
 
 -- ---- the first line and the last
 
 -- what is read in the first line
 abbrev magic_rest : Bytes × Bytes → Stored (Version × Bytes)
-magic_rest l = and_then (stored_if fault.BadMagic (after_word (codes "gxstore") l.0)) (λ w. and_then (stored_if fault.BadVersion (version_of w)) (λ v. Ok (v, l.1)))
+magic_rest l = ok_or (after_word (codes "gxstore") l.0) fault.BadMagic >>= λ w. ok_or (version_of w) fault.BadVersion >>= λ v. Ok (v, l.1)
 
 -- a version is read from its text alone
 version_is : (x : Bytes) (v : Version) → version_of x ≡ Some v → x ≡ version_text v
@@ -159,8 +159,8 @@ version_is x v e = by (same_bytes x (version_text One)) (same_bytes x (version_t
 pub magic_of : (text : Bytes) (x : Version × Bytes) → after_magic text ≡ Ok x → text ≡ line (codes "gxstore") (version_text x.0) ++ x.1
 magic_of text x e =
     let p = both_steps (stored_line text) magic_rest x e in
-    let q = both_steps (stored_if fault.BadMagic (after_word (codes "gxstore") p.0.0)) (λ w. and_then (stored_if fault.BadVersion (version_of w)) (λ v. Ok (v, p.0.1))) x p.2 in
-    let u = both_steps (stored_if fault.BadVersion (version_of q.0)) (λ v. Ok (v, p.0.1)) x q.2 in
+    let q = both_steps (ok_or (after_word (codes "gxstore") p.0.0) fault.BadMagic) (λ w. ok_or (version_of w) fault.BadVersion >>= λ v. Ok (v, p.0.1)) x p.2 in
+    let u = both_steps (ok_or (version_of q.0) fault.BadVersion) (λ v. Ok (v, p.0.1)) x q.2 in
     let version = version_is q.0 u.0 (if_there fault.BadVersion (version_of q.0) u.0 u.1) in
     let spelled = word_of (codes "gxstore") p.0.0 q.0 (if_there fault.BadMagic (after_word (codes "gxstore") p.0.0) q.0 q.1) in
     let same : ◌≡◌ {A = Version × Bytes} (u.0, p.0.1) x = ok_is (u.0, p.0.1) x u.2 in
@@ -169,12 +169,12 @@ magic_of text x e =
 
 -- the first line is read
 pub magic_read : (v : Version) (rest : Bytes) → after_magic (line (codes "gxstore") (version_text v) ++ rest) ≡ Ok (v, rest)
-magic_read One rest = ap (λ s. and_then s magic_rest) (word_line_read (codes "gxstore") (version_text One) rest tt tt)
-magic_read Two rest = ap (λ s. and_then s magic_rest) (word_line_read (codes "gxstore") (version_text Two) rest tt tt)
+magic_read One rest = ap (λ s. s >>= magic_rest) (word_line_read (codes "gxstore") (version_text One) rest tt tt)
+magic_read Two rest = ap (λ s. s >>= magic_rest) (word_line_read (codes "gxstore") (version_text Two) rest tt tt)
 
 -- what is read in the last line
 abbrev end_rest : Bytes × Bytes → Stored (Unit {0})
-end_rest l = and_then (unless (same_bytes l.0 (codes "end")) fault.BadRecord) (λ u. unless (nat_eq (length l.1) 0) fault.TrailingBytes)
+end_rest l = only_if (same_bytes l.0 (codes "end")) fault.BadRecord >>= λ u. only_if (nat_eq (length l.1) 0) fault.TrailingBytes
 
 -- a text without a length is empty
 no_bytes : (x : Bytes) → nat_eq (length x) 0 ≡ true → x ≡ []
@@ -185,26 +185,26 @@ no_bytes (b ∷ bs) e = let n : nat_eq (length (b ∷ bs)) 0 ≡ false = grind (
 pub end_of : (text : Bytes) (u : Unit {0}) → stored_end text ≡ Ok u → text ≡ codes "end" ++ 10 ∷ []
 end_of text u e =
     let p = both_steps (stored_line text) end_rest u e in
-    let q = both_steps (unless (same_bytes p.0.0 (codes "end")) fault.BadRecord) (λ v. unless (nat_eq (length p.0.1) 0) fault.TrailingBytes) u p.2 in
+    let q = both_steps (only_if (same_bytes p.0.0 (codes "end")) fault.BadRecord) (λ v. only_if (nat_eq (length p.0.1) 0) fault.TrailingBytes) u p.2 in
     let word = same_is p.0.0 (codes "end") (passes _ (unless_holds (same_bytes p.0.0 (codes "end")) fault.BadRecord q.0 q.1)) in
     let none = no_bytes p.0.1 (unless_holds (nat_eq (length p.0.1) 0) fault.TrailingBytes u q.2) in
     line_of text p.0 p.1 ∙ (λ i. word i ++ 10 ∷ none i)
 
 -- the last line is read
 pub end_read : stored_end (codes "end" ++ 10 ∷ []) ≡ Ok tt
-end_read = ap (λ s. and_then s end_rest) (line_read (codes "end") [] refl)
+end_read = ap (λ s. s >>= end_rest) (line_read (codes "end") [] refl)
 
 -- ---- a body
 
 -- what is read of a text that is longer than the body
 abbrev body_rest : ℕ → Bytes → Stored (Bytes × Bytes)
-body_rest n text = and_then (unless (starts_with nat_eq (drop n text) (10 ∷ [])) fault.BadRecord) (λ v. Ok (take n text, drop (n + 1) text))
+body_rest n text = only_if (starts_with nat_eq (drop n text) (10 ∷ [])) fault.BadRecord >>= λ v. Ok (take n text, drop (n + 1) text)
 
 -- a body has its length, and an LF follows it
 pub body_of : (n : ℕ) (text : Bytes) (x : Bytes × Bytes) → stored_body n text ≡ Ok x → (text ≡ x.0 ++ 10 ∷ x.1) × (length x.0 ≡ n)
 body_of n text x e =
-    let p = both_steps (unless (nat_lt n (length text)) fault.Truncated) (λ u. body_rest n text) x e in
-    let q = both_steps (unless (starts_with nat_eq (drop n text) (10 ∷ [])) fault.BadRecord) (λ v. Ok (take n text, drop (n + 1) text)) x p.2 in
+    let p = both_steps (only_if (nat_lt n (length text)) fault.Truncated) (λ u. body_rest n text) x e in
+    let q = both_steps (only_if (starts_with nat_eq (drop n text) (10 ∷ [])) fault.BadRecord) (λ v. Ok (take n text, drop (n + 1) text)) x p.2 in
     let more : nat_lt n (length text) ≡ true = unless_holds (nat_lt n (length text)) fault.Truncated p.0 p.1 in
     let long : n < length text = grind (arith, nat_tests) in
     let size : length (take n text) ≡ n = omega (arith, length-take n text, long) in
@@ -223,8 +223,8 @@ body_read b r =
     let more : nat_lt (length b) (length text) ≡ true = longer (length b) (length text) (length r) size in
     let behind : drop (length b) text ≡ 10 ∷ r = drop_at b (10 ∷ r) (length b) refl in
     let ended : starts_with nat_eq (drop (length b) text) (10 ∷ []) ≡ true = (starts_is Decides-eqb (drop (length b) text) (10 ∷ []) _ refl).1 r behind in
-    ap (λ t. and_then (unless t fault.Truncated) (λ u. body_rest (length b) text)) more
-    ∙ ap (λ t. and_then (unless t fault.BadRecord) (λ u. Ok (take (length b) text, drop (length b + 1) text))) ended
+    ap (λ t. only_if t fault.Truncated >>= λ u. body_rest (length b) text) more
+    ∙ ap (λ t. only_if t fault.BadRecord >>= λ u. Ok (take (length b) text, drop (length b + 1) text)) ended
     ∙ (λ i. Ok (take_at b (10 ∷ r) (length b) refl i, drop-append-add b (10 ∷ r) 1 i))
   where
     longer : (n m k : ℕ) → m ≡ n + suc k → nat_lt n m ≡ true

@@ -6,14 +6,15 @@ use Rattle.gx_model.specs.declared.store_versions.Version.{Version}
 use Rattle.gx_model.specs.declared.store_faults.FileFault.{FileFault}
 use Rattle.gx_model.specs.declared.store_faults.FileFault.TheVariants as fault
 use Rattle.gx_model.specs.Texts.{Bytes}
-use Rattle.gx_model.specs.Faults.{and_then}
+use Rattle.gx_model.specs.Faults.{◌>>=◌}
 use Rattle.gx_model.specs.Objects.{IsNamer, line}
 use Rattle.gx_model.specs.Histories.{Record, record_for}
 use Rattle.gx_model.specs.Objects.Naming.{kind_word}
 use Rattle.gx_model.specs.Records.Sound.{IsSound}
 use Rattle.gx_model.specs.Records.RecordFaults.{record_fault}
 use Rattle.gx_model.specs.Stores.StoreText.{length_text, stored_record}
-use Rattle.gx_model.specs.Stores.StoreReading.{Length, Stored, admitted, is_named, next_record, next_records, record_line, stored_body, stored_if, stored_line, unless, with_record}
+use Rattle.gx_model.specs.Stores.StoreReading.{Length, Stored, admitted, is_stated, next_record, next_records, only_if, record_line, stored_body, stored_line, with_stored}
+use Rattle.std.specs.Option.{ok_or}
 use Rattle.gx_model.proofs.ObjectTexts.OneTree.{all_right}
 use Rattle.gx_model.proofs.Records.FirstRecords.{kept}
 use Rattle.gx_model.proofs.Records.TakenRecords.{fine, sound_with}
@@ -35,15 +36,15 @@ admitted_is rs r (Some f) more e = absurd (cc)
 module _ (name : Kind → Bytes → Bytes) (v : Version) where
   -- what is read once the body is
   abbrev taken_rest : List Record → Kind × Length → Bytes × Bytes → Stored (List Record × Bytes)
-  taken_rest rs k body = and_then (with_record name rs k.1.1 k.0 body.0) (λ more. Ok (more, body.1))
+  taken_rest rs k body = with_stored name rs k.1.1 k.0 body.0 >>= λ more. Ok (more, body.1)
 
   -- what is read once the record's line is
   abbrev body_then : List Record → Bytes → Kind × Length → Stored (List Record × Bytes)
-  body_then rs text k = and_then (stored_body k.1.0 text) (taken_rest rs k)
+  body_then rs text k = stored_body k.1.0 text >>= taken_rest rs k
 
   -- what is read in a record's line and behind it
   abbrev record_rest : List Record → Bytes × Bytes → Stored (List Record × Bytes)
-  record_rest rs l = and_then (stored_if fault.BadRecord (record_line v l.0)) (body_then rs l.1)
+  record_rest rs l = ok_or (record_line v l.0) fault.BadRecord >>= body_then rs l.1
 
   -- ---- what is read is spelled so
 
@@ -59,14 +60,14 @@ module _ (name : Kind → Bytes → Bytes) (v : Version) where
   pub record_of_text : (rs : List Record) (text : Bytes) (x : List Record × Bytes) → next_record name v rs text ≡ Ok x → IsOneMore rs text x
   record_of_text rs text x e =
       let p = both_steps (stored_line text) (record_rest rs) x e in
-      let k = both_steps (stored_if fault.BadRecord (record_line v p.0.0)) (body_then rs p.0.1) x p.2 in
+      let k = both_steps (ok_or (record_line v p.0.0) fault.BadRecord) (body_then rs p.0.1) x p.2 in
       let b = both_steps (stored_body k.0.1.0 p.0.1) (taken_rest rs k.0) x k.2 in
       let r = record_for name k.0.0 b.0.0 in
-      let t = both_steps (with_record name rs k.0.1.1 k.0.0 b.0.0) (λ more. Ok (more, b.0.1)) x b.2 in
-      let n = both_steps (unless (is_named k.0.1.1 r.name) fault.NameMismatch) (λ u. admitted rs r (record_fault rs r)) t.0 t.1 in
+      let t = both_steps (with_stored name rs k.0.1.1 k.0.0 b.0.0) (λ more. Ok (more, b.0.1)) x b.2 in
+      let n = both_steps (only_if (is_stated k.0.1.1 r.name) fault.NameMismatch) (λ u. admitted rs r (record_fault rs r)) t.0 t.1 in
       let a = admitted_is rs r (record_fault rs r) t.0 n.2 in
       let same : ◌≡◌ {A = List Record × Bytes} (t.0, b.0.1) x = ok_is (t.0, b.0.1) x t.2 in
-      let stated = unless_holds (is_named k.0.1.1 r.name) fault.NameMismatch n.0 n.1 in
+      let stated = unless_holds (is_stated k.0.1.1 r.name) fault.NameMismatch n.0 n.1 in
       let head = record_line_of v p.0.0 r.name k.0 (if_there fault.BadRecord (record_line v p.0.0) k.0 k.1) stated in
       let c = body_of k.0.1.0 p.0.1 b.0 b.1 in
       record {
@@ -119,11 +120,11 @@ module _ (name : Kind → Bytes → Bytes) (v : Version) where
       let w = kind_found k in
       let stated : Kind × Length = (k, (n, stated_name v r.name)) in
       ap (next_record name v rs) (record_flat v r rest)
-      ∙ ap (λ s. and_then s (record_rest rs)) (word_line_read (kind_word k) (length_text v n r.name) (body ++ 10 ∷ rest) w.2 (length_is_line v n r.name l))
-      ∙ ap (λ o. and_then (stored_if fault.BadRecord o) (body_then rs (body ++ 10 ∷ rest))) (record_line_read v k n r.name l (name_is_name name namer k body))
-      ∙ ap (λ s. and_then s (taken_rest rs stated)) (body_read body rest)
-      ∙ ap (λ b. and_then (and_then (unless b fault.NameMismatch) (λ u. admitted rs r (record_fault rs r))) (λ more. Ok (more, rest))) (stated_is_named v r.name)
-      ∙ ap (λ o. and_then (admitted rs r o) (λ more. Ok (more, rest))) f
+      ∙ ap (λ s. s >>= record_rest rs) (word_line_read (kind_word k) (length_text v n r.name) (body ++ 10 ∷ rest) w.2 (length_is_line v n r.name l))
+      ∙ ap (λ o. ok_or o fault.BadRecord >>= body_then rs (body ++ 10 ∷ rest)) (record_line_read v k n r.name l (name_is_name name namer k body))
+      ∙ ap (λ s. s >>= taken_rest rs stated) (body_read body rest)
+      ∙ ap (λ b. (only_if b fault.NameMismatch >>= λ u. admitted rs r (record_fault rs r)) >>= λ more. Ok (more, rest)) (stated_is_named v r.name)
+      ∙ ap (λ o. admitted rs r o >>= λ more. Ok (more, rest)) f
 
   -- the last records of a sound repository are read from their texts
   pub records_read : IsNamer name → (rs ms : List Record) (rest : Bytes) → IsSound name (record { records = rs ++ ms; refs = [] }) → AllByRecursion (λ r. length r.body < 2 ^ 64) ms
@@ -139,7 +140,7 @@ module _ (name : Kind → Bytes → Bytes) (v : Version) where
       let one = record_read namer rs m.kind m.body (flat_map (stored_record v) ms ++ rest) l.0 (fine name namer rs m.kind m.body (subst (λ z. IsSound name (record { records = rs ++ z ∷ []; refs = [] })) same front)) in
       ap (next_records name v (length (m ∷ ms)) rs) (append_assoc (stored_record v m) (flat_map (stored_record v) ms) rest)
       ∙ ap (λ z. next_records name v (length (m ∷ ms)) rs (stored_record v z ++ (flat_map (stored_record v) ms ++ rest))) same
-      ∙ ap (λ s. and_then s (λ y. next_records name v (length ms) y.0 y.1)) one
+      ∙ ap (λ s. s >>= λ y. next_records name v (length ms) y.0 y.1) one
       ∙ ap (λ z. next_records name v (length ms) (rs ++ z ∷ []) (flat_map (stored_record v) ms ++ rest)) (sym same)
       ∙ records_read namer (rs ++ m ∷ []) ms rest all l.1
       ∙ ap (λ z. Ok (z, rest)) (append_assoc rs (m ∷ []) ms)

@@ -3,7 +3,7 @@ use Rattle.std.proofs.Common.{◌≡◌, ℕ, zero, suc, Bool, true, false, cond
 use Rattle.std.specs.Prelude.{T, ◌&&◌, ⊤}
 use Rattle.std.specs.Bool.{passes}
 use Rattle.std.specs.List.{AllByRecursion, flat_map, list_all}
-use Rattle.std.specs.Option.{option_and_then}
+use Rattle.std.specs.Option.{ok_or, option_and_then}
 use Rattle.std.specs.Ordering.{is_lt, nat_cmp}
 use Rattle.std.specs.declared.cmp.Ordering.{Ordering}
 use Rattle.std.specs.declared.cmp.Ordering.TheVariants.{Less, Equal, Greater}
@@ -14,8 +14,8 @@ use Rattle.gx_model.specs.declared.objects.Kind.TheVariants as kind
 use Rattle.gx_model.specs.declared.store_faults.FileFault.TheVariants as fault
 use Rattle.gx_model.specs.Texts.{Bytes, cut_at}
 use Rattle.gx_model.specs.Texts.RefNames.{is_ref_name, tag_ref}
-use Rattle.gx_model.specs.Faults.{and_then}
-use Rattle.gx_model.specs.Histories.Values.{is_name_text}
+use Rattle.gx_model.specs.Faults.{◌>>=◌}
+use Rattle.gx_model.specs.Texts.Digits.{is_name_text}
 use Rattle.gx_model.specs.Objects.{IsNamer, IsTagText, TagParts, hex, is_name, unhex}
 use Rattle.gx_model.specs.Histories.{AreDistinct, Record}
 use Rattle.gx_model.specs.Records.HistoryOf.{tag_parts_in}
@@ -23,7 +23,7 @@ use Rattle.gx_model.specs.Records.Growth.{record_named}
 use Rattle.gx_model.specs.Records.Sound.{IsLinked, IsLinkedAfter, IsTarget}
 use Rattle.gx_model.specs.Records.RecordFaults.{is_body}
 use Rattle.gx_model.specs.Stores.StoreText.{stored_ref}
-use Rattle.gx_model.specs.Stores.StoreReading.{Stored, if_ref, is_after, is_less, is_target, is_target_of_kind, next_ref, next_refs, ref_line, stored_if, stored_line, unless}
+use Rattle.gx_model.specs.Stores.StoreReading.{Stored, if_ref, is_after, is_less, is_target, is_target_of_kind, next_ref, next_refs, only_if, ref_line, stored_line}
 use Rattle.gx_model.proofs.Texts.PathTests.{both, first, is_same, is_true, same_is, second}
 use Rattle.gx_model.proofs.Histories.PathRuns.{less_is}
 use Rattle.gx_model.proofs.Texts.Cuts.{cut_after, cut_spelled}
@@ -148,15 +148,15 @@ ref_line_read x n r =
 module _ (rs : List Record) where
   -- what is read once the target is found
   abbrev order_rest : Option Bytes → Bytes → Bytes × Bytes → Stored ((Bytes × Bytes) × Bytes)
-  order_rest last rest x = and_then (unless (is_after last x.0) fault.RefOrder) (λ u. Ok (x, rest))
+  order_rest last rest x = only_if (is_after last x.0) fault.RefOrder >>= λ u. Ok (x, rest)
 
   -- what is read once the ref's line is
   abbrev target_rest : Option Bytes → Bytes → Bytes × Bytes → Stored ((Bytes × Bytes) × Bytes)
-  target_rest last rest x = and_then (unless (is_target x.0 (record_named rs x.1)) fault.BadRef) (λ u. order_rest last rest x)
+  target_rest last rest x = only_if (is_target x.0 (record_named rs x.1)) fault.BadRef >>= λ u. order_rest last rest x
 
   -- what is read in a ref's line
   abbrev ref_rest : Option Bytes → Bytes × Bytes → Stored ((Bytes × Bytes) × Bytes)
-  ref_rest last l = and_then (stored_if fault.BadRef (ref_line l.0)) (target_rest last l.1)
+  ref_rest last l = ok_or (ref_line l.0) fault.BadRef >>= target_rest last l.1
 
   -- one ref is read: its name is one, its target is held, and it stands after the one before
   pub record IsOneRef (last : Option Bytes) (text : Bytes) (x : (Bytes × Bytes) × Bytes) : Type 0 where
@@ -169,9 +169,9 @@ module _ (rs : List Record) where
   pub ref_of_text : (last : Option Bytes) (text : Bytes) (x : (Bytes × Bytes) × Bytes) → next_ref rs last text ≡ Ok x → IsOneRef last text x
   ref_of_text last text x e =
       let p = both_steps (stored_line text) (ref_rest last) x e in
-      let r = both_steps (stored_if fault.BadRef (ref_line p.0.0)) (target_rest last p.0.1) x p.2 in
-      let t = both_steps (unless (is_target r.0.0 (record_named rs r.0.1)) fault.BadRef) (λ u. order_rest last p.0.1 r.0) x r.2 in
-      let o = both_steps (unless (is_after last r.0.0) fault.RefOrder) (λ u. Ok (r.0, p.0.1)) x t.2 in
+      let r = both_steps (ok_or (ref_line p.0.0) fault.BadRef) (target_rest last p.0.1) x p.2 in
+      let t = both_steps (only_if (is_target r.0.0 (record_named rs r.0.1)) fault.BadRef) (λ u. order_rest last p.0.1 r.0) x r.2 in
+      let o = both_steps (only_if (is_after last r.0.0) fault.RefOrder) (λ u. Ok (r.0, p.0.1)) x t.2 in
       let same : ◌≡◌ {A = (Bytes × Bytes) × Bytes} (r.0, p.0.1) x = ok_is (r.0, p.0.1) x o.2 in
       let l = ref_line_of p.0.0 r.0 (if_there fault.BadRef (ref_line p.0.0) r.0 r.1) in
       subst (IsOneRef last text) same (record {
@@ -185,10 +185,10 @@ module _ (rs : List Record) where
   pub ref_read : (last : Option Bytes) (x : Bytes × Bytes) (rest : Bytes) → T (is_name x.1) → T (is_ref_name x.0) → is_target x.0 (record_named rs x.1) ≡ true → is_after last x.0 ≡ true
       → next_ref rs last (stored_ref x ++ rest) ≡ Ok (x, rest)
   ref_read last x rest n r t a =
-      ap (λ s. and_then s (ref_rest last)) (word_line_read (hex x.1) x.0 rest (hex_line x.1) (passes _ (ref_is_line x.0 (is_true _ r))))
-      ∙ ap (λ o. and_then (stored_if fault.BadRef o) (target_rest last rest)) (ref_line_read x n r)
-      ∙ ap (λ b. and_then (unless b fault.BadRef) (λ u. order_rest last rest x)) t
-      ∙ ap (λ b. and_then (unless b fault.RefOrder) (λ u. Ok (x, rest))) a
+      ap (λ s. s >>= ref_rest last) (word_line_read (hex x.1) x.0 rest (hex_line x.1) (passes _ (ref_is_line x.0 (is_true _ r))))
+      ∙ ap (λ o. ok_or o fault.BadRef >>= target_rest last rest) (ref_line_read x n r)
+      ∙ ap (λ b. only_if b fault.BadRef >>= λ u. order_rest last rest x) t
+      ∙ ap (λ b. only_if b fault.RefOrder >>= λ u. Ok (x, rest)) a
 
   -- ---- all refs
 
@@ -212,7 +212,7 @@ module _ (rs : List Record) where
       let same : ◌≡◌ {A = List (Bytes × Bytes) × Bytes} ([], text) x = ok_is ([], text) x e in
       subst (AreRefs last zero text) same (record { count = refl; spelled = refl; named = tt; targets = tt; before = no_refs_before last; sorted = tt })
   refs_of_text (suc n) last text x e =
-      let p = both_steps (next_ref rs last text) (λ y. and_then (next_refs n rs (Some y.0.0) y.1) (λ ys. Ok (y.0 ∷ ys.0, ys.1))) x e in
+      let p = both_steps (next_ref rs last text) (λ y. next_refs n rs (Some y.0.0) y.1 >>= λ ys. Ok (y.0 ∷ ys.0, ys.1)) x e in
       let q = both_steps (next_refs n rs (Some p.0.0.0) p.0.1) (λ ys. Ok (p.0.0 ∷ ys.0, ys.1)) x p.2 in
       let o = ref_of_text last text p.0 p.1 in
       let m = refs_of_text n (Some p.0.0.0) p.0.1 q.0 q.1 in
@@ -235,8 +235,8 @@ module _ (rs : List Record) where
       let more = refs_read (Some x.0) xs rest n.1 (second (is_ref_name x.0) (list_all (λ r. is_ref_name r.0) xs) r) t.1
       (first (below_all (slice_cmp nat_cmp) x.0 xs) (is_sorted (slice_cmp nat_cmp) xs) s) (second (below_all (slice_cmp nat_cmp) x.0 xs) (is_sorted (slice_cmp nat_cmp) xs) s) in
       ap (next_refs (length (x ∷ xs)) rs last) (append_assoc (stored_ref x) (flat_map stored_ref xs) rest)
-      ∙ ap (λ t. and_then t (λ y. and_then (next_refs (length xs) rs (Some y.0.0) y.1) (λ ys. Ok (y.0 ∷ ys.0, ys.1)))) one
-      ∙ ap (λ t. and_then t (λ ys. Ok (x ∷ ys.0, ys.1))) more
+      ∙ ap (λ t. t >>= λ y. next_refs (length xs) rs (Some y.0.0) y.1 >>= λ ys. Ok (y.0 ∷ ys.0, ys.1)) one
+      ∙ ap (λ t. t >>= λ ys. Ok (x ∷ ys.0, ys.1)) more
 
 -- ---- sound refs
 

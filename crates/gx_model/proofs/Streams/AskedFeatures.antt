@@ -10,7 +10,7 @@ use Rattle.gx_model.specs.Texts.{Bytes, cut_at}
 use Rattle.gx_model.specs.Histories.{History}
 use Rattle.gx_model.specs.Streams.Items.{Item, Line, Data, End, Finished, Failed, Stream, items_of, then_comes}
 use Rattle.gx_model.specs.Streams.Commands.{Asks, Command, Commands, Done}
-use Rattle.gx_model.specs.Streams.Grammar.{Read, asked, asks_done, command_at, commands_asked, commands_of, commands_within, is_done, is_option, stops, with_first, words_of}
+use Rattle.gx_model.specs.Streams.Grammar.{Read, asked, asks_done, command_at, commands_asked, commands_of, commands_within, is_done, is_option, stops, with_command, words_of}
 use Rattle.gx_model.specs.Changes.{sending_commands}
 use Rattle.gx_model.specs.Export.{command_items, inner_commands, item_text, reached_commits}
 use Rattle.gx_model.specs.Replay.{begun, replayed, replayed_commands}
@@ -41,20 +41,20 @@ same_before (suc n) front before (Line (b ∷ bs) ∷ more) end p q = by (comman
       → ((c : Command) (t : Stream) → commands_within n (front ++ c ∷ []) t.items t.end ≡ commands_within n (before ++ c ∷ []) t.items t.end)
       → commands_within (suc n) front (Line (b ∷ bs) ∷ more) end ≡ commands_within (suc n) before (Line (b ∷ bs) ∷ more) end
   by (Err f) e again = rw (p, e) refl
-  by (Ok x) e again = rw (p, e) (ap (λ cs. if is_done x.0 then with_first x.0 (stops None) else with_first x.0 cs) (again x.0 x.1))
+  by (Ok x) e again = rw (p, e) (ap (λ cs. if is_done x.0 then with_command x.0 (stops None) else with_command x.0 cs) (again x.0 x.1))
 
 -- ---- the lines
 
-asks_done_first : (n : ℕ) (rest : List Item) (end : End) → commands_within (suc n) [] (Line (codes "feature done") ∷ rest) end ≡ with_first (Asks features.Done) (commands_within n (Asks features.Done ∷ []) rest end)
+asks_done_first : (n : ℕ) (rest : List Item) (end : End) → commands_within (suc n) [] (Line (codes "feature done") ∷ rest) end ≡ with_command (Asks features.Done) (commands_within n (Asks features.Done ∷ []) rest end)
 unfolding commands_within command_at cut_at
 asks_done_first n rest end = refl
 
-asks_force : (n : ℕ) (rest : List Item) (end : End) → commands_within (suc n) [] (Line (codes "feature force") ∷ rest) end ≡ with_first (Asks features.Force) (commands_within n (Asks features.Force ∷ []) rest end)
+asks_force : (n : ℕ) (rest : List Item) (end : End) → commands_within (suc n) [] (Line (codes "feature force") ∷ rest) end ≡ with_command (Asks features.Force) (commands_within n (Asks features.Force ∷ []) rest end)
 unfolding commands_within command_at cut_at
 asks_force n rest end = refl
 
 then_force : (n : ℕ) (rest : List Item) (end : End) → commands_within (suc n) (Asks features.Done ∷ []) (Line (codes "feature force") ∷ rest) end
-    ≡ with_first (Asks features.Force) (commands_within n (Asks features.Done ∷ Asks features.Force ∷ []) rest end)
+    ≡ with_command (Asks features.Force) (commands_within n (Asks features.Done ∷ Asks features.Force ∷ []) rest end)
 unfolding commands_within command_at cut_at
 then_force n rest end = refl
 
@@ -66,7 +66,7 @@ commands_of_both false false s = refl
 commands_of_both true false s = asks_done_first (length s.items) s.items s.end
 commands_of_both false true s = asks_force (length s.items) s.items s.end
 commands_of_both true true s =
-    asks_done_first (suc (length s.items)) (Line (codes "feature force") ∷ s.items) s.end ∙ ap (with_first (Asks features.Done)) (then_force (length s.items) s.items s.end)
+    asks_done_first (suc (length s.items)) (Line (codes "feature force") ∷ s.items) s.end ∙ ap (with_command (Asks features.Done)) (then_force (length s.items) s.items s.end)
 
 pub commands_are_asked : CommandsAreAsked
 commands_are_asked f s = commands_of_both f.done f.force s
@@ -84,7 +84,7 @@ replays_are_asked name f h s = ap (replayed_commands name h) (commands_are_asked
 -- ---- a stream that asks for `done` itself
 
 first_asks : (done force : Bool) (n : ℕ) (rest : List Item) (end : End) → commands_within (suc n) (asked (both done force)) (Line (codes "feature done") ∷ rest) end
-    ≡ with_first (Asks features.Done) (commands_within n (asked (both done force) ++ Asks features.Done ∷ []) rest end)
+    ≡ with_command (Asks features.Done) (commands_within n (asked (both done force) ++ Asks features.Done ∷ []) rest end)
 unfolding commands_within command_at cut_at
 first_asks true true n rest end = refl
 first_asks true false n rest end = refl
@@ -107,7 +107,7 @@ any_asks false false = refl
 asked_once : (f : Features) (n : ℕ) (rest : List Item) (end : End) → commands_within (suc n) (asked f) (Line (codes "feature done") ∷ rest) end ≡ commands_within (suc n) [] (Line (codes "feature done") ∷ rest) end
 asked_once f n rest end =
     first_asks f.done f.force n rest end
-    ∙ ap (with_first (Asks features.Done)) (same_before n (asked f ++ Asks features.Done ∷ []) (Asks features.Done ∷ []) rest end (all_options f.done f.force) (any_asks f.done f.force))
+    ∙ ap (with_command (Asks features.Done)) (same_before n (asked f ++ Asks features.Done ∷ []) (Asks features.Done ∷ []) rest end (all_options f.done f.force) (any_asks f.done f.force))
     ∙ sym (asks_done_first n rest end)
 
 -- a text that begins with that line

@@ -10,7 +10,7 @@ use Rattle.gx_model.specs.Streams.Items.{Item, Line, Data, End, Finished, Failed
 use Rattle.gx_model.specs.Streams.Commands.{CommitIsh, DataRef, Mark, Object, Inline, Change, Modify, Remove, Copy, Rename, Clear}
 use Rattle.gx_model.specs.Streams.Grammar.{Read, Where, AtMark, AtName, AtBlock, words_of, mode_of, where_of, suits, bytes_from, modify_at, change_at, changes_within, changes, merges_within, merges, optional, commit_ish_of}
 use Rattle.gx_model.specs.Streams.LineShapes.{line_of, IsOfNone, IsOfOne, BeginsPart, IsCommitIshText, IsModeText, IsDataRefText, IsLastPath, AreTwoPaths}
-use Rattle.gx_model.specs.Streams.CommandShapes.{all_change_words, Taken, Optional, Block, Repeated, no_more, one_more, next_fault, later_fault, Content, content_of_mark, content_of_name, content_of_block, no_content, Unfit, mark_of_gitlink, block_of_gitlink, BeginsModify, IsModify, modify, bad_mode, no_dataref, bad_dataref, unfit_dataref, no_path, bad_path, no_block, made, refused, of_text, text_fault, IsChange, modified, removed, copied, renamed, cleared, clear_of_text, change_without_text, note, no_change_at_line, no_change_at_block, no_change_at_end, change_failure}
+use Rattle.gx_model.specs.Streams.CommandShapes.{all_change_words, Optional, Block, Repeated, no_more, one_more, next_fault, later_fault, Content, content_of_mark, content_of_name, content_of_block, no_content, Unfit, mark_of_gitlink, block_of_gitlink, BeginsModify, IsModify, modify, bad_mode, no_dataref, bad_dataref, unfit_dataref, no_path, bad_path, no_block, made, refused, of_text, text_fault, IsChange, modified, removed, copied, renamed, cleared, clear_of_text, change_without_text, note, no_change_at_line, no_change_at_block, no_change_at_end, change_failure, TakenFrom}
 use Rattle.gx_model.proofs.Streams.WordShapes.{part_read, part_there, other_word, which_word}
 use Rattle.gx_model.proofs.Streams.TextShapes.{mode_shape, mode_there, dataref_shape, dataref_there, commit_ish_shape}
 use Rattle.gx_model.proofs.Streams.PathShapes.{last_shape, last_there, two_shape, two_there}
@@ -18,17 +18,17 @@ use Rattle.gx_model.proofs.Streams.PartShapes.{stream, as_read, IsPartOf, IsWhol
 
 -- ---- the content of a modify
 
-content_shape : (end : End) (at : Where) (is : List Item) (out : Taken DataRef) → Content end at is out → bytes_from at (stream end is) ≡ as_read end out
+content_shape : (end : End) (at : Where) (is : List Item) (out : TakenFrom DataRef) → Content end at is out → bytes_from at (stream end is) ≡ as_read end out
 content_shape end at is out content_of_mark = refl
 content_shape end at is out content_of_name = refl
 content_shape end at is out (content_of_block {bytes = bytes} {rest = rest} h) = rw (block_shape end is (Ok (bytes, rest)) h) refl
 content_shape end at is out (no_content {f = f} h) = rw (block_shape end is (Err f) h) refl
 
-content_there : (end : End) (at : Where) (is : List Item) → (out : Taken DataRef) × Content end at is out
+content_there : (end : End) (at : Where) (is : List Item) → (out : TakenFrom DataRef) × Content end at is out
 content_there end (AtMark n) is = (Ok (Mark n, is), content_of_mark)
 content_there end (AtName x) is = (Ok (Object x, is), content_of_name)
 content_there end AtBlock is = let o = block_there end is in by o.0 o.1 where
-  by : (o : Taken Bytes) → Block end is o → (out : Taken DataRef) × Content end AtBlock is out
+  by : (o : TakenFrom Bytes) → Block end is o → (out : TakenFrom DataRef) × Content end AtBlock is out
   by (Ok (b, rest)) h = (Ok (Inline b, rest), content_of_block h)
   by (Err f) h = (Err f, no_content h)
 
@@ -74,7 +74,7 @@ front_read text m at path h = record {
   dataref = dataref_shape h.dataref (Ok at) h.dataref_is;
 }
 
-modify_shape : (end : End) (text : Bytes) (is : List Item) (out : Taken Change) → IsModify text end is out → modify_at text (stream end is) ≡ as_read end out
+modify_shape : (end : End) (text : Bytes) (is : List Item) (out : TakenFrom Change) → IsModify text end is out → modify_at text (stream end is) ≡ as_read end out
 unfolding modify_at
 modify_shape end text is out (modify {path = path} {m = m} {at = at} {p = p} {content = content} {rest = rest} a e f g) =
     let r = front_read text m at (Some path) a in
@@ -97,12 +97,12 @@ modify_shape end text is out (no_block {path = path} {m = m} {at = at} {p = p} {
     rw (r.mode_first, r.mode, r.dataref_next, r.dataref, fit m at e, last_shape path (Ok p) g, content_shape end at is (Err f) h) refl
 
 abbrev SomeModify : End → Bytes → List Item → Type 0
-SomeModify end text is = (out : Taken Change) × IsModify text end is out
+SomeModify end text is = (out : TakenFrom Change) × IsModify text end is out
 
 modify_there : (end : End) (text : Bytes) (is : List Item) → SomeModify end text is
 modify_there end text is = let a = part_there text in let b = mode_there a.0 in of_mode a.0 a.1 a.2 b.0 b.1 where
   of_content : (path : Bytes) (m : Mode) (at : Where) (p : Path) → BeginsModify text m at (Some path) → (Unfit m at → ⊥) → IsLastPath path (Ok p)
-      → (o : Taken DataRef) → Content end at is o → SomeModify end text is
+      → (o : TakenFrom DataRef) → Content end at is o → SomeModify end text is
   of_content path m at p a e f (Ok (x, rest)) g = (Ok (Modify m x p, rest), modify a e f g)
   of_content path m at p a e f (Err z) g = (Err z, no_block a e f g)
 
@@ -135,12 +135,12 @@ modify_no_longer end text is x rest (modify {at = at} {content = content} a e f 
 -- ---- a change
 
 -- the change at a line, as the function gives it
-as_change : End → Taken (Option Change) → Option (Read Change)
+as_change : End → TakenFrom (Option Change) → Option (Read Change)
 as_change end (Ok (None, rest)) = None
 as_change end (Ok (Some c, rest)) = Some (Ok (c, stream end rest))
 as_change end (Err f) = Some (Err f)
 
-change_at_line : (end : End) (line : Bytes) (more : List Item) (out : Taken (Option Change)) → IsChange end (Line line ∷ more) out → change_at (words_of line) (stream end more) ≡ as_change end out
+change_at_line : (end : End) (line : Bytes) (more : List Item) (out : TakenFrom (Option Change)) → IsChange end (Line line ∷ more) out → change_at (words_of line) (stream end more) ≡ as_change end out
 unfolding change_at cut_at as_change
 change_at_line end line more out (modified {text = text} (made {rest = rest} {x = c} h)) = rw (modify_shape end text more (Ok (c, rest)) h) refl
 change_at_line end line more out (modified {text = text} (refused {f = f} h)) = rw (modify_shape end text more (Err f) h) refl
@@ -163,14 +163,14 @@ change_at_line end line more out (no_change_at_line h) =
     rw (other_word (codes "M") line h.0, other_word (codes "D") line h.1.0, other_word (codes "C") line h.1.1.0, other_word (codes "R") line h.1.1.1.0, other_word (codes "deleteall") line h.1.1.1.1.0, other_word (codes "N") line h.1.1.1.1.1.0) refl
 
 abbrev SomeChange : End → List Item → Bytes → Type 0
-SomeChange end rest line = (out : Taken (Option Change)) × IsChange end (Line line ∷ rest) out
+SomeChange end rest line = (out : TakenFrom (Option Change)) × IsChange end (Line line ∷ rest) out
 
 pub change_there : IsWhole IsChange
 change_there end (Data b ∷ rest) = (Ok (None, Data b ∷ rest), no_change_at_block)
 change_there Finished [] = (Ok (None, []), no_change_at_end refl)
 change_there (Failed f) [] = (Err f, change_failure refl)
 change_there end (Line line ∷ rest) = by (which_word all_change_words line refl) where
-  modifies : (text : Bytes) (o : Taken Change) → IsModify text end rest o → SomeChange end rest (line_of (codes "M") text)
+  modifies : (text : Bytes) (o : TakenFrom Change) → IsModify text end rest o → SomeChange end rest (line_of (codes "M") text)
   modifies text (Ok (c, more)) h = (Ok (Some c, more), modified (made h))
   modifies text (Err f) h = (Err f, modified (refused h))
 
@@ -224,41 +224,41 @@ change_no_longer end is None rest h = rw (unchanged end is rest h) (omega arith)
 -- ---- all changes
 
 -- one change, and the changes after it
-goes_on : ℕ → End → Taken (Option Change) → Read (List Change)
+goes_on : ℕ → End → TakenFrom (Option Change) → Read (List Change)
 goes_on n end (Ok (None, rest)) = Ok ([], stream end rest)
 goes_on n end (Err f) = Err f
 goes_on n end (Ok (Some c, rest)) = changes_within n rest (stream end rest) >>= λ xs. Ok (c ∷ xs.0, xs.1)
 
-line_goes_on : (n : ℕ) (end : End) (line : Bytes) (more : List Item) (out : Taken (Option Change)) → change_at (words_of line) (stream end more) ≡ as_change end out
+line_goes_on : (n : ℕ) (end : End) (line : Bytes) (more : List Item) (out : TakenFrom (Option Change)) → change_at (words_of line) (stream end more) ≡ as_change end out
     → ((rest : List Item) → out ≡ Ok (None, rest) → rest ≡ Line line ∷ more) → changes_within (suc n) (Line line ∷ more) (stream end (Line line ∷ more)) ≡ goes_on n end out
 unfolding changes_within as_change goes_on
 line_goes_on n end line more (Ok (None, rest)) e same = rw (e, same rest refl) refl
 line_goes_on n end line more (Ok (Some c, rest)) e same = rw e refl
 line_goes_on n end line more (Err f) e same = rw e refl
 
-block_goes_on : (n : ℕ) (end : End) (b : Bytes) (more : List Item) (out : Taken (Option Change)) → IsChange end (Data b ∷ more) out → changes_within (suc n) (Data b ∷ more) (stream end (Data b ∷ more)) ≡ goes_on n end out
+block_goes_on : (n : ℕ) (end : End) (b : Bytes) (more : List Item) (out : TakenFrom (Option Change)) → IsChange end (Data b ∷ more) out → changes_within (suc n) (Data b ∷ more) (stream end (Data b ∷ more)) ≡ goes_on n end out
 unfolding changes_within goes_on
 block_goes_on n end b more out no_change_at_block = refl
 
-end_goes_on : (n m : ℕ) (end : End) (out : Taken (Option Change)) → IsChange end [] out → changes_within n [] (stream end []) ≡ goes_on m end out
+end_goes_on : (n m : ℕ) (end : End) (out : TakenFrom (Option Change)) → IsChange end [] out → changes_within n [] (stream end []) ≡ goes_on m end out
 unfolding changes_within goes_on
 end_goes_on n m end out (no_change_at_end e) = rw e refl
 end_goes_on n m end out (change_failure e) = rw e refl
 
-change_goes_on : (n : ℕ) (end : End) (is : List Item) (out : Taken (Option Change)) → length is ≤ suc n → IsChange end is out → changes_within (suc n) is (stream end is) ≡ goes_on n end out
+change_goes_on : (n : ℕ) (end : End) (is : List Item) (out : TakenFrom (Option Change)) → length is ≤ suc n → IsChange end is out → changes_within (suc n) is (stream end is) ≡ goes_on n end out
 change_goes_on n end [] out l h = end_goes_on (suc n) n end out h
 change_goes_on n end (Data b ∷ more) out l h = block_goes_on n end b more out h
 change_goes_on n end (Line line ∷ more) out l h =
     line_goes_on n end line more out (change_at_line end line more out h) (λ rest e. unchanged end (Line line ∷ more) rest (rw e at h))
 
-changes_at_end : (n : ℕ) (end : End) (out : Taken (List Change)) → Repeated IsChange end [] out → changes_within n [] (stream end []) ≡ as_read end out
+changes_at_end : (n : ℕ) (end : End) (out : TakenFrom (List Change)) → Repeated IsChange end [] out → changes_within n [] (stream end []) ≡ as_read end out
 unfolding goes_on
 changes_at_end n end out (no_more {rest = rest} h) = end_goes_on n n end (Ok (None, rest)) h ∙ refl
 changes_at_end n end out (one_more {more = more} {x = x} h k) = let l = change_shorter end [] x more h in absurd (omega (arith, l))
 changes_at_end n end out (next_fault {f = f} h) = end_goes_on n n end (Err f) h
 changes_at_end n end out (later_fault {more = more} {x = x} h k) = let l = change_shorter end [] x more h in absurd (omega (arith, l))
 
-changes_in : (n : ℕ) (end : End) (is : List Item) (out : Taken (List Change)) → length is ≤ n → Repeated IsChange end is out → changes_within n is (stream end is) ≡ as_read end out
+changes_in : (n : ℕ) (end : End) (is : List Item) (out : TakenFrom (List Change)) → length is ≤ n → Repeated IsChange end is out → changes_within n is (stream end is) ≡ as_read end out
 unfolding goes_on
 changes_in n end [] out l h = changes_at_end n end out h
 changes_in zero end (i ∷ is) out l h = absurd (omega (arith, l))
@@ -276,10 +276,10 @@ changes_shape end is out h = changes_in (length is) end is out (omega arith) h
 
 -- ---- merge lines
 
-merge_shape : (end : End) (is : List Item) (out : Taken (Option CommitIsh)) → Optional (codes "merge") IsCommitIshText end is out → optional (codes "merge") commit_ish_of (stream end is) ≡ as_read end out
+merge_shape : (end : End) (is : List Item) (out : TakenFrom (Option CommitIsh)) → Optional (codes "merge") IsCommitIshText end is out → optional (codes "merge") commit_ish_of (stream end is) ≡ as_read end out
 merge_shape = optional_shape (codes "merge") IsCommitIshText commit_ish_of refl commit_ish_shape
 
-merges_in : (n : ℕ) (end : End) (is : List Item) (out : Taken (List CommitIsh)) → length is < n → Repeated (Optional (codes "merge") IsCommitIshText) end is out → merges_within n (stream end is) ≡ as_read end out
+merges_in : (n : ℕ) (end : End) (is : List Item) (out : TakenFrom (List CommitIsh)) → length is < n → Repeated (Optional (codes "merge") IsCommitIshText) end is out → merges_within n (stream end is) ≡ as_read end out
 unfolding merges_within
 merges_in zero end is out l h = absurd (omega (arith, l))
 merges_in (suc n) end is out l (no_more {rest = rest} h) = rw (merge_shape end is (Ok (None, rest)) h) refl

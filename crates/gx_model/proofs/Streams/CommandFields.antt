@@ -10,10 +10,9 @@ use Rattle.std.proofs.lemmas.Bool.Decides.{nat_tests}
 use Rattle.std.proofs.lemmas.Slice.Eq.{bytes_eq-Decides}
 use Rattle.gx_model.specs.Texts.{Bytes, lacks}
 use Rattle.gx_model.specs.Texts.Paths.{Path, is_component, path_text, printed}
-use Rattle.gx_model.specs.Histories.Values.{is_name_text, is_hex_digit}
+use Rattle.gx_model.specs.Texts.Digits.{is_any_digit, is_any_name_text, is_lower_digit, is_name_text}
 use Rattle.gx_model.specs.Streams.Commands.{Marked, Named}
-use Rattle.gx_model.specs.Streams.Grammar as read
-use Rattle.gx_model.specs.Streams.Grammar.{mark_of, of_mark, mark_number, commit_ish_of, commit_ish_by, last_path, is_name, AtMark, AtName, where_of, where_by}
+use Rattle.gx_model.specs.Streams.Grammar.{mark_of, of_mark, mark_number, commit_ish_of, commit_ish_by, last_path, AtMark, AtName, where_of, where_by}
 use Rattle.gx_model.specs.Laws.ExportLaws.{IsMark, IsLink, IsPath}
 use Rattle.gx_model.proofs.Texts.Idents.{and_one, and_two}
 use Rattle.gx_model.proofs.Texts.Decimals.{decimal_digits, decimal_read}
@@ -50,37 +49,37 @@ digit_no_space b e = grind (arith, nat_tests)
 pub mark_no_space : (n : ℕ) → n < 2 ^ 64 → lacks 32 (58 ∷ decimal n) ≡ true
 mark_no_space n h = lacks-by is_ascii_digit digit_no_space (decimal n) (decimal_digits n h)
 
-hex_no_space : (b : ℕ) → is_hex_digit b ≡ true → (b == 32) ≡ false
+hex_no_space : (b : ℕ) → is_lower_digit b ≡ true → (b == 32) ≡ false
 hex_no_space b e = grind (arith, nat_tests)
 
-pub all_hex : (x : Bytes) → is_name_text x ≡ true → list_all is_hex_digit x ≡ true
+pub all_hex : (x : Bytes) → is_name_text x ≡ true → list_all is_lower_digit x ≡ true
 all_hex x h = and_two (nat_eq (length x) 40) _ h
 
 pub link_no_space : (x : Bytes) → is_name_text x ≡ true → lacks 32 x ≡ true
-link_no_space x h = lacks-by is_hex_digit hex_no_space x (all_hex x h)
+link_no_space x h = lacks-by is_lower_digit hex_no_space x (all_hex x h)
 
 -- ---- a gitlink's digits
 
-hex_any : (b : ℕ) → is_hex_digit b ≡ true → read.is_hex_digit b ≡ true
+hex_any : (b : ℕ) → is_lower_digit b ≡ true → is_any_digit b ≡ true
 hex_any b e = grind (arith, nat_tests)
 
-hex_each : (x : Bytes) → list_all is_hex_digit x ≡ true → list_all read.is_hex_digit x ≡ true
+hex_each : (x : Bytes) → list_all is_lower_digit x ≡ true → list_all is_any_digit x ≡ true
 hex_each [] e = refl
-hex_each (b ∷ bs) e = rw (hex_any b (and_one (is_hex_digit b) _ e)) (hex_each bs (and_two (is_hex_digit b) _ e))
+hex_each (b ∷ bs) e = rw (hex_any b (and_one (is_lower_digit b) _ e)) (hex_each bs (and_two (is_lower_digit b) _ e))
 
-pub hex_no_colon : (b : ℕ) → is_hex_digit b ≡ true → (b == 58) ≡ false
+pub hex_no_colon : (b : ℕ) → is_lower_digit b ≡ true → (b == 58) ≡ false
 hex_no_colon b e = grind (arith, nat_tests)
 
 pub not_inline : (x : Bytes) → is_name_text x ≡ true → bytes_eq x (codes "inline") ≡ false
 not_inline x h = false_from_ne_true _ (λ t. false≢true (ap is_name_text (sym ((bytes_eq-Decides x (codes "inline")).0 t)) ∙ h))
 
-is_name_is : (x : Bytes) → is_name_text x ≡ true → is_name x ≡ true
+is_name_is : (x : Bytes) → is_name_text x ≡ true → is_any_name_text x ≡ true
 is_name_is x h = rw (hex_each x (all_hex x h)) (and_one (nat_eq (length x) 40) _ h)
 
 pub where_link : (x : Bytes) → IsLink x → where_of x ≡ Ok (AtName x)
 where_link [] h = absurd (false≢true h.0)
 where_link (b ∷ bs) h =
-    let c = hex_no_colon b (and_one (is_hex_digit b) _ (all_hex (b ∷ bs) h.0)) in
+    let c = hex_no_colon b (and_one (is_lower_digit b) _ (all_hex (b ∷ bs) h.0)) in
     ap (λ t. where_by (b ∷ bs) (cond t (Some (mark_number bs)) None)) c ∙ rw (not_inline (b ∷ bs) h.0, h.1, is_name_is (b ∷ bs) h.0) refl
 
 -- ---- a commit's digits
@@ -93,7 +92,7 @@ pub commit_ish_digits : (x : Bytes) → is_name_text x ≡ true → commit_ish_o
 unfolding commit_ish_of
 commit_ish_digits [] h = absurd (false≢true h)
 commit_ish_digits (b ∷ bs) h =
-    let c = hex_no_colon b (and_one (is_hex_digit b) _ (all_hex (b ∷ bs) h)) in
+    let c = hex_no_colon b (and_one (is_lower_digit b) _ (all_hex (b ∷ bs) h)) in
     let x = (b ∷ bs) ++ codes "^0" in
     ap (λ t. commit_ish_by x (cond t (Some (mark_number (bs ++ codes "^0"))) None)) c ∙ rw (not_zeros (b ∷ bs)) refl
 

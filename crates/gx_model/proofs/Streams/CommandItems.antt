@@ -16,10 +16,10 @@ use Rattle.gx_model.specs.Faults.{Given, ◌>>=◌}
 use Rattle.gx_model.specs.Streams.Items.{Item, Line, Data, Finished, Stream}
 use Rattle.gx_model.specs.Streams.Commands.{CommitIsh, Marked, Named, DataRef, Mark, Object, Inline, Change, Modify, Remove, Copy, Rename, Clear, Command, Commands}
 use Rattle.gx_model.specs.Streams.Commands as command
-use Rattle.gx_model.specs.Streams.Grammar.{words_of, is_word, rest_line_in, optional, block_in, commit_ish_of, merges_within, item_after_in, unsigned_in, blob_at, commit_at, links_at, read_some, ident_of, encoding_of, ref_of, tag_of, item_after, tag_at, reset_at, command_at, commands_within, commands_of, is_option, is_done, with_first}
+use Rattle.gx_model.specs.Streams.Grammar.{words_of, is_word, rest_line_in, optional, block_in, commit_ish_of, merges_within, item_after_in, unsigned_in, blob_at, commit_at, links_at, read_some, ident_of, encoding_of, ref_of, tag_of, item_after, tag_at, reset_at, command_at, commands_within, commands_of, is_option, is_done, with_command}
 use Rattle.gx_model.specs.Histories.Values.{is_optional_encoding, is_optional_ident}
-use Rattle.gx_model.specs.Replay.{or_else}
-use Rattle.gx_model.specs.Export.{reset_items, commit_ish_text, change_items, command_items, from_line, optional_line}
+use Rattle.std.specs.Option.{unwrap_or}
+use Rattle.gx_model.specs.Export.{reset_items, commit_ish_text, change_items, command_items, from_line, word_line_if}
 use Rattle.gx_model.specs.Laws.ExportLaws.{IsMark, IsNamedCommit, IsNamedCommitIf, IsSpelledChange, IsSpelled, HasMark, between}
 use Rattle.gx_model.proofs.Streams.CommandFields.{mark_read, commit_ish_digits, commit_ish_read}
 use Rattle.gx_model.proofs.Streams.ChangeItems.{changes_read, no_block, stream, words_at}
@@ -122,7 +122,7 @@ commit_end message parent ms cs rest = Data message ∷ (from_line parent ++ (ma
 
 commit_read : (ref : Bytes) (n : ℕ) (author committer : Bytes) (encoding : Option Bytes) (message : Bytes) (parent : Option CommitIsh) (ms : List CommitIsh) (cs : List Change) (rest : List Item)
     → IsMark n → is_ident author ≡ true → is_ident committer ≡ true → is_optional_encoding encoding ≡ true → IsNamedCommitIf parent → AllByRecursion IsNamedCommit ms → AllByRecursion IsSpelledChange cs
-    → commit_at ref (stream (Line (codes "mark" ++ 32 ∷ 58 ∷ decimal n) ∷ Line (codes "author" ++ 32 ∷ author) ∷ Line (codes "committer" ++ 32 ∷ committer) ∷ (optional_line (codes "encoding") encoding ++ commit_end message parent ms cs rest)))
+    → commit_at ref (stream (Line (codes "mark" ++ 32 ∷ 58 ∷ decimal n) ∷ Line (codes "author" ++ 32 ∷ author) ∷ Line (codes "committer" ++ 32 ∷ committer) ∷ (word_line_if (codes "encoding") encoding ++ commit_end message parent ms cs rest)))
     ≡ Ok (command.Commit (record { ref = ref; mark = Some n; author = Some author; committer = committer; encoding = encoding; message = message; parent = parent; merges = ms; changes = cs }), stream rest)
 unfolding commit_at rest_line_in block_in unsigned_in cut_at
 commit_read ref n author committer None message parent ms cs rest a b c d e f g =
@@ -131,7 +131,7 @@ commit_read ref n author committer (Some x) message parent ms cs rest a b c d e 
     rw (mark_read n a, ident_read author b, ident_read committer c, encoding_read x d, links_read parent ms cs rest e f g) refl
 
 tag_read : (name : Bytes) (target : CommitIsh) (tagger : Option Bytes) (message : Bytes) (rest : List Item) → IsNamedCommit target → is_optional_ident tagger ≡ true
-    → tag_at name (stream (Line (codes "from" ++ 32 ∷ commit_ish_text target) ∷ (optional_line (codes "tagger") tagger ++ Data message ∷ rest)))
+    → tag_at name (stream (Line (codes "from" ++ 32 ∷ commit_ish_text target) ∷ (word_line_if (codes "tagger") tagger ++ Data message ∷ rest)))
     ≡ Ok (command.Tag (record { name = name; mark = None; target = target; tagger = tagger; message = message }), stream rest)
 unfolding tag_at rest_line_in block_in cut_at
 tag_read name target None message rest h k = rw (marked_read target h) refl
@@ -187,11 +187,11 @@ links_regroup : (parent : Option CommitIsh) (ms : List CommitIsh) (cs : List Cha
 links_regroup parent ms cs rest = simp append_assoc
 
 pub commit_regroup : (encoding : Option Bytes) (message : Bytes) (parent : Option CommitIsh) (ms : List CommitIsh) (cs : List Change) (rest : List Item)
-    → (optional_line (codes "encoding") encoding ++ (Data message ∷ (from_line parent ++ (map merge_item ms ++ (flat_map change_items cs ++ Line [] ∷ []))))) ++ rest
-    ≡ optional_line (codes "encoding") encoding ++ commit_end message parent ms cs rest
+    → (word_line_if (codes "encoding") encoding ++ (Data message ∷ (from_line parent ++ (map merge_item ms ++ (flat_map change_items cs ++ Line [] ∷ []))))) ++ rest
+    ≡ word_line_if (codes "encoding") encoding ++ commit_end message parent ms cs rest
 commit_regroup encoding message parent ms cs rest =
-    append_assoc (optional_line (codes "encoding") encoding) (Data message ∷ (from_line parent ++ (map merge_item ms ++ (flat_map change_items cs ++ Line [] ∷ [])))) rest
-    ∙ ap (λ t. optional_line (codes "encoding") encoding ++ (Data message ∷ t)) (links_regroup parent ms cs rest)
+    append_assoc (word_line_if (codes "encoding") encoding) (Data message ∷ (from_line parent ++ (map merge_item ms ++ (flat_map change_items cs ++ Line [] ∷ [])))) rest
+    ∙ ap (λ t. word_line_if (codes "encoding") encoding ++ (Data message ∷ t)) (links_regroup parent ms cs rest)
 
 pub read_first : (c : Command) (rest : List Item) → IsSpelled c → Starts rest → IsReadFirst c rest
 read_first (command.Blob b) rest h k = by b.mark b.bytes h where
@@ -206,13 +206,13 @@ read_first (command.Blob b) rest h k = by b.mark b.bytes h where
     goes_on = refl;
   }
 read_first (command.Commit c) rest h k = by c.mark c.author h.mark h.has_author h.author where
-  by : (m : Option ℕ) (a : Option Bytes) → HasMark m → is_some a ≡ true → is_ident (or_else a []) ≡ true → IsReadFirst (command.Commit (record { ref = c.ref; mark = m; author = a; committer = c.committer; encoding = c.encoding; message = c.message; parent = c.parent; merges = c.merges; changes = c.changes })) rest
+  by : (m : Option ℕ) (a : Option Bytes) → HasMark m → is_some a ≡ true → is_ident (unwrap_or a []) ≡ true → IsReadFirst (command.Commit (record { ref = c.ref; mark = m; author = a; committer = c.committer; encoding = c.encoding; message = c.message; parent = c.parent; merges = c.merges; changes = c.changes })) rest
   by None a hm ha hi = absurd hm
   by (Some n) None hm ha hi = absurd cc
   by (Some n) (Some a) hm ha hi = record {
     letter = 99;
     letters = codes "ommit" ++ 32 ∷ c.ref;
-    more = Line (codes "mark" ++ 32 ∷ 58 ∷ decimal n) ∷ Line (codes "author" ++ 32 ∷ a) ∷ Line (codes "committer" ++ 32 ∷ c.committer) ∷ (optional_line (codes "encoding") c.encoding ++ commit_end c.message c.parent c.merges c.changes rest);
+    more = Line (codes "mark" ++ 32 ∷ 58 ∷ decimal n) ∷ Line (codes "author" ++ 32 ∷ a) ∷ Line (codes "committer" ++ 32 ∷ c.committer) ∷ (word_line_if (codes "encoding") c.encoding ++ commit_end c.message c.parent c.merges c.changes rest);
     items = ap (λ t. Line (codes "commit" ++ 32 ∷ c.ref) ∷ Line (codes "mark" ++ 32 ∷ 58 ∷ decimal n) ∷ Line (codes "author" ++ 32 ∷ a) ∷ Line (codes "committer" ++ 32 ∷ c.committer) ∷ t) (commit_regroup c.encoding c.message c.parent c.merges c.changes rest);
     read = λ early. commit_first early c.ref _ h.ref ∙ commit_read c.ref n a c.committer c.encoding c.message c.parent c.merges c.changes rest hm hi h.committer h.encoding h.parent h.merges h.changes;
     goes_on = refl;
@@ -223,8 +223,8 @@ read_first (command.Tag t) rest h k = by t.mark h.mark where
   by None e = record {
     letter = 116;
     letters = codes "ag" ++ 32 ∷ t.name;
-    more = Line (codes "from" ++ 32 ∷ commit_ish_text t.target) ∷ (optional_line (codes "tagger") t.tagger ++ Data t.message ∷ rest);
-    items = ap (λ u. Line (codes "tag" ++ 32 ∷ t.name) ∷ Line (codes "from" ++ 32 ∷ commit_ish_text t.target) ∷ u) (append_assoc (optional_line (codes "tagger") t.tagger) (Data t.message ∷ []) rest);
+    more = Line (codes "from" ++ 32 ∷ commit_ish_text t.target) ∷ (word_line_if (codes "tagger") t.tagger ++ Data t.message ∷ rest);
+    items = ap (λ u. Line (codes "tag" ++ 32 ∷ t.name) ∷ Line (codes "from" ++ 32 ∷ commit_ish_text t.target) ∷ u) (append_assoc (word_line_if (codes "tagger") t.tagger) (Data t.message ∷ []) rest);
     read = λ early. tag_first early t.name _ h.name ∙ tag_read t.name t.target t.tagger t.message rest h.target h.tagger;
     goes_on = refl;
   }
@@ -244,7 +244,7 @@ read_first (command.OptionLine x) rest h k = absurd h
 
 -- ---- all of them
 
-pub step : (n : ℕ) (before : List Command) (c : Command) (rest : List Item) → IsReadFirst c rest → commands_within (suc n) before (command_items c ++ rest) Finished ≡ with_first c (commands_within n (before ++ c ∷ []) rest Finished)
+pub step : (n : ℕ) (before : List Command) (c : Command) (rest : List Item) → IsReadFirst c rest → commands_within (suc n) before (command_items c ++ rest) Finished ≡ with_command c (commands_within n (before ++ c ∷ []) rest Finished)
 unfolding commands_within
 step n before c rest r = rw (r.items, r.read (list_all is_option before), r.goes_on) refl
 
@@ -270,7 +270,7 @@ starts_rest last s (c ∷ cs) h = subst Starts (sym (append_assoc (command_items
 -- these commands, and then those
 abbrev pub with_all : List Command → Commands → Commands
 with_all [] after = after
-with_all (c ∷ cs) after = with_first c (with_all cs after)
+with_all (c ∷ cs) after = with_command c (with_all cs after)
 
 -- commands are read, and then what stands behind them
 pub read_before : (last : List Item) → Starts last → (n m : ℕ) (before cs : List Command) → m ≡ length cs + n → AllByRecursion IsSpelled cs
@@ -284,11 +284,11 @@ read_before last s n (suc m) before (c ∷ cs) e h =
     let fewer : m ≡ length cs + n = omega (arith, e) in
     ap (λ is. commands_within (suc m) before is Finished) (append_assoc (command_items c) (flat_map command_items cs) last)
     ∙ step m before c rest (read_first c rest h.0 (starts_rest last s cs h.1))
-    ∙ ap (with_first c) (read_before last s n m (before ++ c ∷ []) cs fewer h.1 ∙ ap (λ b. with_all cs (commands_within n b last Finished)) (append_assoc before (c ∷ []) cs))
+    ∙ ap (with_command c) (read_before last s n m (before ++ c ∷ []) cs fewer h.1 ∙ ap (λ b. with_all cs (commands_within n b last Finished)) (append_assoc before (c ∷ []) cs))
 
 pub all_listed : (cs ds : List Command) → with_all cs (record { list = ds; fault = None }) ≡ record { list = cs ++ ds; fault = None }
 all_listed [] ds = refl
-all_listed (c ∷ cs) ds = ap (with_first c) (all_listed cs ds)
+all_listed (c ∷ cs) ds = ap (with_command c) (all_listed cs ds)
 
 done_starts : Starts ends_here
 unfolding item_after_in cut_at
@@ -313,7 +313,7 @@ pub all_items : (cs : List Command) → AllByRecursion IsSpelled cs → length c
 all_items [] h = omega arith
 all_items (c ∷ cs) h = rw flat_map-cons (omega (arith, some_items c h.0, all_items cs h.1, length-append (command_items c) (flat_map command_items cs)))
 
-pub asks_first : (n : ℕ) (rest : List Item) → commands_within (suc n) [] (Line (codes "feature done") ∷ rest) Finished ≡ with_first (command.Asks features.Done) (commands_within n (command.Asks features.Done ∷ []) rest Finished)
+pub asks_first : (n : ℕ) (rest : List Item) → commands_within (suc n) [] (Line (codes "feature done") ∷ rest) Finished ≡ with_command (command.Asks features.Done) (commands_within n (command.Asks features.Done ∷ []) rest Finished)
 unfolding commands_within command_at cut_at
 asks_first n rest = refl
 
@@ -327,4 +327,4 @@ commands_read cs h =
     let n = length rest - suc (length cs) in
     let enough : length rest ≡ length cs + suc n = omega (arith, all_items cs h, length-append (flat_map command_items cs) ends_here) in
     ap (λ is. commands_of (stream is)) (between_items cs) ∙ asks_first (length rest) rest
-    ∙ ap (with_first asks) (read_before ends_here done_starts (suc n) (length rest) (asks ∷ []) cs enough h ∙ ap (with_all cs) (done_last n (asks ∷ cs)) ∙ all_listed cs (command.Done ∷ []))
+    ∙ ap (with_command asks) (read_before ends_here done_starts (suc n) (length rest) (asks ∷ []) cs enough h ∙ ap (with_all cs) (done_last n (asks ∷ cs)) ∙ all_listed cs (command.Done ∷ []))

@@ -10,9 +10,9 @@ use Rattle.gx_model.specs.Faults.{Given}
 use Rattle.gx_model.specs.Streams.Items.{Item, Line, Data, End, Finished, Failed, Stream}
 use Rattle.gx_model.specs.Streams.Commands as command
 use Rattle.gx_model.specs.Streams.Commands.{CommitIsh, Change, Command, Commands}
-use Rattle.gx_model.specs.Streams.Grammar.{words_of, mark_of, any_text, ident_of, encoding_of, commit_ish_of, optional, needed, blob_at, links_at, commit_at, tag_at, reset_at, command_at, commands_within, asked, commands_asked, is_option, asks_done, is_done, stops, with_first}
-use Rattle.gx_model.specs.Streams.LineShapes.{line_of, IsOfNone, IsOfOne, IsRefText, IsTagText, IsFeatureText, IsIdentText, IsEncodingText, IsAnyText, IsMarkText, IsCommitIshText}
-use Rattle.gx_model.specs.Streams.CommandShapes.{words_of_text, words_alone, unsupported_words, Taken, Optional, Needed, both, first_fault, second_fault, IsChange, mark_line, oid_line, blob_lines, commit_links, commit_lines, tag_lines, reset_lines, AreOptions, IsCommand, BlobLines, CommitLinks, CommitLines, TagLines, ResetLines, blob_command, commit_command, tag_command, reset_command, made, refused, of_text, text_fault, blob, commit, commit_of_bad_ref, tag, tag_of_bad_name, reset, reset_of_bad_ref, checkpoint, progress, feature, late_feature, option, late_option, done, command_without_text, command_of_text, unsupported, unknown_line, unknown_block, AskDone, AreCommands, skipped, taken, at_done, at_fault, at_end, at_missing_done, at_failure}
+use Rattle.gx_model.specs.Streams.Grammar.{words_of, mark_of, any_text, ident_of, encoding_of, commit_ish_of, optional, needed, blob_at, links_at, commit_at, tag_at, reset_at, command_at, commands_within, asked, commands_asked, is_option, asks_done, is_done, stops, with_command}
+use Rattle.gx_model.specs.Streams.LineShapes.{line_of, IsOfNone, IsOfOne, IsRefText, IsFeatureText, IsIdentText, IsEncodingText, IsAnyText, IsMarkText, IsCommitIshText, IsTagNameText}
+use Rattle.gx_model.specs.Streams.CommandShapes.{words_of_text, words_alone, unsupported_words, Optional, Needed, both, first_fault, second_fault, IsChange, mark_line, oid_line, blob_lines, commit_links, commit_lines, tag_lines, reset_lines, AreOptions, IsCommand, BlobLines, CommitLinks, CommitLines, TagLines, ResetLines, blob_command, commit_command, tag_command, reset_command, made, refused, of_text, text_fault, blob, commit, commit_of_bad_ref, tag, tag_of_bad_name, reset, reset_of_bad_ref, checkpoint, progress, feature, late_feature, option, late_option, done, command_without_text, command_of_text, unsupported, unknown_line, unknown_block, AskDone, AreCommands, skipped, taken, at_done, at_fault, at_end, at_missing_done, at_failure, TakenFrom}
 use Rattle.gx_model.proofs.Streams.Readings.{refuted}
 use Rattle.gx_model.proofs.Streams.WordShapes.{other_word, tested, which_word, blank_is_none, blank_is_of_none, blank_has_no_text}
 use Rattle.gx_model.proofs.Streams.TextShapes.{ident_shape, ident_there, ref_shape, ref_there, tag_shape, tag_there, encoding_shape, encoding_there, any_shape, any_there, mark_shape, mark_there, commit_ish_shape, commit_ish_there, feature_shape, feature_there}
@@ -46,18 +46,18 @@ target_part : IsPartOf (Needed (codes "from") IsCommitIshText) (needed (codes "f
 target_part = needed_shape (codes "from") IsCommitIshText commit_ish_of refl commit_ish_shape
 
 -- what is taken, made into another value
-giving : {A B : Type 0} → (A → B) → Taken A → Taken B
+giving : {A B : Type 0} → (A → B) → TakenFrom A → TakenFrom B
 giving make (Ok p) = Ok (make p.0, p.1)
 giving make (Err f) = Err f
 
-blob_shape : (end : End) (is : List Item) (out : Taken BlobLines) → blob_lines end is out → blob_at (stream end is) ≡ as_read end (giving blob_command out)
+blob_shape : (end : End) (is : List Item) (out : TakenFrom BlobLines) → blob_lines end is out → blob_at (stream end is) ≡ as_read end (giving blob_command out)
 unfolding blob_at giving
 blob_shape end is out (both a (both b c)) = rw (mark_part _ _ _ a, oid_part _ _ _ b, block_shape _ _ _ c) refl
 blob_shape end is out (first_fault a) = rw (mark_part _ _ _ a) refl
 blob_shape end is out (second_fault a (first_fault b)) = rw (mark_part _ _ _ a, oid_part _ _ _ b) refl
 blob_shape end is out (second_fault a (second_fault b c)) = rw (mark_part _ _ _ a, oid_part _ _ _ b, block_shape _ _ _ c) refl
 
-links_shape : (end : End) (is : List Item) (out : Taken CommitLinks) → commit_links end is out → links_at (stream end is) ≡ as_read end (giving (λ x. (x.0, (x.1.0, x.1.1.0))) out)
+links_shape : (end : End) (is : List Item) (out : TakenFrom CommitLinks) → commit_links end is out → links_at (stream end is) ≡ as_read end (giving (λ x. (x.0, (x.1.0, x.1.1.0))) out)
 unfolding links_at giving
 links_shape end is out (both a (both b (both c d))) = rw (from_part _ _ _ a, merges_shape _ _ _ b, changes_shape _ _ _ c, ending_shape _ _ _ d) refl
 links_shape end is out (first_fault a) = rw (from_part _ _ _ a) refl
@@ -65,7 +65,7 @@ links_shape end is out (second_fault a (first_fault b)) = rw (from_part _ _ _ a,
 links_shape end is out (second_fault a (second_fault b (first_fault c))) = rw (from_part _ _ _ a, merges_shape _ _ _ b, changes_shape _ _ _ c) refl
 links_shape end is out (second_fault a (second_fault b (second_fault c d))) = rw (from_part _ _ _ a, merges_shape _ _ _ b, changes_shape _ _ _ c, ending_shape _ _ _ d) refl
 
-commit_shape : (ref : Bytes) (end : End) (is : List Item) (out : Taken CommitLines) → commit_lines end is out → commit_at ref (stream end is) ≡ as_read end (giving (commit_command ref) out)
+commit_shape : (ref : Bytes) (end : End) (is : List Item) (out : TakenFrom CommitLines) → commit_lines end is out → commit_at ref (stream end is) ≡ as_read end (giving (commit_command ref) out)
 unfolding commit_at giving
 commit_shape ref end is out (both a (both b (both c (both d (both e (both f (both g h))))))) = rw (mark_part _ _ _ a, oid_part _ _ _ b, author_part _ _ _ c, committer_part _ _ _ d, unsigned_shape _ _ _ e, encoding_part _ _ _ f, block_shape _ _ _ g, links_shape _ _ _ h) refl
 commit_shape ref end is out (first_fault a) = rw (mark_part _ _ _ a) refl
@@ -77,7 +77,7 @@ commit_shape ref end is out (second_fault a (second_fault b (second_fault c (sec
 commit_shape ref end is out (second_fault a (second_fault b (second_fault c (second_fault d (second_fault e (second_fault f (first_fault g))))))) = rw (mark_part _ _ _ a, oid_part _ _ _ b, author_part _ _ _ c, committer_part _ _ _ d, unsigned_shape _ _ _ e, encoding_part _ _ _ f, block_shape _ _ _ g) refl
 commit_shape ref end is out (second_fault a (second_fault b (second_fault c (second_fault d (second_fault e (second_fault f (second_fault g h))))))) = rw (mark_part _ _ _ a, oid_part _ _ _ b, author_part _ _ _ c, committer_part _ _ _ d, unsigned_shape _ _ _ e, encoding_part _ _ _ f, block_shape _ _ _ g, links_shape _ _ _ h) refl
 
-tag_lines_shape : (name : Bytes) (end : End) (is : List Item) (out : Taken TagLines) → tag_lines end is out
+tag_lines_shape : (name : Bytes) (end : End) (is : List Item) (out : TakenFrom TagLines) → tag_lines end is out
     → tag_at name (stream end is) ≡ as_read end (giving (tag_command name) out)
 unfolding tag_at giving
 tag_lines_shape name end is out (both a (both b (both c (both d e)))) = rw (mark_part _ _ _ a, target_part _ _ _ b, oid_part _ _ _ c, tagger_part _ _ _ d, block_shape _ _ _ e) refl
@@ -87,7 +87,7 @@ tag_lines_shape name end is out (second_fault a (second_fault b (first_fault c))
 tag_lines_shape name end is out (second_fault a (second_fault b (second_fault c (first_fault d)))) = rw (mark_part _ _ _ a, target_part _ _ _ b, oid_part _ _ _ c, tagger_part _ _ _ d) refl
 tag_lines_shape name end is out (second_fault a (second_fault b (second_fault c (second_fault d e)))) = rw (mark_part _ _ _ a, target_part _ _ _ b, oid_part _ _ _ c, tagger_part _ _ _ d, block_shape _ _ _ e) refl
 
-reset_shape : (ref : Bytes) (end : End) (is : List Item) (out : Taken ResetLines) → reset_lines end is out → reset_at ref (stream end is) ≡ as_read end (giving (reset_command ref) out)
+reset_shape : (ref : Bytes) (end : End) (is : List Item) (out : TakenFrom ResetLines) → reset_lines end is out → reset_at ref (stream end is) ≡ as_read end (giving (reset_command ref) out)
 unfolding reset_at giving
 reset_shape ref end is out (both a b) = rw (from_part _ _ _ a, ending_shape _ _ _ b) refl
 reset_shape ref end is out (first_fault a) = rw (from_part _ _ _ a) refl
@@ -159,7 +159,7 @@ reset_no_longer = then_no_longer _ _ from_no_longer ending_no_longer
 
 -- ---- a command
 
-command_shape : (before : List Command) (end : End) (line : Bytes) (more : List Item) (out : Taken Command) → IsCommand before end (Line line ∷ more) out
+command_shape : (before : List Command) (end : End) (line : Bytes) (more : List Item) (out : TakenFrom Command) → IsCommand before end (Line line ∷ more) out
     → command_at (list_all is_option before) (words_of line) (stream end more) ≡ as_read end out
 unfolding command_at cut_at giving
 command_shape before end line more out (blob (made h)) = rw (blob_shape _ _ _ h) refl
@@ -223,25 +223,25 @@ abbrev all_words : List Bytes
 all_words = words_of_text ++ words_alone ++ unsupported_words
 
 abbrev SomeCommand : List Command → End → List Item → Bytes → Type 0
-SomeCommand before end more line = (out : Taken Command) × IsCommand before end (Line line ∷ more) out
+SomeCommand before end more line = (out : TakenFrom Command) × IsCommand before end (Line line ∷ more) out
 
 pub command_there : (before : List Command) (end : End) (more : List Item) (b : ℕ) (bs : Bytes) → SomeCommand before end more (b ∷ bs)
 command_there before end more b bs = by (which_word all_words (b ∷ bs) refl) where
-  is_blob : (o : Taken BlobLines) → blob_lines end more o → SomeCommand before end more (codes "blob")
+  is_blob : (o : TakenFrom BlobLines) → blob_lines end more o → SomeCommand before end more (codes "blob")
   is_blob (Ok (x, rest)) h = (Ok (blob_command x, rest), blob (made h))
   is_blob (Err f) h = (Err f, blob (refused h))
 
-  is_commit : (text : Bytes) (g : Given Bytes) → IsRefText text g → (o : Taken CommitLines) → commit_lines end more o → SomeCommand before end more (line_of (codes "commit") text)
+  is_commit : (text : Bytes) (g : Given Bytes) → IsRefText text g → (o : TakenFrom CommitLines) → commit_lines end more o → SomeCommand before end more (line_of (codes "commit") text)
   is_commit text (Err f) r o h = (Err f, commit_of_bad_ref r)
   is_commit text (Ok ref) r (Err f) h = (Err f, commit r (refused h))
   is_commit text (Ok ref) r (Ok (x, rest)) h = (Ok (commit_command ref x, rest), commit r (made h))
 
-  is_tag : (text : Bytes) (g : Given Bytes) → IsTagText text g → (o : Taken TagLines) → tag_lines end more o → SomeCommand before end more (line_of (codes "tag") text)
+  is_tag : (text : Bytes) (g : Given Bytes) → IsTagNameText text g → (o : TakenFrom TagLines) → tag_lines end more o → SomeCommand before end more (line_of (codes "tag") text)
   is_tag text (Err f) r o h = (Err f, tag_of_bad_name r)
   is_tag text (Ok name) r (Err f) h = (Err f, tag r (refused h))
   is_tag text (Ok name) r (Ok (x, rest)) h = (Ok (tag_command name x, rest), tag r (made h))
 
-  is_reset : (text : Bytes) (g : Given Bytes) → IsRefText text g → (o : Taken ResetLines) → reset_lines end more o → SomeCommand before end more (line_of (codes "reset") text)
+  is_reset : (text : Bytes) (g : Given Bytes) → IsRefText text g → (o : TakenFrom ResetLines) → reset_lines end more o → SomeCommand before end more (line_of (codes "reset") text)
   is_reset text (Err f) r o h = (Err f, reset_of_bad_ref r)
   is_reset text (Ok ref) r (Err f) h = (Err f, reset r (refused h))
   is_reset text (Ok ref) r (Ok (x, rest)) h = (Ok (reset_command ref x, rest), reset r (made h))
@@ -302,7 +302,7 @@ not_done (command.Asks x) h = refl
 not_done (command.OptionLine x) h = refl
 
 -- an empty line begins no command
-not_blank : (before : List Command) (end : End) (more : List Item) (out : Taken Command) → IsCommand before end (Line [] ∷ more) out → ⊥
+not_blank : (before : List Command) (end : End) (more : List Item) (out : TakenFrom Command) → IsCommand before end (Line [] ∷ more) out → ⊥
 not_blank before end more out (command_without_text h) = blank_is_none words_of_text refl h
 not_blank before end more out (command_of_text {word = word} text h q) = blank_has_no_text word text q
 not_blank before end more out (unsupported h) = blank_is_of_none unsupported_words refl h
@@ -335,7 +335,7 @@ commands_in (suc n) end before (Line [] ∷ more) cs l (at_done c) = absurd (not
 commands_in (suc n) end before (Line [] ∷ more) cs l (at_fault c) = absurd (not_blank before end more _ c)
 commands_in (suc n) end before (Line (b ∷ bs) ∷ more) cs l (taken {rest = rest} {c = c} {cs = later} k d h) =
     let s = command_shorter before end (Line (b ∷ bs) ∷ more) c rest k in
-    rw (command_shape before end (b ∷ bs) more (Ok (c, rest)) k, not_done c d) (ap (with_first c) (commands_in n end (before ++ c ∷ []) rest later (omega (arith, s, l)) h))
+    rw (command_shape before end (b ∷ bs) more (Ok (c, rest)) k, not_done c d) (ap (with_command c) (commands_in n end (before ++ c ∷ []) rest later (omega (arith, s, l)) h))
 commands_in (suc n) end before (Line (b ∷ bs) ∷ more) cs l (at_done {rest = rest} k) = rw (command_shape before end (b ∷ bs) more (Ok (command.Done, rest)) k) refl
 commands_in (suc n) end before (Line (b ∷ bs) ∷ more) cs l (at_fault {f = f} k) = rw (command_shape before end (b ∷ bs) more (Err f) k) refl
 
@@ -368,13 +368,13 @@ commands_there (suc n) end before (Data bytes ∷ more) l = (stops (Some faults.
 commands_there (suc n) end before (Line [] ∷ more) l = let c = commands_there n end before more (omega (arith, l)) in (c.0, skipped c.1)
 commands_there (suc n) end before (Line (b ∷ bs) ∷ more) l = let o = command_there before end more b bs in by (λ before rest k. commands_there n end before rest k) o.0 o.1 where
   go_on : ((before : List Command) (rest : List Item) → length rest < n → Somehow end before rest) → (c : Command) (rest : List Item) → IsCommand before end (Line (b ∷ bs) ∷ more) (Ok (c, rest)) → (c ≡ command.Done) ⊎ (c ≡ command.Done → ⊥) → Somehow end before (Line (b ∷ bs) ∷ more)
-  go_on again c rest h (inl e) = (with_first command.Done (stops None), at_done (subst (λ c. IsCommand before end (Line (b ∷ bs) ∷ more) (Ok (c, rest))) e h))
+  go_on again c rest h (inl e) = (with_command command.Done (stops None), at_done (subst (λ c. IsCommand before end (Line (b ∷ bs) ∷ more) (Ok (c, rest))) e h))
   go_on again c rest h (inr d) =
       let s = command_shorter before end (Line (b ∷ bs) ∷ more) c rest h in
       let a = again (before ++ c ∷ []) rest (omega (arith, s, l)) in
-      (with_first c a.0, taken h d a.1)
+      (with_command c a.0, taken h d a.1)
 
-  by : ((before : List Command) (rest : List Item) → length rest < n → Somehow end before rest) → (o : Taken Command) → IsCommand before end (Line (b ∷ bs) ∷ more) o → Somehow end before (Line (b ∷ bs) ∷ more)
+  by : ((before : List Command) (rest : List Item) → length rest < n → Somehow end before rest) → (o : TakenFrom Command) → IsCommand before end (Line (b ∷ bs) ∷ more) o → Somehow end before (Line (b ∷ bs) ∷ more)
   by again (Err f) h = (stops (Some f), at_fault h)
   by again (Ok (c, rest)) h = go_on again c rest h (is_last c)
 

@@ -10,7 +10,7 @@ use Rattle.gx_model.specs.Streams.Items.{Item, Line, Data, End, Finished, Failed
 use Rattle.gx_model.specs.Streams.Grammar as read
 use Rattle.gx_model.specs.Streams.Grammar.{Read, rest_line_in, rest_line, read_some, read_needed, optional, needed, block_in, unsigned_in, unsigned, item_after_in, item_after}
 use Rattle.gx_model.specs.Streams.LineShapes.{TextShape, line_of, IsOf}
-use Rattle.gx_model.specs.Streams.CommandShapes.{Taken, Part, Optional, given, of_bad_text, without_text, before_line, before_block, before_end, before_failure, Needed, stands, is_missing, is_at_fault, Block, block, line_for_block, end_for_block, failure_for_block, Unsigned, signature, line_unsigned, block_unsigned, end_unsigned, failure_unsigned, Ending, empty_line, other_line, other_block, last_item, failure, Then, both, first_fault, second_fault, Repeated, no_more, one_more, next_fault, later_fault}
+use Rattle.gx_model.specs.Streams.CommandShapes.{Part, Optional, given, of_bad_text, without_text, before_line, before_block, before_end, before_failure, Needed, stands, is_missing, is_at_fault, Block, block, line_for_block, end_for_block, failure_for_block, Unsigned, signature, line_unsigned, block_unsigned, end_unsigned, failure_unsigned, Ending, empty_line, other_line, other_block, last_item, failure, Then, both, first_fault, second_fault, Repeated, no_more, one_more, next_fault, later_fault, TakenFrom}
 use Rattle.gx_model.proofs.Streams.WordShapes.{word_alone, word_with, other_word, its_word, is_of}
 use Rattle.gx_model.proofs.Streams.TextShapes.{IsReadBy, IsTotal}
 
@@ -19,17 +19,17 @@ abbrev pub stream : End → List Item → Stream
 stream end is = record { items = is; end = end }
 
 -- what a part takes, as the functions give it
-abbrev pub as_read : {A : Type 0} → End → Taken A → Read A
+abbrev pub as_read : {A : Type 0} → End → TakenFrom A → Read A
 as_read end (Ok p) = Ok (p.0, stream end p.1)
 as_read end (Err f) = Err f
 
 -- the part is what the function reads
 abbrev pub IsPartOf : {A : Type 0} → Part A → (Stream → Read A) → Type 0
-IsPartOf {A} P f = (end : End) (is : List Item) (out : Taken A) → P end is out → f (stream end is) ≡ as_read end out
+IsPartOf {A} P f = (end : End) (is : List Item) (out : TakenFrom A) → P end is out → f (stream end is) ≡ as_read end out
 
 -- all items have the part's shape, with something
 abbrev pub IsWhole : {A : Type 0} → Part A → Type 0
-IsWhole {A} P = (end : End) (is : List Item) → (out : Taken A) × P end is out
+IsWhole {A} P = (end : End) (is : List Item) → (out : TakenFrom A) × P end is out
 
 -- no more items are left than stood there
 abbrev pub IsNoLonger : {A : Type 0} → Part A → Type 0
@@ -86,13 +86,13 @@ optional_there {A} word Shape l all end (Data b ∷ rest) = (Ok (None, Data b �
 optional_there {A} word Shape l all Finished [] = (Ok (None, []), before_end refl)
 optional_there {A} word Shape l all (Failed f) [] = (Err f, before_failure refl)
 optional_there {A} word Shape l all end (Line line ∷ rest) = by (is_of word line l) where
-  with_text : (text : Bytes) (g : Given A) → Shape text g → (out : Taken (Option A)) × Optional word Shape end (Line (line_of word text) ∷ rest) out
+  with_text : (text : Bytes) (g : Given A) → Shape text g → (out : TakenFrom (Option A)) × Optional word Shape end (Line (line_of word text) ∷ rest) out
   with_text text (Ok x) h = (Ok (Some x, rest), given h)
   with_text text (Err f) h = (Err f, of_bad_text h)
 
-  by : IsOf word line ⊎ (IsOf word line → ⊥) → (out : Taken (Option A)) × Optional word Shape end (Line line ∷ rest) out
-  by (inl (inl e)) = subst (λ line. (out : Taken (Option A)) × Optional word Shape end (Line line ∷ rest) out) (sym e) (Err faults.BadLine, without_text)
-  by (inl (inr (text, e))) = let t = all text in subst (λ line. (out : Taken (Option A)) × Optional word Shape end (Line line ∷ rest) out) (sym e) (with_text text t.0 t.1)
+  by : IsOf word line ⊎ (IsOf word line → ⊥) → (out : TakenFrom (Option A)) × Optional word Shape end (Line line ∷ rest) out
+  by (inl (inl e)) = subst (λ line. (out : TakenFrom (Option A)) × Optional word Shape end (Line line ∷ rest) out) (sym e) (Err faults.BadLine, without_text)
+  by (inl (inr (text, e))) = let t = all text in subst (λ line. (out : TakenFrom (Option A)) × Optional word Shape end (Line line ∷ rest) out) (sym e) (with_text text t.0 t.1)
   by (inr n) = (Ok (None, Line line ∷ rest), before_line n)
 
 pub optional_no_longer : {A : Type 0} (word : Bytes) (Shape : TextShape A) → IsNoLonger (Optional word Shape)
@@ -128,7 +128,7 @@ needed_shape word Shape f l is end items out (is_at_fault {f = fault} h) = neede
 
 pub needed_there : {A : Type 0} (word : Bytes) (Shape : TextShape A) → lacks 32 word ≡ true → IsTotal Shape → IsWhole (Needed word Shape)
 needed_there {A} word Shape l all end items = let o = optional_there word Shape l all end items in by o.0 o.1 where
-  by : (o : Taken (Option A)) → Optional word Shape end items o → (out : Taken A) × Needed word Shape end items out
+  by : (o : TakenFrom (Option A)) → Optional word Shape end items o → (out : TakenFrom A) × Needed word Shape end items out
   by (Ok (Some x, rest)) h = (Ok (x, rest), stands h)
   by (Ok (None, rest)) h = (Err faults.BadLine, is_missing h)
   by (Err f) h = (Err f, is_at_fault h)
@@ -167,7 +167,7 @@ unsigned_shape end items out (failure_unsigned e) = rw e refl
 pub unsigned_there : IsWhole Unsigned
 unsigned_there end (Data b ∷ rest) = (Ok (tt, Data b ∷ rest), block_unsigned)
 unsigned_there end (Line line ∷ rest) = by (is_of (codes "gpgsig") line refl) where
-  by : IsOf (codes "gpgsig") line ⊎ (IsOf (codes "gpgsig") line → ⊥) → (out : Taken (Unit {0})) × Unsigned end (Line line ∷ rest) out
+  by : IsOf (codes "gpgsig") line ⊎ (IsOf (codes "gpgsig") line → ⊥) → (out : TakenFrom (Unit {0})) × Unsigned end (Line line ∷ rest) out
   by (inl h) = (Err faults.Unsupported, signature h)
   by (inr n) = (Ok (tt, Line line ∷ rest), line_unsigned n)
 unsigned_there Finished [] = (Ok (tt, []), end_unsigned refl)
@@ -205,11 +205,11 @@ ending_no_longer end items x rest (last_item e) = omega arith
 
 pub then_there : {A B : Type 0} (P : Part A) (Q : Part B) → IsWhole P → IsWhole Q → IsWhole (Then P Q)
 then_there {A} {B} P Q p q end items = let o = p end items in by o.0 o.1 where
-  second : (x : A) (more : List Item) → P end items (Ok (x, more)) → (o : Taken B) → Q end more o → (out : Taken (A × B)) × Then P Q end items out
+  second : (x : A) (more : List Item) → P end items (Ok (x, more)) → (o : TakenFrom B) → Q end more o → (out : TakenFrom (A × B)) × Then P Q end items out
   second x more h (Ok (y, rest)) k = (Ok ((x, y), rest), both h k)
   second x more h (Err f) k = (Err f, second_fault h k)
 
-  by : (o : Taken A) → P end items o → (out : Taken (A × B)) × Then P Q end items out
+  by : (o : TakenFrom A) → P end items o → (out : TakenFrom (A × B)) × Then P Q end items out
   by (Ok (x, more)) h = let o = q end more in second x more h o.0 o.1
   by (Err f) h = (Err f, first_fault h)
 
@@ -218,14 +218,14 @@ then_no_longer P Q p q end items x rest (both {more = more} {x = a} {y = b} h k)
 
 -- ---- parts any number of times
 
-repeated_within : {A : Type 0} (P : Part (Option A)) → IsWhole P → IsShorter P → (n : ℕ) (end : End) (items : List Item) → length items < n → (out : Taken (List A)) × Repeated P end items out
+repeated_within : {A : Type 0} (P : Part (Option A)) → IsWhole P → IsShorter P → (n : ℕ) (end : End) (items : List Item) → length items < n → (out : TakenFrom (List A)) × Repeated P end items out
 repeated_within {A} P p s zero end items lt = absurd (omega (arith, lt))
 repeated_within {A} P p s (suc n) end items lt = let o = p end items in by (λ more l. repeated_within P p s n end more l) o.0 o.1 where
-  later : (x : A) (more : List Item) → P end items (Ok (Some x, more)) → (o : Taken (List A)) → Repeated P end more o → (out : Taken (List A)) × Repeated P end items out
+  later : (x : A) (more : List Item) → P end items (Ok (Some x, more)) → (o : TakenFrom (List A)) → Repeated P end more o → (out : TakenFrom (List A)) × Repeated P end items out
   later x more h (Ok (xs, rest)) k = (Ok (x ∷ xs, rest), one_more h k)
   later x more h (Err f) k = (Err f, later_fault h k)
 
-  by : ((more : List Item) → length more < n → (out : Taken (List A)) × Repeated P end more out) → (o : Taken (Option A)) → P end items o → (out : Taken (List A)) × Repeated P end items out
+  by : ((more : List Item) → length more < n → (out : TakenFrom (List A)) × Repeated P end more out) → (o : TakenFrom (Option A)) → P end items o → (out : TakenFrom (List A)) × Repeated P end items out
   by again (Ok (None, rest)) h = (Ok ([], rest), no_more h)
   by again (Err f) h = (Err f, next_fault h)
   by again (Ok (Some x, more)) h = let l = s end items x more h in let o = again more (omega (arith, lt, l)) in later x more h o.0 o.1

@@ -16,7 +16,8 @@ use Rattle.gx_model.specs.Texts.Paths.{Path, is_component, is_quoted, parts_of, 
 use Rattle.gx_model.specs.Streams.Items.{Data, End, Item, Line, Stream}
 use Rattle.gx_model.specs.Streams.Commands.{Change, Command, CommitIsh, DataRef, Modify}
 use Rattle.gx_model.specs.Histories.Values.{is_optional_encoding, is_optional_ident}
-use Rattle.gx_model.specs.Streams.Grammar.{AtBlock, AtMark, AtName, Read, Where, after, any_text, bare, blob_at, block, bytes_from, change_at, changes, changes_within, command_at, commands_within, commit_at, commit_ish_of, encoding_of, feature_of, ident_of, if_early, is_done, is_name, is_null, is_option, is_word, item_after, last_path, links_at, mark_of, mark_text, merges, mode_of, modify_at, needed, optional, part_of, read_needed, read_some, ref_of, reset_at, rest_line, rest_of, source_path, stops, suits, tag_at, tag_of, two_paths, unsigned, where_by, where_of, with_first, words_of, Words}
+use Rattle.gx_model.specs.Streams.Grammar.{AtBlock, AtMark, AtName, Read, Where, after, any_text, bare, blob_at, block, bytes_from, change_at, changes, changes_within, command_at, commands_within, commit_at, commit_ish_of, encoding_of, feature_of, ident_of, if_early, is_done, is_null, is_option, is_word, item_after, last_path, links_at, mark_of, merges, mode_of, modify_at, needed, optional, part_of, read_needed, read_some, ref_of, reset_at, rest_line, rest_of, source_path, stops, suits, tag_at, tag_of, two_paths, unsigned, where_by, where_of, words_of, Words, colon_number, with_command}
+use Rattle.gx_model.specs.Texts.Digits.{is_any_name_text}
 use Rattle.gx_model.specs.Replay.ProperReplays.{IsProperChange, IsProperCommand, IsWholePath, StreamsAreProper}
 use Rattle.gx_model.proofs.Texts.PathTests.{both, is_true}
 use Rattle.gx_model.proofs.Texts.PathTexts.{text_of_parts}
@@ -74,7 +75,7 @@ two_given bs = then_any WithDestination (source_path bs) _ (λ source. then_if I
 
 abbrev IsNamedWhere : Where → Type 0
 IsNamedWhere (AtMark n) = ⊤
-IsNamedWhere (AtName digits) = IsTrue (is_name digits)
+IsNamedWhere (AtName digits) = IsTrue (is_any_name_text digits)
 IsNamedWhere AtBlock = ⊤
 
 abbrev IsFileMode : Mode → Type 0
@@ -96,14 +97,14 @@ mode_given bs =
     (if_either IsFileMode (bytes_eq bs (codes "040000") || bytes_eq bs (codes "40000")) _ _ tt tt))))
 
 where_given : (bs : Bytes) → IfOk (where_of bs) IsNamedWhere
-where_given bs = by (mark_text bs)
+where_given bs = by (colon_number bs)
   where
     by : (o : Option (Given ℕ)) → IfOk (where_by bs o) IsNamedWhere
     by (Some (Ok n)) = tt
     by (Some (Err e)) = tt
     by None =
         if_either IsNamedWhere (bytes_eq bs (codes "inline")) _ _ tt
-        (if_either IsNamedWhere (is_null bs) _ _ tt (if_passes IsNamedWhere (is_name bs) (Ok (AtName bs)) faults.BadLine (λ h. h)))
+        (if_either IsNamedWhere (is_null bs) _ _ tt (if_passes IsNamedWhere (is_any_name_text bs) (Ok (AtName bs)) faults.BadLine (λ h. h)))
 
 abbrev with_bytes : Mode → Path → DataRef × Stream → Read Change
 with_bytes m path bytes = Ok (Modify m bytes.0 path, bytes.1)
@@ -296,7 +297,7 @@ commands_given (suc n) before (Line (b ∷ bs) ∷ more) end =
     by (Err f) e h again = rw e tt
     by (Ok x) e h again = rw e (last (is_done x.0))
       where
-        last : (d : Bool) → AllBring (cond d (with_first x.0 (stops None)) (with_first x.0 (commands_within n (before ++ x.0 ∷ []) x.1.items x.1.end))).list
+        last : (d : Bool) → AllBring (cond d (with_command x.0 (stops None)) (with_command x.0 (commands_within n (before ++ x.0 ∷ []) x.1.items x.1.end))).list
         last true = (h, tt)
         last false = (h, again x.0 x.1)
 

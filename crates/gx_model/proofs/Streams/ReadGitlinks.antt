@@ -11,7 +11,8 @@ use Rattle.gx_model.specs.Faults.{Given, ◌>>=◌}
 use Rattle.gx_model.specs.Texts.Paths.{Path}
 use Rattle.gx_model.specs.Streams.Items.{Data, End, Failed, Finished, Item, Line, Stream}
 use Rattle.gx_model.specs.Streams.Commands.{Change, Command, CommitIsh, DataRef, Modify}
-use Rattle.gx_model.specs.Streams.Grammar.{AtBlock, AtMark, AtName, Read, Where, after, any_text, at_end, bare, blob_at, block, bytes_from, change_at, changes, changes_within, command_at, commands_within, commit_at, commit_ish_of, encoding_of, feature_of, ident_of, if_early, is_done, is_name, is_null, is_option, is_word, item_after, last_path, links_at, mark_of, mark_text, merges, mode_of, modify_at, needed, optional, part_of, ref_of, reset_at, rest_of, stops, suits, tag_at, tag_of, two_paths, unsigned, where_by, where_of, with_first, words_of, Words}
+use Rattle.gx_model.specs.Streams.Grammar.{AtBlock, AtMark, AtName, Read, Where, after, any_text, at_end, bare, blob_at, block, bytes_from, change_at, changes, changes_within, command_at, commands_within, commit_at, commit_ish_of, encoding_of, feature_of, ident_of, if_early, is_done, is_null, is_option, is_word, item_after, last_path, links_at, mark_of, merges, mode_of, modify_at, needed, optional, part_of, ref_of, reset_at, rest_of, stops, suits, tag_at, tag_of, two_paths, unsigned, where_by, where_of, words_of, Words, colon_number, with_command}
+use Rattle.gx_model.specs.Texts.Digits.{is_any_name_text}
 use Rattle.gx_model.specs.Streams.Gitlinks.{BringsNoNullGitlink, GivesNoNullGitlink, StreamsBringNone}
 use Rattle.gx_model.proofs.Replay.NullGitlinks.{then_if}
 
@@ -38,16 +39,16 @@ abbrev Gives : Change × Stream → Type 0
 Gives x = GivesNoNullGitlink x.0
 
 where_given : (bs : Bytes) → IfOk (where_of bs) IsNotAtNull
-where_given bs = by (mark_text bs)
+where_given bs = by (colon_number bs)
   where
-    named : (b : Bool) → is_null bs ≡ b → IfOk (cond b (Err faults.Unsupported) (cond (is_name bs) (Ok (AtName bs)) (Err faults.BadLine))) IsNotAtNull
+    named : (b : Bool) → is_null bs ≡ b → IfOk (cond b (Err faults.Unsupported) (cond (is_any_name_text bs) (Ok (AtName bs)) (Err faults.BadLine))) IsNotAtNull
     named true e = tt
-    named false e = if_either IsNotAtNull (is_name bs) (Ok (AtName bs)) (Err faults.BadLine) e tt
+    named false e = if_either IsNotAtNull (is_any_name_text bs) (Ok (AtName bs)) (Err faults.BadLine) e tt
 
     by : (o : Option (Given ℕ)) → IfOk (where_by bs o) IsNotAtNull
     by (Some (Ok n)) = tt
     by (Some (Err e)) = tt
-    by None = if_either IsNotAtNull (bytes_eq bs (codes "inline")) (Ok AtBlock) (cond (is_null bs) (Err faults.Unsupported) (cond (is_name bs) (Ok (AtName bs)) (Err faults.BadLine))) tt (named (is_null bs) refl)
+    by None = if_either IsNotAtNull (bytes_eq bs (codes "inline")) (Ok AtBlock) (cond (is_null bs) (Err faults.Unsupported) (cond (is_any_name_text bs) (Ok (AtName bs)) (Err faults.BadLine))) tt (named (is_null bs) refl)
 
 abbrev with_bytes : Mode → Path → DataRef × Stream → Read Change
 with_bytes m path bytes = Ok (Modify m bytes.0 path, bytes.1)
@@ -184,7 +185,7 @@ commands_given (suc n) before (Line (b ∷ bs) ∷ more) end =
     by (Err f) e h again = rw e tt
     by (Ok x) e h again = rw e (last (is_done x.0))
       where
-        last : (d : Bool) → AllBring (cond d (with_first x.0 (stops None)) (with_first x.0 (commands_within n (before ++ x.0 ∷ []) x.1.items x.1.end))).list
+        last : (d : Bool) → AllBring (cond d (with_command x.0 (stops None)) (with_command x.0 (commands_within n (before ++ x.0 ∷ []) x.1.items x.1.end))).list
         last true = (h, tt)
         last false = (h, again x.0 x.1)
 

@@ -13,9 +13,10 @@ use Rattle.gx_model.specs.Texts.Paths.{Path, path_text, printed}
 use Rattle.gx_model.specs.Streams.Items.{Item, Line, Data}
 use Rattle.gx_model.specs.Streams.Commands.{CommitIsh, Marked, Named, DataRef, Mark, Object, Inline, Change, Modify, Remove, Copy, Rename, Clear, Command}
 use Rattle.gx_model.specs.Streams.Commands as command
-use Rattle.gx_model.specs.Histories.Values.{is_hex_digit, is_name_text, is_optional_encoding, is_optional_ident}
-use Rattle.gx_model.specs.Replay.{or_else}
-use Rattle.gx_model.specs.Export.{mode_digits, dataref_text, commit_ish_text, change_items, command_items, from_line, optional_line, mark_line, reset_items}
+use Rattle.gx_model.specs.Histories.Values.{is_optional_encoding, is_optional_ident}
+use Rattle.gx_model.specs.Texts.Digits.{is_lower_digit, is_name_text}
+use Rattle.std.specs.Option.{unwrap_or}
+use Rattle.gx_model.specs.Export.{mode_digits, dataref_text, commit_ish_text, change_items, command_items, from_line, mark_line, reset_items, word_line_if}
 use Rattle.gx_model.specs.Laws.ExportLaws.{IsItemLine, IsItem, IsMark, IsLink, IsDataRef, IsNamedCommit, IsNamedCommitIf, IsSpelledChange, IsSpelled, HasMark, between}
 use Rattle.gx_model.proofs.Texts.Idents.{and_two}
 use Rattle.gx_model.proofs.Texts.Decimals.{decimal_digits}
@@ -29,7 +30,7 @@ mark_is_line : (n : ℕ) → IsMark n → is_line (58 ∷ decimal n) ≡ true
 mark_is_line n h = digits_are_line (decimal n) (decimal_digits n h.1)
 
 name_is_line : (x : Bytes) → is_name_text x ≡ true → is_line x ≡ true
-name_is_line x h = line_by is_hex_digit refl x (and_two _ (list_all is_hex_digit x) h)
+name_is_line x h = line_by is_lower_digit refl x (and_two _ (list_all is_lower_digit x) h)
 
 link_is_line : (x : Bytes) → IsLink x → is_line x ≡ true
 link_is_line x h = name_is_line x h.0
@@ -89,15 +90,15 @@ pub mark_spelled : (m : Option ℕ) → HasMark m → AreItems (mark_line m)
 mark_spelled None h = absurd h
 mark_spelled (Some n) h = (record { line = mark_is_line n h; no_comment = refl; no_data = refl }, tt)
 
-pub author_spelled : (a : Option Bytes) → is_some a ≡ true → is_ident (or_else a []) ≡ true → AreItems (optional_line (codes "author") a)
+pub author_spelled : (a : Option Bytes) → is_some a ≡ true → is_ident (unwrap_or a []) ≡ true → AreItems (word_line_if (codes "author") a)
 author_spelled None e h = absurd (false≢true e)
 author_spelled (Some x) e h = (record { line = ident_is_line x h; no_comment = refl; no_data = refl }, tt)
 
-tagger_spelled : (a : Option Bytes) → is_optional_ident a ≡ true → AreItems (optional_line (codes "tagger") a)
+tagger_spelled : (a : Option Bytes) → is_optional_ident a ≡ true → AreItems (word_line_if (codes "tagger") a)
 tagger_spelled None h = tt
 tagger_spelled (Some x) h = (record { line = ident_is_line x h; no_comment = refl; no_data = refl }, tt)
 
-pub encoding_spelled : (a : Option Bytes) → is_optional_encoding a ≡ true → AreItems (optional_line (codes "encoding") a)
+pub encoding_spelled : (a : Option Bytes) → is_optional_encoding a ≡ true → AreItems (word_line_if (codes "encoding") a)
 encoding_spelled None h = tt
 encoding_spelled (Some []) h = absurd (false≢true h)
 encoding_spelled (Some (b ∷ x)) h = (record { line = h; no_comment = refl; no_data = refl }, tt)
@@ -118,9 +119,9 @@ command_spelled (command.Blob b) h = (record { line = refl; no_comment = refl; n
 command_spelled (command.Commit c) h = (
   record { line = ref_is_line c.ref h.ref; no_comment = refl; no_data = refl },
   items_append (mark_line c.mark) _ (mark_spelled c.mark h.mark)
-      (items_append (optional_line (codes "author") c.author) _ (author_spelled c.author h.has_author h.author) (
+      (items_append (word_line_if (codes "author") c.author) _ (author_spelled c.author h.has_author h.author) (
         record { line = ident_is_line c.committer h.committer; no_comment = refl; no_data = refl },
-        items_append (optional_line (codes "encoding") c.encoding) _ (encoding_spelled c.encoding h.encoding) (
+        items_append (word_line_if (codes "encoding") c.encoding) _ (encoding_spelled c.encoding h.encoding) (
           h.message,
           items_append (from_line c.parent) _ (from_spelled c.parent h.parent)
               (items_append (map merge_item c.merges) _ (merges_spelled c.merges h.merges)
@@ -135,7 +136,7 @@ command_spelled (command.Tag t) h = by t.mark h.mark where
     record { line = tag_is_line t.name h.name; no_comment = refl; no_data = refl },
     (
       record { line = commit_ish_is_line t.target h.target; no_comment = refl; no_data = refl },
-      items_append (optional_line (codes "tagger") t.tagger) (Data t.message ∷ []) (tagger_spelled t.tagger h.tagger) (h.message, tt),
+      items_append (word_line_if (codes "tagger") t.tagger) (Data t.message ∷ []) (tagger_spelled t.tagger h.tagger) (h.message, tt),
     ),
   )
 command_spelled (command.Reset r) h = (record { line = ref_is_line r.ref h.0; no_comment = refl; no_data = refl }, reset_spelled r.parent h.1)

@@ -15,8 +15,9 @@ use Rattle.gx_model.specs.Faults.{Given, ◌>>=◌}
 use Rattle.gx_model.specs.Streams.Spelling.{IsNot}
 use Rattle.gx_model.specs.Streams.Commands.{Marked, Named}
 use Rattle.gx_model.specs.Streams.Grammar as read
-use Rattle.gx_model.specs.Streams.Grammar.{mark_of, mark_number, any_text, encoding_of, ident_of, ref_of, tag_of, commit_ish_of, commit_ish_by, feature_of, mode_of, is_name, is_null, AtMark, AtName, AtBlock, where_of, where_by}
-use Rattle.gx_model.specs.Streams.LineShapes.{TextShape, IsOneOf, IsForm, has_form, lacks_form, IsIdentText, IsRefText, IsTagText, IsEncodingText, IsAnyText, mark_text, IsMarkText, is_mark, mark_is_zero, mark_is_no_number, is_no_mark, forty_zeros, IsCommitIshText, names_mark, names_bad_mark, names_zeros, names_commit, IsFeatureText, asks_done, asks_raw_dates, asks_force, asks_other, mode_texts, IsModeText, mode_file, mode_executable, mode_link, mode_gitlink, mode_directory, mode_other, IsDataRefText, at_mark, at_bad_mark, at_block, at_zeros, at_name, at_nothing}
+use Rattle.gx_model.specs.Streams.Grammar.{mark_of, mark_number, any_text, encoding_of, ident_of, ref_of, tag_of, commit_ish_of, commit_ish_by, feature_of, mode_of, is_null, AtMark, AtName, AtBlock, where_of, where_by}
+use Rattle.gx_model.specs.Texts.Digits.{is_any_name_text}
+use Rattle.gx_model.specs.Streams.LineShapes.{TextShape, IsOneOf, IsForm, has_form, lacks_form, IsIdentText, IsRefText, IsEncodingText, IsAnyText, IsMarkText, is_mark, mark_is_zero, mark_is_no_number, is_no_mark, forty_zeros, IsCommitIshText, names_mark, names_bad_mark, names_zeros, names_commit, IsFeatureText, asks_done, asks_raw_dates, asks_force, asks_other, mode_texts, IsModeText, mode_file, mode_executable, mode_link, mode_gitlink, mode_directory, mode_other, IsDataRefText, at_mark, at_bad_mark, at_block, at_zeros, at_name, at_nothing, IsTagNameText, with_colon}
 use Rattle.gx_model.proofs.Texts.Idents.{and_one, and_two, ident_tells}
 use Rattle.gx_model.proofs.Streams.Readings.{refuted}
 use Rattle.gx_model.proofs.Streams.WordShapes.{same, differs, tested}
@@ -54,10 +55,10 @@ ref_shape = form_read (λ text. is_ref_name text ≡ true) faults.BadRefName is_
 pub ref_there : IsTotal IsRefText
 ref_there = form_there (λ text. is_ref_name text ≡ true) faults.BadRefName is_ref_name (λ text h. h) (λ text h. h)
 
-pub tag_shape : IsReadBy IsTagText tag_of
+pub tag_shape : IsReadBy IsTagNameText tag_of
 tag_shape = form_read (λ text. is_tag_name text ≡ true) faults.BadRefName is_tag_name (λ text h. h) (λ text h. h)
 
-pub tag_there : IsTotal IsTagText
+pub tag_there : IsTotal IsTagNameText
 tag_there = form_there (λ text. is_tag_name text ≡ true) faults.BadRefName is_tag_name (λ text h. h) (λ text h. h)
 
 encoded : (text : Bytes) → (0 < length text) × (is_line text ≡ true) → is_optional_encoding (Some text) ≡ true
@@ -82,15 +83,15 @@ any_there text = (Ok tt, refl)
 
 -- ---- marks
 
-no_colon : (text : Bytes) → IsNot mark_text text → read.mark_text text ≡ None
+no_colon : (text : Bytes) → IsNot with_colon text → read.colon_number text ≡ None
 no_colon [] h = refl
 no_colon (b ∷ bs) h = rw (refuted (b == 58) (λ e. h bs (ap (λ x. x ∷ bs) (eqb-true b 58 e)))) refl
 
 -- behind a `:`, or with none
-colon : (text : Bytes) → ((digits : Bytes) × (text ≡ mark_text digits)) ⊎ IsNot mark_text text
+colon : (text : Bytes) → ((digits : Bytes) × (text ≡ with_colon digits)) ⊎ IsNot with_colon text
 colon [] = inr (λ x e. absurd cc)
 colon (b ∷ bs) = by (tested (b == 58)) where
-  by : ((b == 58) ≡ true) ⊎ ((b == 58) ≡ true → ⊥) → ((digits : Bytes) × (b ∷ bs ≡ mark_text digits)) ⊎ IsNot mark_text (b ∷ bs)
+  by : ((b == 58) ≡ true) ⊎ ((b == 58) ≡ true → ⊥) → ((digits : Bytes) × (b ∷ bs ≡ with_colon digits)) ⊎ IsNot with_colon (b ∷ bs)
   by (inl e) = inl (bs, ap (λ x. x ∷ bs) (eqb-true b 58 e))
   by (inr n) = inr (λ x e. let k : b ≡ 58 = cc in n (let t : (b == 58) ≡ true = grind (arith, nat_tests) in t))
 
@@ -106,7 +107,7 @@ mark_shape text g (mark_is_zero {digits = digits} e d) = ap mark_of e ∙ rw d r
 mark_shape text g (mark_is_no_number {digits = digits} e d) = ap mark_of e ∙ rw d refl
 mark_shape text g (is_no_mark h) = rw (no_colon text h) refl
 
-behind_colon : (text digits : Bytes) → text ≡ mark_text digits → (g : Given ℕ) × IsMarkText text g
+behind_colon : (text digits : Bytes) → text ≡ with_colon digits → (g : Given ℕ) × IsMarkText text g
 behind_colon text digits e = by (decimal_of digits) refl where
   by : (o : Option ℕ) → decimal_of digits ≡ o → (g : Given ℕ) × IsMarkText text g
   by None d = (Err faults.BadNumber, mark_is_no_number e d)
@@ -115,15 +116,15 @@ behind_colon text digits e = by (decimal_of digits) refl where
 
 pub mark_there : IsTotal IsMarkText
 mark_there text = by (colon text) where
-  by : ((digits : Bytes) × (text ≡ mark_text digits)) ⊎ IsNot mark_text text → (g : Given ℕ) × IsMarkText text g
+  by : ((digits : Bytes) × (text ≡ with_colon digits)) ⊎ IsNot with_colon text → (g : Given ℕ) × IsMarkText text g
   by (inl c) = behind_colon text c.0 c.1
   by (inr h) = (Err faults.BadLine, is_no_mark h)
 
 -- a mark begins with `:`
-mark_begins : (text : Bytes) (n : ℕ) → IsMarkText text (Ok n) → (digits : Bytes) × (text ≡ mark_text digits)
+mark_begins : (text : Bytes) (n : ℕ) → IsMarkText text (Ok n) → (digits : Bytes) × (text ≡ with_colon digits)
 mark_begins text n (is_mark {digits = digits} e d l) = (digits, e)
 
-number_of : (text digits : Bytes) (g : Given ℕ) → text ≡ mark_text digits → IsMarkText text g → mark_number digits ≡ g
+number_of : (text digits : Bytes) (g : Given ℕ) → text ≡ with_colon digits → IsMarkText text g → mark_number digits ≡ g
 unfolding mark_of
 number_of text digits g e h = sym (ap mark_of e) ∙ mark_shape text g h
 
@@ -150,15 +151,15 @@ commit_ish_shape text g (names_commit h z) = rw (no_colon text h, no_null text z
 
 pub commit_ish_there : IsTotal IsCommitIshText
 commit_ish_there text = by (colon text) where
-  marked : (digits : Bytes) → text ≡ mark_text digits → (g : Given ℕ) → IsMarkText text g → (r : Given _) × IsCommitIshText text r
+  marked : (digits : Bytes) → text ≡ with_colon digits → (g : Given ℕ) → IsMarkText text g → (r : Given _) × IsCommitIshText text r
   marked digits e (Ok n) h = (Ok (Marked n), names_mark h)
   marked digits e (Err f) h = (Err f, names_bad_mark e h)
 
-  bare : IsNot mark_text text → (text ≡ forty_zeros) ⊎ (text ≡ forty_zeros → ⊥) → (r : Given _) × IsCommitIshText text r
+  bare : IsNot with_colon text → (text ≡ forty_zeros) ⊎ (text ≡ forty_zeros → ⊥) → (r : Given _) × IsCommitIshText text r
   bare h (inl z) = (Err faults.Unsupported, names_zeros z)
   bare h (inr z) = (Ok (Named text), names_commit h z)
 
-  by : ((digits : Bytes) × (text ≡ mark_text digits)) ⊎ IsNot mark_text text → (r : Given _) × IsCommitIshText text r
+  by : ((digits : Bytes) × (text ≡ with_colon digits)) ⊎ IsNot with_colon text → (r : Given _) × IsCommitIshText text r
   by (inl c) = let m = behind_colon text c.0 c.1 in marked c.0 c.1 m.0 m.1
   by (inr h) = bare h (same text forty_zeros)
 
@@ -238,11 +239,11 @@ mode_there text = by (one_of mode_texts text) where
 
 -- ---- what content is taken from
 
-name_no_colon : (text : Bytes) → is_name text ≡ true → IsNot mark_text text
-name_no_colon text h x e = false≢true (sym (ap is_name e) ∙ h)
+name_no_colon : (text : Bytes) → is_any_name_text text ≡ true → IsNot with_colon text
+name_no_colon text h x e = false≢true (sym (ap is_any_name_text e) ∙ h)
 
-name_no_block : (text : Bytes) → is_name text ≡ true → text ≡ codes "inline" → ⊥
-name_no_block text h e = false≢true (sym (ap is_name e) ∙ h)
+name_no_block : (text : Bytes) → is_any_name_text text ≡ true → text ≡ codes "inline" → ⊥
+name_no_block text h e = false≢true (sym (ap is_any_name_text e) ∙ h)
 
 pub dataref_shape : IsReadBy IsDataRefText where_of
 dataref_shape text g (at_mark {n = n} h) =
@@ -252,20 +253,20 @@ dataref_shape text g (at_bad_mark {digits = digits} {f = f} e h) = ap where_of e
 dataref_shape text g (at_block e) = ap where_of e
 dataref_shape text g (at_zeros e) = ap where_of e
 dataref_shape text g (at_name h z) = rw (no_colon text (name_no_colon text h), differs text (codes "inline") (name_no_block text h), no_null text z, h) refl
-dataref_shape text g (at_nothing m b h) = rw (no_colon text m, differs text (codes "inline") b, no_null text (λ e. h (ap is_name e)), refuted (is_name text) h) refl
+dataref_shape text g (at_nothing m b h) = rw (no_colon text m, differs text (codes "inline") b, no_null text (λ e. h (ap is_any_name_text e)), refuted (is_any_name_text text) h) refl
 
 pub dataref_there : IsTotal IsDataRefText
 dataref_there text = by (colon text) where
-  marked : (digits : Bytes) → text ≡ mark_text digits → (g : Given ℕ) → IsMarkText text g → (r : Given _) × IsDataRefText text r
+  marked : (digits : Bytes) → text ≡ with_colon digits → (g : Given ℕ) → IsMarkText text g → (r : Given _) × IsDataRefText text r
   marked digits e (Ok n) h = (Ok (AtMark n), at_mark h)
   marked digits e (Err f) h = (Err f, at_bad_mark e h)
 
-  bare : IsNot mark_text text → SameOrNot text (codes "inline") → SameOrNot text forty_zeros → (is_name text ≡ true) ⊎ (is_name text ≡ true → ⊥) → (r : Given _) × IsDataRefText text r
+  bare : IsNot with_colon text → SameOrNot text (codes "inline") → SameOrNot text forty_zeros → (is_any_name_text text ≡ true) ⊎ (is_any_name_text text ≡ true → ⊥) → (r : Given _) × IsDataRefText text r
   bare m (inl b) z h = (Ok AtBlock, at_block b)
   bare m (inr b) (inl z) h = (Err faults.Unsupported, at_zeros z)
   bare m (inr b) (inr z) (inl h) = (Ok (AtName text), at_name h z)
   bare m (inr b) (inr z) (inr h) = (Err faults.BadLine, at_nothing m b h)
 
-  by : ((digits : Bytes) × (text ≡ mark_text digits)) ⊎ IsNot mark_text text → (r : Given _) × IsDataRefText text r
+  by : ((digits : Bytes) × (text ≡ with_colon digits)) ⊎ IsNot with_colon text → (r : Given _) × IsDataRefText text r
   by (inl c) = let m = behind_colon text c.0 c.1 in marked c.0 c.1 m.0 m.1
-  by (inr h) = bare h (same text (codes "inline")) (same text forty_zeros) (tested (is_name text))
+  by (inr h) = bare h (same text (codes "inline")) (same text forty_zeros) (tested (is_any_name_text text))

@@ -4,7 +4,7 @@ use Rattle.std.specs.Prelude.{T, ◌&&◌, nat_lt, nat_le, ◌⊎◌}
 use Rattle.std.specs.List.{list_all}
 use Rattle.std.proofs.lemmas.Bool.Decides.{nat_tests}
 use Rattle.gx_model.specs.Texts.{Bytes}
-use Rattle.gx_model.specs.Histories.Values.{is_hex_digit}
+use Rattle.gx_model.specs.Texts.Digits.{is_lower_digit}
 use Rattle.gx_model.specs.Objects.{hex, hex_digit, digit_value, unhex}
 use Rattle.gx_model.proofs.Texts.PathTests.{first, second, is_true, one_of}
 
@@ -21,7 +21,7 @@ digit_is n h = by (nat_lt n 10) refl
     by false e = (h, inr (grind (arith, nat_tests), refl))
 
 -- a lower-case digit has a value
-pub value_is : (d : ℕ) → T (is_hex_digit d) → IsDigit d (digit_value d)
+pub value_is : (d : ℕ) → T (is_lower_digit d) → IsDigit d (digit_value d)
 value_is d h = one_of _ _ h
     (λ k. by (nat_lt d 58) refl (low k))
     (λ k. by (nat_lt d 58) refl (high k))
@@ -72,24 +72,24 @@ one_hex (a ∷ x) (b ∷ y) f g e =
     λ i. w i ∷ rest i
 
 -- digits are told by their bytes
-pub one_unhex : (x y : Bytes) → T (list_all is_hex_digit x) → T (list_all is_hex_digit y) → length x ≡ length y → length x % 2 ≡ 0 → unhex x ≡ unhex y → x ≡ y
+pub one_unhex : (x y : Bytes) → T (list_all is_lower_digit x) → T (list_all is_lower_digit y) → length x ≡ length y → length x % 2 ≡ 0 → unhex x ≡ unhex y → x ≡ y
 one_unhex [] [] f g l m e = refl
 one_unhex [] (b ∷ y) f g l m e = absurd (omega arith)
 one_unhex (a ∷ x) [] f g l m e = absurd (omega arith)
 one_unhex (a ∷ []) (b ∷ y) f g l m e = absurd (omega arith)
 one_unhex (a ∷ a' ∷ x) (b ∷ []) f g l m e = absurd (omega arith)
 one_unhex (a ∷ a' ∷ x) (b ∷ b' ∷ y) f g l m e =
-    let f' = second (is_hex_digit a) (list_all is_hex_digit (a' ∷ x)) f in
-    let g' = second (is_hex_digit b) (list_all is_hex_digit (b' ∷ y)) g in
-    let va = value_is a (first (is_hex_digit a) (list_all is_hex_digit (a' ∷ x)) f) in
-    let vb = value_is b (first (is_hex_digit b) (list_all is_hex_digit (b' ∷ y)) g) in
-    let va' = value_is a' (first (is_hex_digit a') (list_all is_hex_digit x) f') in
-    let vb' = value_is b' (first (is_hex_digit b') (list_all is_hex_digit y) g') in
+    let f' = second (is_lower_digit a) (list_all is_lower_digit (a' ∷ x)) f in
+    let g' = second (is_lower_digit b) (list_all is_lower_digit (b' ∷ y)) g in
+    let va = value_is a (first (is_lower_digit a) (list_all is_lower_digit (a' ∷ x)) f) in
+    let vb = value_is b (first (is_lower_digit b) (list_all is_lower_digit (b' ∷ y)) g) in
+    let va' = value_is a' (first (is_lower_digit a') (list_all is_lower_digit x) f') in
+    let vb' = value_is b' (first (is_lower_digit b') (list_all is_lower_digit y) g') in
     let p : 16 * digit_value a + digit_value a' ≡ 16 * digit_value b + digit_value b' = cc in
     let q : unhex x ≡ unhex y = cc in
     let s : digit_value a ≡ digit_value b = parts _ _ _ _ va.0 va'.0 vb.0 vb'.0 p in
     let t : digit_value a' ≡ digit_value b' = omega arith in
-    let rest = one_unhex x y (second (is_hex_digit a') (list_all is_hex_digit x) f') (second (is_hex_digit b') (list_all is_hex_digit y) g') (omega arith) (omega arith) q in
+    let rest = one_unhex x y (second (is_lower_digit a') (list_all is_lower_digit x) f') (second (is_lower_digit b') (list_all is_lower_digit y) g') (omega arith) (omega arith) q in
     let u = digit_of a b (digit_value a) va (subst (IsDigit b) (sym s) vb) in
     let w = digit_of a' b' (digit_value a') va' (subst (IsDigit b') (sym t) vb') in
     λ i. u i ∷ w i ∷ rest i

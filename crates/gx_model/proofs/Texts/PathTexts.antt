@@ -10,7 +10,7 @@ use Rattle.gx_model.specs.declared.faults.Fault.{Fault}
 use Rattle.gx_model.specs.declared.faults.Fault.TheVariants as faults
 use Rattle.gx_model.specs.Texts.{Bytes}
 use Rattle.gx_model.specs.Texts.Paths.{AreBytes, Path, is_component, parts_of, path_of, path_text, IsPathOf}
-use Rattle.gx_model.specs.Laws.TextLaws.{HasNoPath, HasLongPath, IsPathFault}
+use Rattle.gx_model.specs.Laws.TextLaws.{HasNoPath, IsLongPathText, IsPathFault}
 use Rattle.gx_model.proofs.Texts.Idents.{and_one, and_two}
 
 -- the components of a text, joined again, are the text
@@ -121,7 +121,7 @@ bad_again text (Ok q) (given e k) h = absurd (h (parts_of text) (text_of_parts t
 bad_again text (Err g) (bad e) h = refl
 bad_again text (Err g) (long e k) h = absurd (h (parts_of text) (text_of_parts text) e)
 
-long_again : (text : Bytes) (r : Result Path Fault) → Given text r → HasLongPath text → r ≡ Err faults.PathTooLong
+long_again : (text : Bytes) (r : Result Path Fault) → Given text r → IsLongPathText text → r ≡ Err faults.PathTooLong
 long_again text (Ok q) (given e k) h = absurd (let lt = h.long in omega arith)
 long_again text (Err g) (bad e) h = absurd (false≢true (sym e ∙ ap (list_all is_component) (same_parts text h.path h.joined h.components) ∙ h.components))
 long_again text (Err g) (long e k) h = refl

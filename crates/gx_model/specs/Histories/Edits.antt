@@ -7,6 +7,7 @@ use Rattle.gx_model.specs.declared.faults.Fault.{Fault}
 use Rattle.gx_model.specs.declared.faults.Fault.TheVariants.{NoSuchPath, RootNotTree, PathTooLong}
 use Rattle.gx_model.specs.Texts.Paths.{Path, are_in_line, begins, is_short, path_cmp}
 use Rattle.gx_model.specs.Histories.Files.{file_at, under}
+use Rattle.gx_model.specs.Faults.{unless}
 
 -- whether a path is the root
 abbrev pub is_root : Path → Bool
@@ -47,11 +48,6 @@ module _ {X : Type 0} where
       else if is_some (file_at files source) && is_root dest then Some RootNotTree
       else if list_all (λ entry. is_short entry.0) (moved source dest (under source files)) then None
       else Some PathTooLong
-
-  -- a file map, unless there is a fault
-  abbrev pub unless : Option Fault → List (Path × X) → Result (List (Path × X)) Fault
-  unless None files = Ok files
-  unless (Some fault) files = Err fault
 
   -- the destination is cleared, and then what the source had is put there
   abbrev pub copied : List (Path × X) → Path → Path → Result (List (Path × X)) Fault

@@ -1,10 +1,11 @@
 -- What a history is made of: bytes, file maps, commits and tags. Source: gitglossary(7), "blob object", "tree object", "commit object" and "tag object".
-use Rattle.std.specs.Prelude.{ℕ, Bool, true, false, ◌&&◌, ◌||◌, nat_le, nat_eq, length, List, [], ◌∷◌, ◌++◌, map, Option, None, Some, is_none}
+use Rattle.std.specs.Prelude.{ℕ, Bool, true, false, ◌&&◌, List, [], ◌∷◌, ◌++◌, map, Option, None, Some, is_none}
 use Rattle.std.specs.List.{filter, filter_map, list_all}
 use Rattle.std.specs.Option.{option_eq}
 use Rattle.gx_model.specs.declared.objects.Mode.{Mode}
 use Rattle.gx_model.specs.declared.objects.Mode.TheVariants.{File, Exec, Link, Gitlink, Dir}
 use Rattle.gx_model.specs.Texts.{Bytes, is_line, same_bytes}
+use Rattle.gx_model.specs.Texts.Digits.{is_name_text}
 use Rattle.gx_model.specs.Texts.RefNames.{is_tag_name}
 use Rattle.gx_model.specs.Texts.Idents.{is_ident}
 use Rattle.gx_model.specs.Texts.Paths.{same_path}
@@ -52,6 +53,11 @@ parents_of (commit files parents text) = parents
 -- the texts of a commit
 abbrev pub text_of : Commit → CommitText
 text_of (commit files parents text) = text
+
+-- the commit of a value that is one
+abbrev pub commit_of : Value → Option Commit
+commit_of (commit_value c) = Some c
+commit_of _ = None
 
 -- parents as a list
 abbrev pub list_of : Commits → List Commit
@@ -118,14 +124,6 @@ same_value _ _ = false
 
 -- ---- which values are proper
 
--- a digit, or a letter from a to f
-abbrev pub is_hex_digit : ℕ → Bool
-is_hex_digit digit = (nat_le 48 digit && nat_le digit 57) || (nat_le 97 digit && nat_le digit 102)
-
--- 40 lower-case digits
-abbrev pub is_name_text : Bytes → Bool
-is_name_text text = nat_eq (length text) 40 && list_all is_hex_digit text
-
 -- no directory; and a gitlink's bytes are 40 lower-case digits
 abbrev pub is_leaf : Mode → Bytes → Bool
 is_leaf Dir content = false
@@ -168,6 +166,11 @@ is_proper (tag_value tag) = is_tag_name tag.name && is_optional_ident tag.tagger
 -- the sub-maps at the first components that are directories, in order
 abbrev pub sub_maps : FileMap Bytes → List (FileMap Bytes)
 sub_maps files = map (λ component. sub_map files (component ∷ [])) (filter (λ component. is_none (file_at files (component ∷ []))) (first_components files))
+
+-- what a file has or names, unless it is a gitlink
+abbrev pub unless_gitlink : Mode → Bytes → Option Bytes
+unless_gitlink Gitlink x = None
+unless_gitlink _ x = Some x
 
 -- the bytes of a file, as a value; a gitlink has none
 abbrev pub blob_of : Mode → Bytes → Option Value

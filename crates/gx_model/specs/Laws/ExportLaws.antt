@@ -11,16 +11,17 @@ use Rattle.gx_model.specs.Streams.Commands as command
 use Rattle.gx_model.specs.Texts.{Bytes, is_line}
 use Rattle.gx_model.specs.Texts.RefNames.{is_ref_name, is_tag_name}
 use Rattle.gx_model.specs.Texts.Idents.{is_ident}
-use Rattle.gx_model.specs.Faults.{and_then}
+use Rattle.gx_model.specs.Faults.{◌>>=◌}
 use Rattle.gx_model.specs.Texts.Paths.{Path, is_file_path}
 use Rattle.gx_model.specs.Streams.Items.{Data, Finished, Item, Line, items_of}
 use Rattle.gx_model.specs.Streams.Commands.{Change, Clear, Command, CommitIsh, CommitParts, Copy, DataRef, Mark, Marked, Modify, Named, Object, Remove, Rename, TagParts}
 use Rattle.gx_model.specs.Streams.Grammar.{commands_of, is_null}
 use Rattle.gx_model.specs.Histories.Files.{Leaf}
-use Rattle.gx_model.specs.Histories.Values.{Commit, Value, blob_value, commit_value, files_of, is_content, is_name_text, is_optional_encoding, is_optional_ident, is_proper, list_of, parents_of, text_of}
-use Rattle.gx_model.specs.Histories.{History, IsHistory, IsIn, IsWhole, Reaches, Target, at_commit, at_tag, is_in, value_at, with_one, with_value}
-use Rattle.gx_model.specs.Revisions.Ranges.{commit_of}
-use Rattle.gx_model.specs.Replay.{Report, State, finished, or_else, replayed, replayed_text, start, step}
+use Rattle.gx_model.specs.Histories.Values.{Commit, Value, blob_value, commit_of, commit_value, files_of, is_content, is_optional_encoding, is_optional_ident, is_proper, list_of, parents_of, text_of}
+use Rattle.gx_model.specs.Texts.Digits.{is_name_text}
+use Rattle.gx_model.specs.Histories.{History, IsHistory, IsIn, IsWhole, Reaches, Target, at_commit, at_tag, is_in, no_history, value_at, with_one, with_value}
+use Rattle.gx_model.specs.Replay.{Report, State, finished, replayed, replayed_text, start, step}
+use Rattle.std.specs.Option.{unwrap_or}
 use Rattle.gx_model.specs.Export.{all_written, carrier, command_items, contents, export_commands, export_text, inner_commands, item_text, one_commit, reached_commits, with_commit}
 
 -- a line with no LF that is no comment and announces no block
@@ -91,7 +92,7 @@ HasMark (Some n) = IsMark n
 pub record IsSpelledCommit (c : CommitParts) : Type 0 where
   pub ref : is_ref_name c.ref ≡ true
   pub mark : HasMark c.mark
-  pub author : is_ident (or_else c.author []) ≡ true
+  pub author : is_ident (unwrap_or c.author []) ≡ true
   pub has_author : is_some c.author ≡ true
   pub committer : is_ident c.committer ≡ true
   pub encoding : is_optional_encoding c.encoding ≡ true
@@ -145,7 +146,7 @@ carried (Some c) = (carrier, c) ∷ []
 abbrev pub state_at : List Value → List Value → Option (Option Commit) → State
 state_at ws vs b = record {
   history = record { values = vs; refs = [] };
-  kept = record { history = record { values = []; refs = [] }; checkpoints = 0 };
+  kept = record { history = no_history; checkpoints = 0 };
   published = [];
   marks = numbered ws;
   branches = carried b;
@@ -169,7 +170,7 @@ module _ (name : Kind → Bytes → Bytes) where
   -- the state after some commands, without the end
   abbrev pub steps : State → List Command → Result State Fault
   steps s [] = Ok s
-  steps s (c ∷ cs) = and_then (step name s c) (λ t. steps t cs)
+  steps s (c ∷ cs) = step name s c >>= λ t. steps t cs
 
   -- One commit's commands, where its parents were written: they meet no fault, mark n still stands for the nth blob or commit written, and the values are these.
   abbrev pub CommitIsReplayed : Type 0
@@ -209,10 +210,6 @@ CommitKeeps =
 
 -- ---- all commits
 
--- the empty history
-abbrev pub nothing : History
-nothing = record { values = []; refs = [] }
-
 -- An export's commands are replayed without a fault: the refs are equal, the values are exactly those that were reached, and the commits stand in their order.
 pub record IsAgain (h k : History) : Type 0 where
   pub refs : k.refs ≡ h.refs
@@ -230,7 +227,7 @@ exported_report h k = record { commands = length (export_commands h); objects = 
 abbrev pub ExportIsReplayed : Type 0
 ExportIsReplayed =
     (name : Kind → Bytes → Bytes) (h : History) → IsHistory h
-    → (k : History) × IsAgain h k × (replayed name 0 (start nothing) (export_commands h) None ≡ finished k [] (exported_report h k))
+    → (k : History) × IsAgain h k × (replayed name 0 (start no_history) (export_commands h) None ≡ finished k [] (exported_report h k))
 
 -- ---- what an export can be read of
 
@@ -275,7 +272,7 @@ ExportIsSpelled = (h : History) → IsHistory h → IsReadable h → AllByRecurs
 abbrev pub ExportIsImported : Type 0
 ExportIsImported =
     (name : Kind → Bytes → Bytes) (h : History) → IsHistory h → IsReadable h
-    → (k : History) × IsAgain h k × (replayed_text name nothing (export_text h) false ≡ finished k [] (exported_report h k))
+    → (k : History) × IsAgain h k × (replayed_text name no_history (export_text h) false ≡ finished k [] (exported_report h k))
 
 -- lengths and marks fit where the text does
 abbrev pub FormedIsReadable : Type 0

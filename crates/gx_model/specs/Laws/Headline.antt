@@ -15,17 +15,17 @@ use Rattle.gx_model.specs.Histories.Files.{Leaf}
 use Rattle.gx_model.specs.Histories.Values.{Commit, commit_value}
 use Rattle.gx_model.specs.Objects.{hex}
 use Rattle.gx_model.specs.Records.{name_of, parts_of_commit}
-use Rattle.gx_model.specs.Histories.{AreDistinct, History, IsIn, Record, Records, StandsFor, record_of, value_at}
+use Rattle.gx_model.specs.Histories.{AreDistinct, History, IsIn, Record, Records, StandsFor, no_history, record_of, value_at}
 use Rattle.gx_model.specs.Records.HistoryOf.{commit_parts_in, tag_parts_in}
 use Rattle.gx_model.specs.Records.Sound.{AnyByRecursion}
 use Rattle.gx_model.specs.Records.Growth.{record_named}
-use Rattle.gx_model.specs.Records.Walks.{Place, walked}
+use Rattle.gx_model.specs.Records.Walks.{walked}
 use Rattle.gx_model.specs.Records.Lookups.{first_named}
 use Rattle.gx_model.specs.Revisions.{Revision}
 use Rattle.gx_model.specs.Revisions.Denotation.{find_ref, looked_up, ref_names, value_denoted}
 use Rattle.gx_model.specs.Export.{export_text}
 use Rattle.gx_model.specs.Replay.{Report, finished, imported}
-use Rattle.gx_model.specs.Laws.ExportLaws.{IsAgain, exported_report, nothing}
+use Rattle.gx_model.specs.Laws.ExportLaws.{IsAgain, exported_report}
 
 -- ---- what records show, object by object
 
@@ -46,7 +46,7 @@ tree_named records called =
     elim (record_named records called) [ None ↦ Err UnknownObject | Some held ↦ tree_in records held.kind called held.body ]
 
 -- the mode and bytes of the file where a walk ended
-abbrev pub leaf_held : List Record → Option Place → Given (Leaf Bytes)
+abbrev pub leaf_held : List Record → Option (Leaf Bytes) → Given (Leaf Bytes)
 leaf_held records None = Err NoSuchPath
 leaf_held records (Some (Dir, called)) = Err WrongKind
 leaf_held records (Some (Gitlink, called)) = Ok (Gitlink, hex called)
@@ -90,8 +90,8 @@ module _ (name : Kind → Bytes → Bytes) where
   abbrev pub Headline : Type 0
   Headline =
       (given : Bytes) (fails : Bool) (h : History) (progress : Bytes) (report : Report) (repository : Records)
-      → imported name nothing given fails ≡ finished h progress report → HasRecordsOf repository h
+      → imported name no_history given fails ≡ finished h progress report → HasRecordsOf repository h
       → StandsFor name repository h × Shows repository h
       × (length (export_text h) < 2 ^ 64
       → (k : History) × (new : Records)
-      × (imported name nothing (export_text h) false ≡ finished k [] (exported_report h k)) × ComesBack repository h new k)
+      × (imported name no_history (export_text h) false ≡ finished k [] (exported_report h k)) × ComesBack repository h new k)

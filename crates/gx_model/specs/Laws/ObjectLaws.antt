@@ -1,10 +1,8 @@
 -- The laws of trees, commits and tags as objects. Source: Pro Git, "Git Objects", and gitglossary(7), "tree object".
 use Rattle.std.specs.Prelude.{◌≡◌, ◌≢◌, true, false, List, [], ◌∷◌, map, IsTrue}
 use Rattle.std.specs.List.{AllByRecursion}
-use Rattle.std.specs.Ordering.{nat_cmp}
-use Rattle.std.specs.Cmp.Lexicographic.{slice_cmp}
 use Rattle.gx_model.specs.declared.objects.Kind.{Kind}
-use Rattle.gx_model.specs.Texts.{Bytes}
+use Rattle.gx_model.specs.Texts.{Bytes, byte_cmp}
 use Rattle.gx_model.specs.Texts.Paths.{Path, is_component, path_cmp}
 use Rattle.gx_model.specs.Histories.Files.{FileMap}
 use Rattle.gx_model.specs.Histories.Values.{Value, is_content, parts, tree_value}
@@ -36,7 +34,7 @@ IsAtOrBelow entry (c ∷ d ∷ p) = (c ≡ entry.component) × (is_dir entry.mod
 abbrev pub EntriesStandInPathOrder : Type 0
 EntriesStandInPathOrder =
     (entry other : Entry) (path another : Path) → IsTrue (is_component entry.component) → IsTrue (is_component other.component) → entry.component ≢ other.component
-    → IsAtOrBelow entry path → IsAtOrBelow other another → path_cmp path another ≡ slice_cmp nat_cmp (entry_key entry) (entry_key other)
+    → IsAtOrBelow entry path → IsAtOrBelow other another → path_cmp path another ≡ byte_cmp (entry_key entry) (entry_key other)
 
 -- two file maps with one body are one, where what is below them stands among values that their names tell apart
 abbrev pub TreesTellMaps : (Kind → Bytes → Bytes) → Type 0

@@ -4,7 +4,7 @@ use Rattle.std.specs.Prelude.{◌≡◌, ◌≢◌, ◌⊎◌, ◌-◌, ◌<◌,
 use Rattle.std.specs.FinMap.Entries.{put}
 use Rattle.std.specs.List.{AllByRecursion, fold, list_any}
 use Rattle.gx_model.specs.declared.objects.Kind.{Kind}
-use Rattle.gx_model.specs.Texts.{Bytes}
+use Rattle.gx_model.specs.Texts.{Bytes, byte_cmp}
 use Rattle.gx_model.specs.Histories.Values.{Commit, Value, commit_value, text_of}
 use Rattle.gx_model.specs.Histories.{History, IsHistory, IsIn, IsWhole, Records, Target, at_commit, at_tag, value_at}
 use Rattle.gx_model.specs.Objects.{IsNamer}
@@ -13,7 +13,7 @@ use Rattle.gx_model.specs.Records.HistoryOf.{history_of}
 use Rattle.gx_model.specs.Records.Sound.{IsSound}
 use Rattle.gx_model.specs.Revisions.Denotation.{ref_at}
 use Rattle.gx_model.specs.Revisions.Ranges.{Word, listing, span}
-use Rattle.gx_model.specs.Replay.{Report, byte_cmp, finished, is_forward, replayed, replayed_text, start}
+use Rattle.gx_model.specs.Replay.{Report, finished, is_forward, replayed, replayed_text, start}
 use Rattle.gx_model.specs.Changes.{all_changes, commit_ref, own_files, range_commands, range_text, sending_commands, set_refs}
 use Rattle.gx_model.specs.Laws.ExportLaws.{AnyReaches, HaveNoNullGitlink, IsReadableFile, IsReadableTarget, IsSpelled}
 

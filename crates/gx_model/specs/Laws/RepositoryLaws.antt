@@ -3,12 +3,10 @@
 use Rattle.std.specs.Prelude.{◌≡◌, ◌↔◌, true, IsTrue, List, ◌∷◌, ◌++◌, map, Some, None, Ok}
 use Rattle.std.specs.List.{list_all, fold, AllByRecursion}
 use Rattle.std.specs.Option.{option_map}
-use Rattle.std.specs.Ordering.{nat_cmp}
-use Rattle.std.specs.Cmp.Lexicographic.{slice_cmp}
 use Rattle.std.specs.FinMap.Entries.{is_sorted}
 use Rattle.gx_model.specs.declared.objects.Kind.{Kind}
 use Rattle.gx_model.specs.declared.objects.Kind.TheVariants as kind
-use Rattle.gx_model.specs.Texts.{Bytes}
+use Rattle.gx_model.specs.Texts.{Bytes, byte_cmp}
 use Rattle.gx_model.specs.Texts.RefNames.{is_ref_name}
 use Rattle.gx_model.specs.Texts.Paths.{Path, is_short}
 use Rattle.gx_model.specs.Histories.Files.{FileMap}
@@ -139,7 +137,7 @@ pub record RecordsFind (name : Kind → Bytes → Bytes) : Type 0 where
 
 -- other refs, and fewer records
 pub record PartsChange (name : Kind → Bytes → Bytes) : Type 0 where
-  pub refs : (repository : Records) → IsSound name repository → (refs : List (Bytes × Bytes)) → IsTrue (is_sorted (slice_cmp nat_cmp) refs) → IsTrue (list_all (λ ref. is_ref_name ref.0) refs)
+  pub refs : (repository : Records) → IsSound name repository → (refs : List (Bytes × Bytes)) → IsTrue (is_sorted byte_cmp refs) → IsTrue (list_all (λ ref. is_ref_name ref.0) refs)
       → AllByRecursion (λ ref. IsTarget repository.records ref.0 ref.1) refs → IsSound name (with_refs repository refs) × (values_of (with_refs repository refs) ≡ values_of repository)
   pub first : (front rest : List Record) (refs : List (Bytes × Bytes)) → IsSound name (record { records = front ++ rest; refs = refs }) → AllByRecursion (λ ref. IsTarget front ref.0 ref.1) refs
       → IsSound name (record { records = front; refs = refs })

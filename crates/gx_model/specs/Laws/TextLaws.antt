@@ -47,7 +47,7 @@ abbrev pub HasNoPath : Bytes → Type 0
 HasNoPath text = (p : Path) → path_text p ≡ text → IsTrue (list_all is_component p) → ⊥
 
 -- proper components make the text, and it is too long
-pub record HasLongPath (text : Bytes) : Type 0 where
+pub record IsLongPathText (text : Bytes) : Type 0 where
   pub path : Path
   pub joined : path_text path ≡ text
   pub components : IsTrue (list_all is_component path)
@@ -55,7 +55,7 @@ pub record HasLongPath (text : Bytes) : Type 0 where
 
 -- why a text is no path
 abbrev pub IsPathFault : Bytes → Fault → Type 0
-IsPathFault text f = ((f ≡ faults.BadPath) × HasNoPath text) ⊎ ((f ≡ faults.PathTooLong) × HasLongPath text)
+IsPathFault text f = ((f ≡ faults.BadPath) × HasNoPath text) ⊎ ((f ≡ faults.PathTooLong) × IsLongPathText text)
 
 -- each fault of a path comes exactly where it is one
 abbrev pub PathsAreRefused : Type 0

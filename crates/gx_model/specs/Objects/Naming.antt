@@ -4,9 +4,8 @@ use Rattle.std.specs.List.{list_all}
 use Rattle.gx_model.specs.declared.objects.Kind.{Kind}
 use Rattle.gx_model.specs.declared.objects.Kind.TheVariants.{Blob, Tree, Commit, Tag}
 use Rattle.gx_model.specs.Texts.{Bytes}
-use Rattle.gx_model.specs.Histories.Values.{is_name_text}
+use Rattle.gx_model.specs.Texts.Digits.{is_any_digit, is_name_text, lower}
 use Rattle.gx_model.specs.Objects.{unhex}
-use Rattle.gx_model.specs.Revisions.Denotation.{is_any_digit, lower}
 
 -- the word of a kind
 abbrev pub kind_word : Kind → Bytes

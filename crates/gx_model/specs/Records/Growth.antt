@@ -8,6 +8,7 @@ use Rattle.gx_model.specs.Histories.Files.{FileMap, depth}
 use Rattle.gx_model.specs.Histories.Values.{Value, is_proper, parts, sub_maps}
 use Rattle.gx_model.specs.Records.{name_of, tree_body}
 use Rattle.gx_model.specs.Histories.{IsIn, Record, is_in, with_one}
+use Rattle.std.specs.Option.{option_and_then}
 
 -- whether two kinds are equal
 abbrev pub same_kind : Kind → Kind → Bool
@@ -35,15 +36,10 @@ put_under (Some held) records new = if same_object held new then Some records el
 abbrev pub put : List Record → Record → Option (List Record)
 put records new = put_under (record_named records new.name) records new
 
--- the next step, where there is something
-abbrev pub and_some : {A B : Type 0} → Option A → (A → Option B) → Option B
-and_some None step = None
-and_some (Some x) step = step x
-
 -- records put one after the other
 abbrev pub put_all : List Record → List Record → Option (List Record)
 put_all records [] = Some records
-put_all records (n ∷ ns) = and_some (put records n) (λ now. put_all now ns)
+put_all records (n ∷ ns) = option_and_then (λ now. put_all now ns) (put records n)
 
 -- a file map's sub-maps at first components, each in this way, and then the map
 abbrev pub all_trees_to : ℕ → FileMap Bytes → List (FileMap Bytes)

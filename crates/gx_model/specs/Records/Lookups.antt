@@ -12,16 +12,12 @@ use Rattle.gx_model.specs.Histories.{Record}
 use Rattle.gx_model.specs.Records.HistoryOf.{tag_parts_in}
 use Rattle.gx_model.specs.Records.Growth.{record_named}
 use Rattle.gx_model.specs.Revisions.Denotation.{begins_with_digits}
-
--- the first of two that is there
-abbrev pub or_else : Option Bytes → Option Bytes → Option Bytes
-or_else (Some n) o = Some n
-or_else None o = o
+use Rattle.std.specs.Option.{option_or}
 
 -- the object of the first of these names that is a ref's
 abbrev pub first_named : List (Bytes × Bytes) → List Bytes → Option Bytes
 first_named refs [] = None
-first_named refs (n ∷ ns) = or_else (lookup (same_bytes n) refs) (first_named refs ns)
+first_named refs (n ∷ ns) = option_or (lookup (same_bytes n) refs) (first_named refs ns)
 
 -- the records whose name begins with these digits
 abbrev pub records_begun_by : List Record → Bytes → List Record

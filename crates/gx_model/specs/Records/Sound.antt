@@ -1,14 +1,12 @@
 -- Sound repositories: what holds of the records and refs, said without a history. Source: Pro Git, "Git Objects", and git-check-ref-format(1).
 use Rattle.std.specs.Prelude.{◌≡◌, ◌≢◌, ◌⊎◌, List, [], ◌∷◌, ◌++◌, map, IsTrue, ⊤}
 use Rattle.std.specs.List.{AllByRecursion, list_all}
-use Rattle.std.specs.Ordering.{nat_cmp}
-use Rattle.std.specs.Cmp.Lexicographic.{slice_cmp}
 use Rattle.std.specs.FinMap.Entries.{is_sorted}
 use Rattle.gx_model.specs.declared.objects.Kind.{Kind}
 use Rattle.gx_model.specs.declared.objects.Kind.TheVariants as kind
 use Rattle.gx_model.specs.declared.objects.Mode.{Mode}
 use Rattle.gx_model.specs.declared.objects.Mode.TheVariants.{Gitlink, Dir}
-use Rattle.gx_model.specs.Texts.{Bytes}
+use Rattle.gx_model.specs.Texts.{Bytes, byte_cmp}
 use Rattle.gx_model.specs.Texts.RefNames.{is_ref_name, tag_ref}
 use Rattle.gx_model.specs.Texts.Paths.{Path, is_short}
 use Rattle.gx_model.specs.Histories.Files.{FileMap, is_file_map}
@@ -81,7 +79,7 @@ pub record IsSound (name : Kind → Bytes → Bytes) (repository : Records) : Ty
   pub distinct : AreDistinct (map (λ held. held.name) repository.records)
   pub linked : IsLinkedAfter [] repository.records
   pub paths : AllByRecursion (HasShortPaths repository.records) repository.records
-  pub sorted : IsTrue (is_sorted (slice_cmp nat_cmp) repository.refs)
+  pub sorted : IsTrue (is_sorted byte_cmp repository.refs)
   pub ref_names : IsTrue (list_all (λ ref. is_ref_name ref.0) repository.refs)
   pub held : AllByRecursion (λ ref. IsTarget repository.records ref.0 ref.1) repository.refs
 

@@ -13,7 +13,8 @@ use Rattle.gx_model.specs.Texts.Paths.{Path, is_component, is_short}
 use Rattle.gx_model.specs.Streams.Items.{Stream}
 use Rattle.gx_model.specs.Streams.Commands as command
 use Rattle.gx_model.specs.Streams.Commands.{Change, Clear, Command, CommitParts, Copy, DataRef, Inline, Mark, Modify, Object, Remove, Rename, TagParts}
-use Rattle.gx_model.specs.Streams.Grammar.{commands_of, is_name}
+use Rattle.gx_model.specs.Streams.Grammar.{commands_of}
+use Rattle.gx_model.specs.Texts.Digits.{is_any_name_text}
 use Rattle.gx_model.specs.Histories.Values.{is_optional_encoding, is_optional_ident}
 use Rattle.gx_model.specs.Histories.{History, IsHistory}
 use Rattle.gx_model.specs.Replay.{Kept, Report, finished, refused, replayed, replayed_text, start}
@@ -27,7 +28,7 @@ IsWholePath path = IsTrue (list_all is_component path && is_short path)
 -- a modify gives no directory, and a gitlink by forty digits alone
 abbrev pub IsContent : Mode → DataRef → Type 0
 IsContent Dir _ = ⊥
-IsContent Gitlink (Object digits) = IsTrue (is_name digits)
+IsContent Gitlink (Object digits) = IsTrue (is_any_name_text digits)
 IsContent Gitlink (Mark n) = ⊥
 IsContent Gitlink (Inline bytes) = ⊥
 IsContent _ _ = ⊤

@@ -1,9 +1,10 @@
 -- What a revision gives in a history. Source: gitrevisions(7).
-use Rattle.std.specs.Prelude.{ℕ, zero, suc, ◌+◌, Bool, ◌&&◌, ◌||◌, nat_lt, nat_le, if◌then◌else◌, List, [], ◌∷◌, ◌++◌, map, length, Option, None, Some, codes}
+use Rattle.std.specs.Prelude.{ℕ, zero, suc, Bool, ◌&&◌, nat_lt, nat_le, if◌then◌else◌, List, [], ◌∷◌, ◌++◌, map, length, Option, None, Some, codes}
 use Rattle.std.specs.declared.result.Result.{Result}
 use Rattle.std.specs.declared.result.Result.TheVariants.{Ok, Err}
 use Rattle.std.specs.List.{list_all, filter, slice_get, starts_with}
 use Rattle.std.specs.Map.{lookup}
+use Rattle.std.specs.Option.{ok_or, option_or}
 use Rattle.gx_model.specs.declared.objects.Kind.{Kind}
 use Rattle.gx_model.specs.declared.objects.Mode.{Mode}
 use Rattle.gx_model.specs.declared.objects.Mode.TheVariants.{Gitlink}
@@ -11,7 +12,8 @@ use Rattle.gx_model.specs.declared.faults.Fault.{Fault}
 use Rattle.gx_model.specs.declared.faults.Fault.TheVariants as fault
 use Rattle.std.specs.Bool.{nat_eq}
 use Rattle.gx_model.specs.Texts.{Bytes, same_bytes}
-use Rattle.gx_model.specs.Faults.{and_then}
+use Rattle.gx_model.specs.Texts.Digits.{is_any_digit, lower}
+use Rattle.gx_model.specs.Faults.{◌>>=◌}
 use Rattle.gx_model.specs.Texts.Paths.{Path}
 use Rattle.gx_model.specs.Revisions.{Revision, Suffix, parent, ancestor, peeled, itself, as_commit, as_blob, as_tree, as_tag}
 use Rattle.gx_model.specs.Histories.Files.{FileMap, Leaf, file_at, sub_map}
@@ -32,29 +34,16 @@ ref_names n =
 abbrev pub ref_at : History → Bytes → Option Target
 ref_at h n = lookup (same_bytes n) h.refs
 
--- the first of two that is there
-abbrev pub or_ref : Option Target → Option Target → Option Target
-or_ref (Some t) o = Some t
-or_ref None o = o
-
 -- what the first of these names that is a ref holds
 abbrev pub first_ref : History → List Bytes → Option Target
 first_ref h [] = None
-first_ref h (n ∷ ns) = or_ref (ref_at h n) (first_ref h ns)
+first_ref h (n ∷ ns) = option_or (ref_at h n) (first_ref h ns)
 
 -- what the word holds, by the six names
 abbrev pub find_ref : History → Bytes → Option Target
 find_ref h n = first_ref h (ref_names n)
 
 -- ---- digits
-
--- a hexadecimal digit of either case
-abbrev pub is_any_digit : ℕ → Bool
-is_any_digit d = (nat_le 48 d && nat_le d 57) || (nat_le 97 d && nat_le d 102) || (nat_le 65 d && nat_le d 70)
-
--- a digit in lower case
-abbrev pub lower : ℕ → ℕ
-lower d = if nat_le 65 d && nat_le d 70 then d + 32 else d
 
 -- a name's digits begin with these
 abbrev pub begins_with_digits : Bytes → Bytes → Bool
@@ -109,20 +98,15 @@ files_in (tree_value f) = Ok f
 files_in (commit_value c) = Ok (files_of c)
 files_in (tag_value t) = Ok (files_of t.target)
 
--- a parent, or NoParent
-abbrev pub or_no_parent : Option Commit → Result Commit Fault
-or_no_parent None = Err fault.NoParent
-or_no_parent (Some c) = Ok c
-
 -- ^0 is the commit
 abbrev pub nth_parent : ℕ → Commit → Result Commit Fault
 nth_parent zero c = Ok c
-nth_parent (suc n) c = or_no_parent (slice_get (list_of (parents_of c)) n)
+nth_parent (suc n) c = ok_or (slice_get (list_of (parents_of c)) n) fault.NoParent
 
 -- n first parents up
 abbrev pub nth_ancestor : ℕ → Commit → Result Commit Fault
 nth_ancestor zero c = Ok c
-nth_ancestor (suc n) c = and_then (nth_parent 1 c) (nth_ancestor n)
+nth_ancestor (suc n) c = nth_parent 1 c >>= nth_ancestor n
 
 -- a commit, and no other value
 abbrev pub only_commit : Value → Result Value Fault
@@ -141,19 +125,19 @@ only_tag _ = Err fault.WrongKind
 
 -- what a suffix gives
 abbrev pub suffixed : Value → Suffix → Result Value Fault
-suffixed v (parent n) = and_then (commit_in v) (λ c. and_then (nth_parent n c) (λ d. Ok (commit_value d)))
-suffixed v (ancestor n) = and_then (commit_in v) (λ c. and_then (nth_ancestor n c) (λ d. Ok (commit_value d)))
+suffixed v (parent n) = commit_in v >>= λ c. nth_parent n c >>= λ d. Ok (commit_value d)
+suffixed v (ancestor n) = commit_in v >>= λ c. nth_ancestor n c >>= λ d. Ok (commit_value d)
 suffixed v peeled = Ok (peel v)
 suffixed v itself = Ok v
 suffixed v as_commit = only_commit (peel v)
 suffixed v as_blob = only_blob (peel v)
-suffixed v as_tree = and_then (files_in v) (λ f. Ok (tree_value f))
+suffixed v as_tree = files_in v >>= λ f. Ok (tree_value f)
 suffixed v as_tag = only_tag v
 
 -- what suffixes give, from left to right
 abbrev pub all_suffixed : Value → List Suffix → Result Value Fault
 all_suffixed v [] = Ok v
-all_suffixed v (s ∷ ss) = and_then (suffixed v s) (λ w. all_suffixed w ss)
+all_suffixed v (s ∷ ss) = suffixed v s >>= λ w. all_suffixed w ss
 
 -- ---- what is shown
 
@@ -181,11 +165,11 @@ at_path f (c ∷ p) = elim (file_at f (c ∷ p)) [ Some x ↦ Ok (of_leaf x.0 x.
 -- what a path behind the `:` shows
 abbrev pub shown_at : Value → Option Path → Result Shown Fault
 shown_at v None = Ok (object v)
-shown_at v (Some p) = and_then (files_in v) (λ f. at_path f p)
+shown_at v (Some p) = files_in v >>= λ f. at_path f p
 
 -- what a revision gives in a history
 unfoldable pub denoted : (Kind → Bytes → Bytes) → History → Revision → Result Shown Fault
-denoted name h r = and_then (base_value name h r.base) (λ v. and_then (all_suffixed v r.suffixes) (λ w. shown_at w r.path))
+denoted name h r = base_value name h r.base >>= λ v. all_suffixed v r.suffixes >>= λ w. shown_at w r.path
 
 -- the mode and bytes of a file
 abbrev pub of_file : Option (Leaf Bytes) → FileMap Bytes → Result (Leaf Bytes) Fault
@@ -207,12 +191,12 @@ shown_value (submodule x) = Err fault.WrongKind
 
 -- the value of a revision, which is no submodule
 abbrev pub value_denoted : (Kind → Bytes → Bytes) → History → Revision → Result Value Fault
-value_denoted name h r = and_then (denoted name h r) shown_value
+value_denoted name h r = denoted name h r >>= shown_value
 
 -- the commit of a revision, after peeling
 abbrev pub commit_denoted : (Kind → Bytes → Bytes) → History → Revision → Result Commit Fault
-commit_denoted name h r = and_then (value_denoted name h r) commit_in
+commit_denoted name h r = value_denoted name h r >>= commit_in
 
 -- the mode and bytes of the file at a path in a revision's tree
 unfoldable pub looked_up : (Kind → Bytes → Bytes) → History → Revision → Path → Result (Leaf Bytes) Fault
-looked_up name h r p = and_then (value_denoted name h r) (λ v. and_then (files_in v) (λ f. file_shown f p))
+looked_up name h r p = (value_denoted name h r >>= λ v. files_in v >>= λ f. file_shown f p)

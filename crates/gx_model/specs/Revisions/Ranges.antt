@@ -1,14 +1,14 @@
 -- What range words give in a history: the commits that they include and don't exclude. Source: gitrevisions(7), "Specifying Ranges".
-use Rattle.std.specs.Prelude.{ℕ, ◌+◌, Bool, false, not, ◌&&◌, ◌||◌, List, [], ◌∷◌, map, reverse, Option, None, Some}
+use Rattle.std.specs.Prelude.{ℕ, ◌+◌, Bool, false, not, ◌&&◌, ◌||◌, List, [], ◌∷◌, map, reverse}
 use Rattle.std.specs.declared.result.Result.{Result}
 use Rattle.std.specs.declared.result.Result.TheVariants.{Ok, Err}
 use Rattle.std.specs.List.{list_any, filter, filter_map}
 use Rattle.gx_model.specs.declared.objects.Kind.{Kind}
 use Rattle.gx_model.specs.declared.faults.Fault.{Fault}
 use Rattle.gx_model.specs.Texts.{Bytes}
-use Rattle.gx_model.specs.Faults.{Given, and_then, ◌>>=◌}
+use Rattle.gx_model.specs.Faults.{Given, ◌>>=◌}
 use Rattle.gx_model.specs.Revisions.{RangeWord, WithAncestors, WithoutAncestors, Between, Apart, AllParents, Alone, WithoutOne}
-use Rattle.gx_model.specs.Histories.Values.{Commit, Commits, Value, commit, commit_value, more, none, parents_of, same_commit}
+use Rattle.gx_model.specs.Histories.Values.{Commit, Commits, commit, commit_of, commit_value, more, none, parents_of, same_commit}
 use Rattle.gx_model.specs.Records.{name_of}
 use Rattle.gx_model.specs.Histories.{History}
 use Rattle.gx_model.specs.Revisions.Denotation.{commit_denoted, nth_parent}
@@ -33,8 +33,8 @@ pub record Span : Type 0 where
   pub excluded : Commit → Bool
 
 -- no commit
-abbrev pub nothing : Commit → Bool
-nothing c = false
+abbrev pub no_commit : Commit → Bool
+no_commit c = false
 
 -- a range word, with its commits
 pub data Word : Type 0 where
@@ -50,18 +50,13 @@ pub data Word : Type 0 where
 
 -- what a word includes and excludes
 abbrev pub span : Word → Span
-span (with_ancestors r) = record { included = reaches r; excluded = nothing }
-span (without_ancestors r) = record { included = nothing; excluded = reaches r }
+span (with_ancestors r) = record { included = reaches r; excluded = no_commit }
+span (without_ancestors r) = record { included = no_commit; excluded = reaches r }
 span (between a b) = record { included = reaches b; excluded = reaches a }
 span (apart a b) = record { included = λ c. reaches a c || reaches b c; excluded = λ c. reaches a c && reaches b c }
-span (all_parents r) = record { included = some_reaches (parents_of r); excluded = nothing }
+span (all_parents r) = record { included = some_reaches (parents_of r); excluded = no_commit }
 span (alone r) = record { included = reaches r; excluded = some_reaches (parents_of r) }
 span (without_one r p) = record { included = reaches r; excluded = reaches p }
-
--- the commit of a value that is one
-abbrev pub commit_of : Value → Option Commit
-commit_of (commit_value c) = Some c
-commit_of _ = None
 
 -- the commits that some word includes and none excludes, the newest made first
 abbrev pub listing : History → List Word → List Commit
@@ -83,7 +78,7 @@ at_word n (Err f) = Err (record { word = n; fault = f })
 -- each word in order, the first of which has the number n
 abbrev pub each_from : {A B : Type 0} → ℕ → (A → Given B) → List A → Result (List B) WordFault
 each_from n f [] = Ok []
-each_from n f (x ∷ xs) = and_then (at_word n (f x)) (λ y. and_then (each_from (n + 1) f xs) (λ ys. Ok (y ∷ ys)))
+each_from n f (x ∷ xs) = at_word n (f x) >>= λ y. each_from (n + 1) f xs >>= λ ys. Ok (y ∷ ys)
 
 -- each word in order
 abbrev pub each_word : {A B : Type 0} → (A → Given B) → List A → Result (List B) WordFault
@@ -108,4 +103,4 @@ module _ (name : Kind → Bytes → Bytes) where
 
   -- the names of the commits that range words list
   unfoldable pub listed : History → List RangeWord → Result (List Bytes) WordFault
-  listed h ws = and_then (words_denoted h ws) (λ xs. Ok (map (λ c. name_of name (commit_value c)) (listing h xs)))
+  listed h ws = (words_denoted h ws >>= λ xs. Ok (map (λ c. name_of name (commit_value c)) (listing h xs)))

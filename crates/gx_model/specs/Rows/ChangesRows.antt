@@ -6,16 +6,16 @@ use Rattle.gx_model.specs.Texts.Idents.{is_ident}
 use Rattle.gx_model.specs.Texts.Paths.{char_at, unquote_within, quoted_of}
 use Rattle.gx_model.specs.Streams.Items.{counted_block, lines_before, delimited, first_line, first_of, read_upto, items_of}
 use Rattle.gx_model.specs.Streams.Grammar.{unsigned_in, item_after_in, rest_line_in, block_in, mark_of, commit_ish_of, last_path, source_path, modify_at, two_paths, change_at, changes_within, merges_within, blob_at, commit_at, links_at, tag_at, reset_at, command_at, commands_within}
-use Rattle.gx_model.specs.Faults.{and_then}
+use Rattle.gx_model.specs.Faults.{◌>>=◌}
 use Rattle.gx_model.specs.Revisions.{range_of, revision_of}
 use Rattle.gx_model.specs.Revisions.Denotation.{denoted}
 use Rattle.gx_model.specs.Revisions.Ranges.{WordFault, each_word, words_denoted}
 use Rattle.gx_model.specs.Streams.Spelling.{text_of_lines}
-use Rattle.gx_model.specs.Histories.{History}
+use Rattle.gx_model.specs.Histories.{History, no_history}
 use Rattle.gx_model.specs.Objects.Naming.{lower_name_in, name_in, short_name}
 use Rattle.gx_model.specs.Replay.{imported_asked}
 use Rattle.gx_model.specs.Changes.{changes_text, range_text}
-use Rattle.gx_model.specs.Rows.RowTexts.{history_after, history_of_lines, imported_to, nothing}
+use Rattle.gx_model.specs.Rows.RowTexts.{history_after, history_of_lines, imported_to}
 
 -- a file becomes a folder, and a folder a file; a mode alone changes; one commit changes nothing
 abbrev pub files_and_folders : List Bytes
@@ -241,7 +241,7 @@ since =
 
 -- the text of the changes that range words list
 abbrev sent_by : History → List Bytes → Result Bytes WordFault
-sent_by h xs = and_then (each_word range_of xs) (λ ws. and_then (words_denoted short_name h ws) (λ ks. Ok (range_text short_name true h ks)))
+sent_by h xs = each_word range_of xs >>= λ ws. words_denoted short_name h ws >>= λ ks. Ok (range_text short_name true h ks)
 
 -- the commit that the mirror has is named by its digits and `^0`
 abbrev sent_since : List Bytes
@@ -314,7 +314,7 @@ pub record ChangesRows : Type 0 where
   -- that text imports to the same refs
   pub same_refs : (history_of_lines (their_commits ++ their_refs)).refs ≡ (history_of_lines roots_and_tags).refs
   -- the export of nothing
-  pub empty : changes_text short_name true nothing ≡ text_of_lines (codes "feature done" ∷ codes "done" ∷ [])
+  pub empty : changes_text short_name true no_history ≡ text_of_lines (codes "feature done" ∷ codes "done" ∷ [])
   -- the changes of a range
   pub since_then : sent_by (history_of_lines (mirrored ++ since)) (codes "v1..main" ∷ []) ≡ Ok (text_of_lines sent_since)
   -- they bring a mirror the rest

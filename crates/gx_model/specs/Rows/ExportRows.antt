@@ -11,11 +11,11 @@ use Rattle.gx_model.specs.Streams.Grammar.{unsigned_in, item_after_in, rest_line
 use Rattle.gx_model.specs.Revisions.{revision_of}
 use Rattle.gx_model.specs.Streams.Spelling.{text_of_lines}
 use Rattle.gx_model.specs.Histories.Values.{Commit, commit, commit_value, none}
-use Rattle.gx_model.specs.Histories.{History, at_commit, with_value}
+use Rattle.gx_model.specs.Histories.{History, at_commit, no_history, with_value}
 use Rattle.gx_model.specs.Objects.Naming.{short_name}
 use Rattle.gx_model.specs.Replay.{imported_asked}
 use Rattle.gx_model.specs.Export.{export_text}
-use Rattle.gx_model.specs.Rows.RowTexts.{nothing, imported_lines, history_of_lines, refusal}
+use Rattle.gx_model.specs.Rows.RowTexts.{imported_lines, history_of_lines, refusal}
 
 -- two branches with a merge, a gitlink and a tag
 abbrev pub stream : List Bytes
@@ -140,7 +140,7 @@ pub record ExportRows : Type 0 where
   -- a text that was cut before its last line is refused
   pub cut_off : refusal (imported_lines all_but_done) ≡ Some (12, fault.MissingDone)
   -- the export of nothing
-  pub empty : export_text nothing ≡ text_of_lines (codes "feature done" ∷ codes "done" ∷ [])
+  pub empty : export_text no_history ≡ text_of_lines (codes "feature done" ∷ codes "done" ∷ [])
   -- a blob that no ref reaches isn't written
   pub unreached : export_text (history_of_lines (codes "blob" ∷ codes "data 13" ∷ codes "test content" ∷ [])) ≡ text_of_lines (codes "feature done" ∷ codes "done" ∷ [])
   -- a gitlink of forty zeros is written as it is, and not read again

@@ -11,18 +11,18 @@ use Rattle.gx_model.specs.Texts.Idents.{is_ident}
 use Rattle.gx_model.specs.Texts.Paths.{path_of, path_text, char_at, unquote_within, quoted_of}
 use Rattle.gx_model.specs.Streams.Items.{counted_block, lines_before, delimited, first_line, first_of, read_upto, items_of}
 use Rattle.gx_model.specs.Streams.Grammar.{unsigned_in, item_after_in, rest_line_in, block_in, mark_of, commit_ish_of, last_path, source_path, modify_at, two_paths, change_at, changes_within, merges_within, blob_at, commit_at, links_at, tag_at, reset_at, command_at, commands_within}
-use Rattle.gx_model.specs.Faults.{Given, and_then}
+use Rattle.gx_model.specs.Faults.{Given, ◌>>=◌}
 use Rattle.gx_model.specs.Revisions.{revision_of}
 use Rattle.gx_model.specs.Histories.Files.{FileMap}
 use Rattle.gx_model.specs.Histories.Edits.{renamed}
 use Rattle.gx_model.specs.Histories.Values.{Commit, blob_value, commit, none, commit_value, tree_value}
 use Rattle.gx_model.specs.Objects.{Entry, is_canonical}
 use Rattle.gx_model.specs.Records.{body_of, entries, named_map}
-use Rattle.gx_model.specs.Histories.{History}
+use Rattle.gx_model.specs.Histories.{History, no_history}
 use Rattle.gx_model.specs.Revisions.Denotation.{Shown, denoted, object}
 use Rattle.gx_model.specs.Objects.Naming.{short_name}
 use Rattle.gx_model.specs.Replay.{Kept, Outcome, finished, imported_asked, refused}
-use Rattle.gx_model.specs.Rows.RowTexts.{acceptance, history_after, history_of_lines, imported_lines, imported_to, kept_after, nothing, refusal, shown}
+use Rattle.gx_model.specs.Rows.RowTexts.{acceptance, history_after, history_of_lines, imported_lines, imported_to, kept_after, refusal, shown}
 
 -- one commit on main with these changes
 abbrev on_main : List Bytes → List Bytes
@@ -120,7 +120,7 @@ paths_in (object (tree_value f)) = map (λ e. path_text e.0) f
 paths_in _ = []
 
 abbrev paths_after : Outcome → Given (List Bytes)
-paths_after (finished h x r) = and_then (shown h (codes "main^{tree}")) (λ v. Ok (paths_in v))
+paths_after (finished h x r) = shown h (codes "main^{tree}") >>= λ v. Ok (paths_in v)
 paths_after (refused n f x k) = Err f
 
 -- the files `a` and `d/x`, and then this change
@@ -201,7 +201,7 @@ pub record EndRows : Type 0 where
   pub progress : acceptance (imported_lines (codes "progress half" ∷ [])) ≡ Some (codes "progress half" ++ 10 ∷ [], record { commands = 1; objects = 0; refs = 0 })
   pub one_commit : acceptance (imported_lines first_commit) ≡ Some ([], record { commands = 1; objects = 3; refs = 1 })
   -- progress that went out before a refusal stays out
-  pub progress_so_far : imported_lines (codes "progress half" ∷ codes "foo" ∷ []) ≡ refused 2 fault.UnknownCommand (codes "progress half" ++ 10 ∷ []) (at_checkpoint nothing 0)
+  pub progress_so_far : imported_lines (codes "progress half" ∷ codes "foo" ∷ []) ≡ refused 2 fault.UnknownCommand (codes "progress half" ++ 10 ∷ []) (at_checkpoint no_history 0)
 
 pub end_rows : EndRows
 unfolding char_at unsigned_in item_after_in rest_line_in block_in cut_at is_ident unquote_within quoted_of mark_of commit_ish_of last_path source_path modify_at two_paths change_at changes_within merges_within blob_at commit_at links_at tag_at reset_at command_at commands_within counted_block lines_before delimited first_line first_of read_upto items_of digits revision_of imported_asked denoted short_name
@@ -253,7 +253,7 @@ pub record CheckpointRows : Type 0 where
   pub unpublished : shown (history_of_lines (first_commit ++ from_anew [])) (codes "main^") ≡ Err fault.NoParent
   -- revisions are read over the refs that it published
   pub branch_of_ref : shown both_branches (codes "b^") ≡ shown both_branches (codes "main")
-  pub no_ref_yet : refusal_kept (first_commit ++ branch_of_main) ≡ (Some (2, fault.UnknownRef), Some (at_checkpoint nothing 0))
+  pub no_ref_yet : refusal_kept (first_commit ++ branch_of_main) ≡ (Some (2, fault.UnknownRef), Some (at_checkpoint no_history 0))
   -- a ref that it published stays, and is counted
   pub reset_history : history_after reset_after ≡ published
   pub reset_report : acceptance reset_after ≡ Some ([], record { commands = 3; objects = 3; refs = 1 })

@@ -5,12 +5,12 @@ use Rattle.gx_model.specs.declared.objects.Kind.{Kind}
 use Rattle.gx_model.specs.declared.faults.Fault.{Fault}
 use Rattle.gx_model.specs.declared.features.Features.{Features}
 use Rattle.gx_model.specs.Texts.{Bytes}
-use Rattle.gx_model.specs.Faults.{Given, and_then, ◌>>=◌}
+use Rattle.gx_model.specs.Faults.{Given, ◌>>=◌}
 use Rattle.gx_model.specs.Streams.Spelling.{text_of_lines}
 use Rattle.gx_model.specs.Streams.Commands.{no_features}
 use Rattle.gx_model.specs.Revisions.{revision_of, range_of}
 use Rattle.gx_model.specs.Histories.Values.{Commit}
-use Rattle.gx_model.specs.Histories.{History}
+use Rattle.gx_model.specs.Histories.{History, no_history}
 use Rattle.gx_model.specs.Revisions.Denotation.{Shown, denoted}
 use Rattle.gx_model.specs.Objects.Naming.{kind_number, short_name}
 use Rattle.gx_model.specs.Revisions.Ranges.{WordFault, each_word, listing, words_denoted}
@@ -22,9 +22,6 @@ last_byte_name k body = replicate 17 17 ++ kind_number k ∷ length body % 256 �
 
 -- ---- imports
 
-abbrev pub nothing : History
-nothing = record { values = []; refs = [] }
-
 -- the import of these lines, where these features are asked for
 abbrev pub imported_asking : Features → History → List Bytes → Outcome
 imported_asking f h ls = imported_asked f short_name h (text_of_lines ls) false
@@ -35,12 +32,12 @@ imported_to = imported_asking no_features
 
 -- into an empty repository
 abbrev pub imported_lines : List Bytes → Outcome
-imported_lines ls = imported_to nothing ls
+imported_lines ls = imported_to no_history ls
 
 -- the history after an import that is accepted
 abbrev pub history_after : Outcome → History
 history_after (finished h x r) = h
-history_after (refused n f x k) = nothing
+history_after (refused n f x k) = no_history
 
 abbrev pub history_of_lines : List Bytes → History
 history_of_lines ls = history_after (imported_lines ls)
@@ -67,4 +64,4 @@ shown h x = revision_of x >>= λ r. denoted short_name h r
 
 -- the commits that range words list
 abbrev pub log : History → List Bytes → Result (List Commit) WordFault
-log h xs = and_then (each_word range_of xs) (λ ws. and_then (words_denoted short_name h ws) (λ ks. Ok (listing h ks)))
+log h xs = (each_word range_of xs >>= λ ws. words_denoted short_name h ws >>= λ ks. Ok (listing h ks))

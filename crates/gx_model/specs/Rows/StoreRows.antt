@@ -18,14 +18,14 @@ use Rattle.gx_model.specs.Revisions.{revision_of}
 use Rattle.gx_model.specs.Streams.Spelling.{text_of_lines}
 use Rattle.gx_model.specs.Histories.Values.{CommitText}
 use Rattle.gx_model.specs.Objects.{Entry, commit_text, tag_text, tree_text, unhex}
-use Rattle.gx_model.specs.Histories.{History, Records, record_of, value_at}
+use Rattle.gx_model.specs.Histories.{History, Records, no_history, record_of, value_at}
 use Rattle.gx_model.specs.Records.{name_of}
 use Rattle.gx_model.specs.Objects.Naming.{short_name}
 use Rattle.gx_model.specs.Replay.{imported_asked}
 use Rattle.gx_model.specs.Records.RecordFaults.{content_fault, record_fault}
 use Rattle.gx_model.specs.Stores.StoreText.{store_text}
 use Rattle.gx_model.specs.Stores.StoreReading.{store_of}
-use Rattle.gx_model.specs.Rows.RowTexts.{history_of_lines, last_byte_name, nothing}
+use Rattle.gx_model.specs.Rows.RowTexts.{history_of_lines, last_byte_name}
 use Rattle.gx_model.specs.Rows.ExportRows.{stream}
 
 -- the names in these rows
@@ -58,8 +58,8 @@ blob_text first heading = text_of_lines (first ∷ codes "objects 1" ∷ heading
 
 pub record StoreRows : Type 0 where
   -- the texts of an empty repository, and of one with a blob
-  pub empty_of_one : store_text One (records_of nothing) ≡ text_of_lines (codes "gxstore 1" ∷ codes "objects 0" ∷ codes "refs 0" ∷ codes "end" ∷ [])
-  pub empty : store_text Two (records_of nothing) ≡ text_of_lines (codes "gxstore 2" ∷ codes "objects 0" ∷ codes "refs 0" ∷ codes "end" ∷ [])
+  pub empty_of_one : store_text One (records_of no_history) ≡ text_of_lines (codes "gxstore 1" ∷ codes "objects 0" ∷ codes "refs 0" ∷ codes "end" ∷ [])
+  pub empty : store_text Two (records_of no_history) ≡ text_of_lines (codes "gxstore 2" ∷ codes "objects 0" ∷ codes "refs 0" ∷ codes "end" ∷ [])
   pub blob_of_one : store_text One one_blob ≡ blob_text (codes "gxstore 1") (codes "blob 13")
   pub blob : store_text Two one_blob ≡ blob_text (codes "gxstore 2") (codes "blob 13 d670460b4b4aece5915caf5c68d12f560a9fe3e4")
   -- both texts of a repository are read

@@ -1,12 +1,10 @@
 -- The reading of a store file's text of either version, from front to back: the records and the refs, or the first fault.
 -- Source: this project's own format.
 use Rattle.std.specs.Prelude.{ℕ, zero, suc, ◌+◌, Bool, true, false, ◌&&◌, nat_eq, nat_lt, if◌then◌else◌, List, [], ◌∷◌, ◌++◌, length, take, drop, codes, Option, None, Some, Result, Ok, Err}
-use Rattle.std.specs.Option.{option_and_then}
+use Rattle.std.specs.Option.{ok_or, option_and_then}
 use Rattle.std.specs.List.{starts_with}
 use Rattle.std.specs.Map.{lookup}
 use Rattle.std.specs.Fmt.{decimal}
-use Rattle.std.specs.Ordering.{nat_cmp}
-use Rattle.std.specs.Cmp.Lexicographic.{slice_cmp}
 use Rattle.std.specs.declared.cmp.Ordering.{Ordering}
 use Rattle.std.specs.declared.cmp.Ordering.TheVariants.{Less, Equal, Greater}
 use Rattle.gx_model.specs.declared.objects.Kind.{Kind}
@@ -15,11 +13,11 @@ use Rattle.gx_model.specs.declared.store_versions.Version.{Version}
 use Rattle.gx_model.specs.declared.store_versions.Version.TheVariants.{One, Two}
 use Rattle.gx_model.specs.declared.store_faults.FileFault.{FileFault}
 use Rattle.gx_model.specs.declared.store_faults.FileFault.TheVariants as fault
-use Rattle.gx_model.specs.Texts.{Bytes, cut_at, same_bytes}
+use Rattle.gx_model.specs.Texts.{Bytes, byte_cmp, cut_at, same_bytes}
 use Rattle.gx_model.specs.Texts.Numbers.{decimal_of}
 use Rattle.gx_model.specs.Texts.RefNames.{is_ref_name, tag_ref}
-use Rattle.gx_model.specs.Faults.{and_then}
-use Rattle.gx_model.specs.Histories.Values.{is_name_text}
+use Rattle.gx_model.specs.Faults.{◌>>=◌}
+use Rattle.gx_model.specs.Texts.Digits.{is_name_text}
 use Rattle.gx_model.specs.Objects.{unhex}
 use Rattle.gx_model.specs.Histories.{Record, Records, record_for}
 use Rattle.gx_model.specs.Records.HistoryOf.{tag_parts_in}
@@ -32,24 +30,15 @@ use Rattle.gx_model.specs.Stores.StoreText.{version_text}
 abbrev pub Stored : Type 0 → Type 0
 Stored A = Result A FileFault
 
-infixl 10 ◌>>=◌
-abbrev ◌>>=◌ : {A B : Type 0} → Stored A → (A → Stored B) → Stored B
-r >>= f = and_then r f
-
--- what is read where a test holds, and otherwise this fault
-abbrev pub stored_if : {A : Type 0} → FileFault → Option A → Stored A
-stored_if f None = Err f
-stored_if f (Some x) = Ok x
-
--- what is read unless there is this fault
-abbrev pub unless : Bool → FileFault → Stored (Unit {0})
-unless holds f = if holds then Ok tt else Err f
+-- nothing where a test holds, and otherwise this fault
+abbrev pub only_if : Bool → FileFault → Stored (Unit {0})
+only_if holds f = if holds then Ok tt else Err f
 
 -- ---- lines
 
 -- the first line, without its LF, and what follows it
 abbrev pub stored_line : Bytes → Stored (Bytes × Bytes)
-stored_line text = stored_if fault.Truncated (cut_at 10 text)
+stored_line text = ok_or (cut_at 10 text) fault.Truncated
 
 -- a number as it is written: without leading zeros
 abbrev pub if_written_so : Bytes → ℕ → Option ℕ
@@ -67,7 +56,7 @@ after_word word l = if starts_with nat_eq l (word ++ 32 ∷ []) then Some (drop 
 abbrev pub stored_count : Bytes → Bytes → Stored (ℕ × Bytes)
 stored_count word text = do
   l ← stored_line text
-  n ← stored_if fault.BadRecord (option_and_then stored_number (after_word word l.0))
+  n ← ok_or (option_and_then stored_number (after_word word l.0)) fault.BadRecord
   Ok (n, l.1)
 
 -- the version that a first line says
@@ -78,8 +67,8 @@ version_of x = if same_bytes x (version_text One) then Some One else (if same_by
 abbrev pub after_magic : Bytes → Stored (Version × Bytes)
 after_magic text = do
   l ← stored_line text
-  word ← stored_if fault.BadMagic (after_word (codes "gxstore") l.0)
-  version ← stored_if fault.BadVersion (version_of word)
+  word ← ok_or (after_word (codes "gxstore") l.0) fault.BadMagic
+  version ← ok_or (version_of word) fault.BadVersion
   Ok (version, l.1)
 
 -- ---- records
@@ -112,14 +101,14 @@ record_line v l = option_and_then (λ p. option_and_then (with_length v p.1) (lo
 -- so many bytes and an LF, and what follows them
 abbrev pub stored_body : ℕ → Bytes → Stored (Bytes × Bytes)
 stored_body n text = do
-  whole ← unless (nat_lt n (length text)) fault.Truncated
-  ended ← unless (starts_with nat_eq (drop n text) (10 ∷ [])) fault.BadRecord
+  whole ← only_if (nat_lt n (length text)) fault.Truncated
+  ended ← only_if (starts_with nat_eq (drop n text) (10 ∷ [])) fault.BadRecord
   Ok (take n text, drop (n + 1) text)
 
 -- whether a stated name is this one, where one is stated
-abbrev pub is_named : Option Bytes → Bytes → Bool
-is_named None name = true
-is_named (Some stated) name = same_bytes stated name
+abbrev pub is_stated : Option Bytes → Bytes → Bool
+is_stated None name = true
+is_stated (Some stated) name = same_bytes stated name
 
 -- a record that the repository takes
 abbrev pub admitted : List Record → Record → Option FileFault → Stored (List Record)
@@ -127,9 +116,9 @@ admitted rs r None = Ok (rs ++ r ∷ [])
 admitted rs r (Some f) = Err f
 
 -- the records with one more, which has the name that is stated and which the repository takes
-abbrev pub with_record : (Kind → Bytes → Bytes) → List Record → Option Bytes → Kind → Bytes → Stored (List Record)
-with_record name rs stated k body = do
-  named ← unless (is_named stated (name k body)) fault.NameMismatch
+abbrev pub with_stored : (Kind → Bytes → Bytes) → List Record → Option Bytes → Kind → Bytes → Stored (List Record)
+with_stored name rs stated k body = do
+  named ← only_if (is_stated stated (name k body)) fault.NameMismatch
   admitted rs (record_for name k body) (record_fault rs (record_for name k body))
 
 module _ (name : Kind → Bytes → Bytes) (v : Version) where
@@ -137,9 +126,9 @@ module _ (name : Kind → Bytes → Bytes) (v : Version) where
   abbrev pub next_record : List Record → Bytes → Stored (List Record × Bytes)
   next_record rs text = do
     l ← stored_line text
-    k ← stored_if fault.BadRecord (record_line v l.0)
+    k ← ok_or (record_line v l.0) fault.BadRecord
     body ← stored_body k.1.0 l.1
-    more ← with_record name rs k.1.1 k.0 body.0
+    more ← with_stored name rs k.1.1 k.0 body.0
     Ok (more, body.1)
 
   -- the records that come next
@@ -177,15 +166,15 @@ is_less Greater = false
 -- greater than the ref before, if there is one
 abbrev pub is_after : Option Bytes → Bytes → Bool
 is_after None ref = true
-is_after (Some last) ref = is_less (slice_cmp nat_cmp last ref)
+is_after (Some last) ref = is_less (byte_cmp last ref)
 
 -- the ref that comes next
 abbrev pub next_ref : List Record → Option Bytes → Bytes → Stored ((Bytes × Bytes) × Bytes)
 next_ref rs last text = do
   l ← stored_line text
-  x ← stored_if fault.BadRef (ref_line l.0)
-  held ← unless (is_target x.0 (record_named rs x.1)) fault.BadRef
-  ordered ← unless (is_after last x.0) fault.RefOrder
+  x ← ok_or (ref_line l.0) fault.BadRef
+  held ← only_if (is_target x.0 (record_named rs x.1)) fault.BadRef
+  ordered ← only_if (is_after last x.0) fault.RefOrder
   Ok (x, l.1)
 
 -- the refs that come next
@@ -199,8 +188,8 @@ next_refs (suc n) rs last text = next_ref rs last text >>= λ x. next_refs n rs 
 abbrev pub stored_end : Bytes → Stored (Unit {0})
 stored_end text = do
   l ← stored_line text
-  word ← unless (same_bytes l.0 (codes "end")) fault.BadRecord
-  unless (nat_eq (length l.1) 0) fault.TrailingBytes
+  word ← only_if (same_bytes l.0 (codes "end")) fault.BadRecord
+  only_if (nat_eq (length l.1) 0) fault.TrailingBytes
 
 -- the records and refs of a store text, or the first fault
 unfoldable pub store_of : (Kind → Bytes → Bytes) → Bytes → Stored Records

@@ -12,21 +12,21 @@ use Rattle.gx_model.specs.declared.faults.Fault.TheVariants as faults
 use Rattle.gx_model.specs.declared.objects.Mode.{Mode}
 use Rattle.gx_model.specs.declared.objects.Mode.TheVariants as modes
 use Rattle.gx_model.specs.Streams.Commands.{CommitIsh, DataRef, Mark, Object, Inline, Change, Modify, Remove, Copy, Rename, Clear, Command, Blob, Commit, Tag, Reset, Checkpoint, Progress, Asks, OptionLine, Done, Commands}
-use Rattle.gx_model.specs.Streams.Grammar.{Where, AtMark, AtName, AtBlock, is_option, asks_done, stops, with_first}
-use Rattle.gx_model.specs.Streams.LineShapes.{line_of, IsOf, IsOfNone, IsOfOne, IsOneOf, BeginsPart, TextShape, IsIdentText, IsRefText, IsTagText, IsEncodingText, IsAnyText, IsMarkText, IsCommitIshText, IsFeatureText, IsModeText, IsDataRefText, IsLastPath, AreTwoPaths}
+use Rattle.gx_model.specs.Streams.Grammar.{Where, AtMark, AtName, AtBlock, is_option, asks_done, stops, with_command}
+use Rattle.gx_model.specs.Streams.LineShapes.{line_of, IsOf, IsOfNone, IsOfOne, IsOneOf, BeginsPart, TextShape, IsIdentText, IsRefText, IsEncodingText, IsAnyText, IsMarkText, IsCommitIshText, IsFeatureText, IsModeText, IsDataRefText, IsLastPath, AreTwoPaths, IsTagNameText}
 
 -- what some first items give, with the items after them; or the first fault
-abbrev pub Taken : Type 0 → Type 0
-Taken A = Result (A × List Item) Fault
+abbrev pub TakenFrom : Type 0 → Type 0
+TakenFrom A = Result (A × List Item) Fault
 
 -- a part of a command: what it takes from items with their end
 abbrev pub Part : Type 0 → Type 1
-Part A = End → List Item → Taken A → Type 0
+Part A = End → List Item → TakenFrom A → Type 0
 
 -- ---- lines and blocks
 
 -- `x?`: at most one line of this word, whose text is of this shape. A failure of the items is told where one of them is looked for.
-pub data Optional {A : Type 0} (word : Bytes) (Shape : TextShape A) (end : End) : List Item → Taken (Option A) → Type 0 where
+pub data Optional {A : Type 0} (word : Bytes) (Shape : TextShape A) (end : End) : List Item → TakenFrom (Option A) → Type 0 where
   given : {text : Bytes} {x : A} {rest : List Item}
       → Shape text (Ok x) → Optional word Shape end (Line (line_of word text) ∷ rest) (Ok (Some x, rest))
   of_bad_text : {text : Bytes} {f : Fault} {rest : List Item}
@@ -39,7 +39,7 @@ pub data Optional {A : Type 0} (word : Bytes) (Shape : TextShape A) (end : End) 
   before_failure : {f : Fault} → end ≡ Failed f → Optional word Shape end [] (Err f)
 
 -- a line of this word, which is needed
-pub data Needed {A : Type 0} (word : Bytes) (Shape : TextShape A) (end : End) : List Item → Taken A → Type 0 where
+pub data Needed {A : Type 0} (word : Bytes) (Shape : TextShape A) (end : End) : List Item → TakenFrom A → Type 0 where
   stands : {is rest : List Item} {x : A}
       → Optional word Shape end is (Ok (Some x, rest)) → Needed word Shape end is (Ok (x, rest))
   is_missing : {is rest : List Item}
@@ -47,14 +47,14 @@ pub data Needed {A : Type 0} (word : Bytes) (Shape : TextShape A) (end : End) : 
   is_at_fault : {is : List Item} {f : Fault} → Optional word Shape end is (Err f) → Needed word Shape end is (Err f)
 
 -- `data`: a block, which is needed
-pub data Block (end : End) : List Item → Taken Bytes → Type 0 where
+pub data Block (end : End) : List Item → TakenFrom Bytes → Type 0 where
   block : {bytes : Bytes} {rest : List Item} → Block end (Data bytes ∷ rest) (Ok (bytes, rest))
   line_for_block : {line : Bytes} {rest : List Item} → Block end (Line line ∷ rest) (Err faults.BadLine)
   end_for_block : end ≡ Finished → Block end [] (Err faults.BadLine)
   failure_for_block : {f : Fault} → end ≡ Failed f → Block end [] (Err f)
 
 -- what may follow a committer: no `gpgsig`
-pub data Unsigned (end : End) : List Item → Taken (Unit {0}) → Type 0 where
+pub data Unsigned (end : End) : List Item → TakenFrom (Unit {0}) → Type 0 where
   signature : {line : Bytes} {rest : List Item}
       → IsOf (codes "gpgsig") line → Unsigned end (Line line ∷ rest) (Err faults.Unsupported)
   line_unsigned : {line : Bytes} {rest : List Item}
@@ -64,7 +64,7 @@ pub data Unsigned (end : End) : List Item → Taken (Unit {0}) → Type 0 where
   failure_unsigned : {f : Fault} → end ≡ Failed f → Unsigned end [] (Err f)
 
 -- `LF?` after a commit or a reset: an empty line belongs to it, another item begins the next command, and a failure is its own
-pub data Ending (end : End) : List Item → Taken (Unit {0}) → Type 0 where
+pub data Ending (end : End) : List Item → TakenFrom (Unit {0}) → Type 0 where
   empty_line : {rest : List Item} → Ending end (Line [] ∷ rest) (Ok (tt, rest))
   other_line : {b : ℕ} {bs : Bytes} {rest : List Item} → Ending end (Line (b ∷ bs) ∷ rest) (Ok (tt, Line (b ∷ bs) ∷ rest))
   other_block : {bytes : Bytes} {rest : List Item} → Ending end (Data bytes ∷ rest) (Ok (tt, Data bytes ∷ rest))
@@ -74,7 +74,7 @@ pub data Ending (end : End) : List Item → Taken (Unit {0}) → Type 0 where
 -- ---- parts one after another
 
 -- a part and then another: what both give, or the fault of the first that has one
-pub data Then {A B : Type 0} (First : Part A) (Second : Part B) (end : End) : List Item → Taken (A × B) → Type 0 where
+pub data Then {A B : Type 0} (First : Part A) (Second : Part B) (end : End) : List Item → TakenFrom (A × B) → Type 0 where
   both : {is more rest : List Item} {x : A} {y : B}
       → First end is (Ok (x, more)) → Second end more (Ok (y, rest)) → Then First Second end is (Ok ((x, y), rest))
   first_fault : {is : List Item} {f : Fault} → First end is (Err f) → Then First Second end is (Err f)
@@ -87,7 +87,7 @@ abbrev pub ◌⨾◌ : {A B : Type 0} → Part A → Part B → Part (A × B)
 First ⨾ Second = Then First Second
 
 -- `x*`: a part that may be absent, until it is
-pub data Repeated {A : Type 0} (Each : Part (Option A)) (end : End) : List Item → Taken (List A) → Type 0 where
+pub data Repeated {A : Type 0} (Each : Part (Option A)) (end : End) : List Item → TakenFrom (List A) → Type 0 where
   no_more : {is rest : List Item} → Each end is (Ok (None, rest)) → Repeated Each end is (Ok ([], rest))
   one_more : {is more rest : List Item} {x : A} {xs : List A}
       → Each end is (Ok (Some x, more)) → Repeated Each end more (Ok (xs, rest)) → Repeated Each end is (Ok (x ∷ xs, rest))
@@ -96,19 +96,19 @@ pub data Repeated {A : Type 0} (Each : Part (Option A)) (end : End) : List Item 
       → Each end is (Ok (Some x, more)) → Repeated Each end more (Err f) → Repeated Each end is (Err f)
 
 -- a part, and another value made of what it gives
-pub data Giving {A B : Type 0} (make : A → B) (Lines : Part A) (end : End) : List Item → Taken B → Type 0 where
+pub data Giving {A B : Type 0} (make : A → B) (Lines : Part A) (end : End) : List Item → TakenFrom B → Type 0 where
   made : {is rest : List Item} {x : A} → Lines end is (Ok (x, rest)) → Giving make Lines end is (Ok (make x, rest))
   refused : {is : List Item} {f : Fault} → Lines end is (Err f) → Giving make Lines end is (Err f)
 
 -- a line's text alone, and a value made of what it gives
-pub data OfText {A B : Type 0} (make : A → B) (Shape : TextShape A) (text : Bytes) : List Item → Taken B → Type 0 where
+pub data OfText {A B : Type 0} (make : A → B) (Shape : TextShape A) (text : Bytes) : List Item → TakenFrom B → Type 0 where
   of_text : {is : List Item} {x : A} → Shape text (Ok x) → OfText make Shape text is (Ok (make x, is))
   text_fault : {is : List Item} {f : Fault} → Shape text (Err f) → OfText make Shape text is (Err f)
 
 -- ---- changes
 
 -- the content of a modify: what its line names, or the block that follows
-pub data Content (end : End) : Where → List Item → Taken DataRef → Type 0 where
+pub data Content (end : End) : Where → List Item → TakenFrom DataRef → Type 0 where
   content_of_mark : {n : ℕ} {is : List Item} → Content end (AtMark n) is (Ok (Mark n, is))
   content_of_name : {name : Bytes} {is : List Item} → Content end (AtName name) is (Ok (Object name, is))
   content_of_block : {bytes : Bytes} {is rest : List Item}
@@ -132,7 +132,7 @@ pub record BeginsModify (text : Bytes) (m : Mode) (at : Where) (path : Option By
 
 -- behind `M`: mode SP dataref SP path, and with `inline` a block. The first part that is at fault is told: the mode, the dataref,
 -- the two together, the path, the block
-pub data IsModify (text : Bytes) (end : End) : List Item → Taken Change → Type 0 where
+pub data IsModify (text : Bytes) (end : End) : List Item → TakenFrom Change → Type 0 where
   modify : {path : Bytes} {m : Mode} {at : Where} {p : Path} {content : DataRef} {is rest : List Item}
       → BeginsModify text m at (Some path) → (Unfit m at → ⊥) → IsLastPath path (Ok p) → Content end at is (Ok (content, rest))
       → IsModify text end is (Ok (Modify m content p, rest))
@@ -162,14 +162,14 @@ abbrev pub all_change_words : List Bytes
 all_change_words = change_words ++ (codes "deleteall" ∷ codes "N" ∷ [])
 
 -- a change, where one stands
-pub data IsChange (end : End) : List Item → Taken (Option Change) → Type 0 where
-  modified : {text : Bytes} {is : List Item} {out : Taken (Option Change)}
+pub data IsChange (end : End) : List Item → TakenFrom (Option Change) → Type 0 where
+  modified : {text : Bytes} {is : List Item} {out : TakenFrom (Option Change)}
       → Giving Some (IsModify text) end is out → IsChange end (Line (line_of (codes "M") text) ∷ is) out
-  removed : {text : Bytes} {is : List Item} {out : Taken (Option Change)}
+  removed : {text : Bytes} {is : List Item} {out : TakenFrom (Option Change)}
       → OfText (λ p. Some (Remove p)) IsLastPath text is out → IsChange end (Line (line_of (codes "D") text) ∷ is) out
-  copied : {text : Bytes} {is : List Item} {out : Taken (Option Change)}
+  copied : {text : Bytes} {is : List Item} {out : TakenFrom (Option Change)}
       → OfText (λ p. Some (Copy p.0 p.1)) AreTwoPaths text is out → IsChange end (Line (line_of (codes "C") text) ∷ is) out
-  renamed : {text : Bytes} {is : List Item} {out : Taken (Option Change)}
+  renamed : {text : Bytes} {is : List Item} {out : TakenFrom (Option Change)}
       → OfText (λ p. Some (Rename p.0 p.1)) AreTwoPaths text is out → IsChange end (Line (line_of (codes "R") text) ∷ is) out
   cleared : {is : List Item} → IsChange end (Line (codes "deleteall") ∷ is) (Ok (Some Clear, is))
   clear_of_text : {text : Bytes} {is : List Item}
@@ -296,20 +296,20 @@ abbrev pub AreOptions : List Command → Type 0
 AreOptions before = IsTrue (list_all is_option before)
 
 -- a command, where one is expected after these
-pub data IsCommand (before : List Command) (end : End) : List Item → Taken Command → Type 0 where
-  blob : {is : List Item} {out : Taken Command}
+pub data IsCommand (before : List Command) (end : End) : List Item → TakenFrom Command → Type 0 where
+  blob : {is : List Item} {out : TakenFrom Command}
       → Giving blob_command blob_lines end is out → IsCommand before end (Line (codes "blob") ∷ is) out
-  commit : {text ref : Bytes} {is : List Item} {out : Taken Command}
+  commit : {text ref : Bytes} {is : List Item} {out : TakenFrom Command}
       → IsRefText text (Ok ref) → Giving (commit_command ref) commit_lines end is out
       → IsCommand before end (Line (line_of (codes "commit") text) ∷ is) out
   commit_of_bad_ref : {text : Bytes} {is : List Item} {f : Fault}
       → IsRefText text (Err f) → IsCommand before end (Line (line_of (codes "commit") text) ∷ is) (Err f)
-  tag : {text name : Bytes} {is : List Item} {out : Taken Command}
-      → IsTagText text (Ok name) → Giving (tag_command name) tag_lines end is out
+  tag : {text name : Bytes} {is : List Item} {out : TakenFrom Command}
+      → IsTagNameText text (Ok name) → Giving (tag_command name) tag_lines end is out
       → IsCommand before end (Line (line_of (codes "tag") text) ∷ is) out
   tag_of_bad_name : {text : Bytes} {is : List Item} {f : Fault}
-      → IsTagText text (Err f) → IsCommand before end (Line (line_of (codes "tag") text) ∷ is) (Err f)
-  reset : {text ref : Bytes} {is : List Item} {out : Taken Command}
+      → IsTagNameText text (Err f) → IsCommand before end (Line (line_of (codes "tag") text) ∷ is) (Err f)
+  reset : {text ref : Bytes} {is : List Item} {out : TakenFrom Command}
       → IsRefText text (Ok ref) → Giving (reset_command ref) reset_lines end is out
       → IsCommand before end (Line (line_of (codes "reset") text) ∷ is) out
   reset_of_bad_ref : {text : Bytes} {is : List Item} {f : Fault}
@@ -317,7 +317,7 @@ pub data IsCommand (before : List Command) (end : End) : List Item → Taken Com
   checkpoint : {is : List Item} → IsCommand before end (Line (codes "checkpoint") ∷ is) (Ok (Checkpoint, is))
   progress : {text : Bytes} {is : List Item}
       → IsCommand before end (Line (line_of (codes "progress") text) ∷ is) (Ok (Progress text, is))
-  feature : {text : Bytes} {is : List Item} {out : Taken Command}
+  feature : {text : Bytes} {is : List Item} {out : TakenFrom Command}
       → AreOptions before → OfText Asks IsFeatureText text is out → IsCommand before end (Line (line_of (codes "feature") text) ∷ is) out
   option : {text : Bytes} {is : List Item}
       → AreOptions before → IsCommand before end (Line (line_of (codes "option") text) ∷ is) (Ok (OptionLine text, is))
@@ -347,10 +347,10 @@ pub data AreCommands (end : End) : List Command → List Item → Commands → T
       → AreCommands end before is cs → AreCommands end before (Line [] ∷ is) cs
   taken : {before : List Command} {is rest : List Item} {c : Command} {cs : Commands}
       → IsCommand before end is (Ok (c, rest)) → (c ≡ Done → ⊥) → AreCommands end (before ++ c ∷ []) rest cs
-      → AreCommands end before is (with_first c cs)
+      → AreCommands end before is (with_command c cs)
   -- what stands after `done` plays no part
   at_done : {before : List Command} {is rest : List Item}
-      → IsCommand before end is (Ok (Done, rest)) → AreCommands end before is (with_first Done (stops None))
+      → IsCommand before end is (Ok (Done, rest)) → AreCommands end before is (with_command Done (stops None))
   at_fault : {before : List Command} {is : List Item} {f : Fault}
       → IsCommand before end is (Err f) → AreCommands end before is (stops (Some f))
   at_end : {before : List Command} → end ≡ Finished → (AskDone before → ⊥) → AreCommands end before [] (stops None)

@@ -12,11 +12,11 @@ use Rattle.gx_model.specs.Streams.Items.{Stream}
 use Rattle.gx_model.specs.Streams.Commands as command
 use Rattle.gx_model.specs.Streams.Commands.{Change, Command, Inline, Mark, Modify, Object}
 use Rattle.gx_model.specs.Streams.Grammar.{commands_of, is_null}
-use Rattle.gx_model.specs.Histories.{History, IsHistory}
-use Rattle.gx_model.specs.Revisions.Ranges.{commit_of}
+use Rattle.gx_model.specs.Histories.{History, IsHistory, no_history}
+use Rattle.gx_model.specs.Histories.Values.{commit_of}
 use Rattle.gx_model.specs.Export.{export_text}
 use Rattle.gx_model.specs.Replay.{Kept, Report, finished, refused, replayed, replayed_text, start}
-use Rattle.gx_model.specs.Laws.ExportLaws.{HasNoNullGitlink, HaveNoNullGitlink, IsAgain, exported_report, nothing}
+use Rattle.gx_model.specs.Laws.ExportLaws.{HasNoNullGitlink, HaveNoNullGitlink, IsAgain, exported_report}
 
 -- ---- commands
 
@@ -75,12 +75,12 @@ TextsBringNone =
 abbrev pub TextsComeBack : Type 0
 TextsComeBack =
     (name : Kind → Bytes → Bytes) (h : History) (given : Bytes) (fails : Bool) (text : Bytes) (report : Report)
-    → replayed_text name nothing given fails ≡ finished h text report → length (export_text h) < 2 ^ 64
-    → (k : History) × IsAgain h k × (replayed_text name nothing (export_text h) false ≡ finished k [] (exported_report h k))
+    → replayed_text name no_history given fails ≡ finished h text report → length (export_text h) < 2 ^ 64
+    → (k : History) × IsAgain h k × (replayed_text name no_history (export_text h) false ≡ finished k [] (exported_report h k))
 
 -- Where refs reach one, which no text brings but a store may hold, the history's export is refused: what it writes can't be read.
 abbrev pub NullGitlinksAreRefused : Type 0
 NullGitlinksAreRefused =
     (name : Kind → Bytes → Bytes) (h : History)
     → IsHistory h → (HasNoNullGitlink h → ⊥) → length (export_text h) < 2 ^ 64
-    → (n : ℕ) × (replayed_text name nothing (export_text h) false ≡ refused n Unsupported [] (start nothing).kept)
+    → (n : ℕ) × (replayed_text name no_history (export_text h) false ≡ refused n Unsupported [] (start no_history).kept)

@@ -1,15 +1,17 @@
 -- The commands of items, from left to right.
 -- Source: git-fast-import(1), "Commands".
-use Rattle.std.specs.Prelude.{ℕ, zero, suc, Bool, true, false, ◌&&◌, ◌||◌, ◌==◌, nat_le, codes, List, [], ◌∷◌, ◌++◌, length, Option, Some, None, Result, Ok, Err, if◌then◌else◌}
+use Rattle.std.specs.Prelude.{ℕ, zero, suc, Bool, true, false, ◌&&◌, ◌||◌, ◌==◌, codes, List, [], ◌∷◌, ◌++◌, length, Option, Some, None, Result, Ok, Err, if◌then◌else◌}
 use Rattle.std.specs.List.{list_any, list_all}
 use Rattle.std.specs.Str.{bytes_eq}
 use Rattle.gx_model.specs.Texts.{Bytes, cut_at}
+use Rattle.gx_model.specs.Texts.Digits.{is_any_name_text}
 use Rattle.gx_model.specs.Texts.Numbers.{decimal_of}
 use Rattle.gx_model.specs.Texts.RefNames.{is_ref_name, is_tag_name}
 use Rattle.gx_model.specs.Texts.Idents.{is_ident}
 use Rattle.gx_model.specs.Histories.Values.{is_optional_encoding}
 use Rattle.gx_model.specs.Texts.Paths.{Path, is_quoted, path_of, quoted_of}
-use Rattle.gx_model.specs.Faults.{Given, ◌>>=◌, or_fault}
+use Rattle.gx_model.specs.Faults.{Given, ◌>>=◌}
+use Rattle.std.specs.Option.{ok_or}
 use Rattle.gx_model.specs.Streams.Items.{Item, Line, Data, End, Finished, Failed, Stream}
 use Rattle.gx_model.specs.declared.faults.Fault.{Fault}
 use Rattle.gx_model.specs.declared.faults.Fault.TheVariants as faults
@@ -46,7 +48,7 @@ is_word w name = bytes_eq w.word name
 
 -- the rest of a line that needs one; the line of a word that has none
 abbrev pub rest_of : Words → Given (Bytes)
-rest_of w = or_fault w.rest faults.BadLine
+rest_of w = ok_or w.rest faults.BadLine
 
 -- nothing, where there is no rest
 abbrev pub bare_by : Option (Bytes) → Given (Unit {0})
@@ -109,12 +111,12 @@ block s = block_in s.items s
 
 -- the number of a mark, from 1
 abbrev pub mark_number : Bytes → Given ℕ
-mark_number ds = or_fault (decimal_of ds) faults.BadNumber >>= λ n. if n == 0 then Err faults.BadNumber else Ok n
+mark_number ds = ok_or (decimal_of ds) faults.BadNumber >>= λ n. if n == 0 then Err faults.BadNumber else Ok n
 
 -- the number behind a `:`, where there is a `:`
-abbrev pub mark_text : Bytes → Option (Given ℕ)
-mark_text [] = None
-mark_text (b ∷ bs) = if b == 58 then Some (mark_number bs) else None
+abbrev pub colon_number : Bytes → Option (Given ℕ)
+colon_number [] = None
+colon_number (b ∷ bs) = if b == 58 then Some (mark_number bs) else None
 
 -- a mark, or BadLine where there is no `:`
 abbrev pub of_mark : Option (Given ℕ) → Given ℕ
@@ -123,7 +125,7 @@ of_mark (Some g) = g
 
 -- the number of a mark, behind its `:`
 unfoldable pub mark_of : Bytes → Given ℕ
-mark_of bs = of_mark (mark_text bs)
+mark_of bs = of_mark (colon_number bs)
 
 -- a text that plays no part
 abbrev pub any_text : Bytes → Given (Unit {0})
@@ -145,14 +147,6 @@ ref_of bs = if is_ref_name bs then Ok bs else Err faults.BadRefName
 abbrev pub tag_of : Bytes → Given (Bytes)
 tag_of bs = if is_tag_name bs then Ok bs else Err faults.BadRefName
 
--- a hexadecimal digit of either case
-abbrev pub is_hex_digit : ℕ → Bool
-is_hex_digit b = (nat_le 48 b && nat_le b 57) || (nat_le 97 b && nat_le b 102) || (nat_le 65 b && nat_le b 70)
-
--- forty hexadecimal digits
-abbrev pub is_name : Bytes → Bool
-is_name bs = list_all is_hex_digit bs && length bs == 40
-
 -- forty zeros
 abbrev pub is_null : Bytes → Bool
 is_null bs = list_all (λ b. b == 48) bs && length bs == 40
@@ -164,7 +158,7 @@ commit_ish_by bs None = if is_null bs then Err faults.Unsupported else Ok (Named
 
 -- what names a commit
 unfoldable pub commit_ish_of : Bytes → Given CommitIsh
-commit_ish_of bs = commit_ish_by bs (mark_text bs)
+commit_ish_of bs = commit_ish_by bs (colon_number bs)
 
 -- a feature that is known
 abbrev pub feature_of : Bytes → Given Feature
@@ -199,7 +193,7 @@ after_space x (b ∷ bs) = if b == 32 then Ok (x, bs) else Err faults.BadLine
 unfoldable pub source_path : Bytes → Given (Path × Bytes)
 source_path bs =
     if is_quoted bs then (quoted_of bs >>= λ p. after_space p.0 p.1)
-    else (or_fault (cut_at 32 bs) faults.BadLine >>= λ p. path_of p.0 >>= λ path. Ok (path, p.1))
+    else (ok_or (cut_at 32 bs) faults.BadLine >>= λ p. path_of p.0 >>= λ path. Ok (path, p.1))
 
 -- ---- changes
 
@@ -219,11 +213,11 @@ where_by bs (Some g) = g >>= λ n. Ok (AtMark n)
 where_by bs None =
     if bytes_eq bs (codes "inline") then Ok AtBlock
     else (if is_null bs then Err faults.Unsupported
-    else (if is_name bs then Ok (AtName bs) else Err faults.BadLine))
+    else (if is_any_name_text bs then Ok (AtName bs) else Err faults.BadLine))
 
 -- where the bytes of a modify are
 abbrev pub where_of : Bytes → Given Where
-where_of bs = where_by bs (mark_text bs)
+where_of bs = where_by bs (colon_number bs)
 
 -- a gitlink is given by its digits alone
 abbrev pub suits : Mode → Where → Given (Unit {0})
@@ -435,8 +429,8 @@ abbrev pub stops : Option Fault → Commands
 stops f = record { list = []; fault = f }
 
 -- a command, and then these
-abbrev pub with_first : Command → Commands → Commands
-with_first c cs = record { list = c ∷ cs.list; fault = cs.fault }
+abbrev pub with_command : Command → Commands → Commands
+with_command c cs = record { list = c ∷ cs.list; fault = cs.fault }
 
 -- the commands of at most n items, after the commands before
 unfoldable pub commands_within : ℕ → List Command → List Item → End → Commands
@@ -448,7 +442,7 @@ commands_within (suc n) before (Line (b ∷ bs) ∷ more) end =
     by (command_at (list_all is_option before) (words_of (b ∷ bs)) (record { items = more; end = end })) (λ c t. commands_within n (before ++ c ∷ []) t.items t.end) where
       by : Read Command → (Command → Stream → Commands) → Commands
       by (Err f) again = stops (Some f)
-      by (Ok x) again = if is_done x.0 then with_first x.0 (stops None) else with_first x.0 (again x.0 x.1)
+      by (Ok x) again = if is_done x.0 then with_command x.0 (stops None) else with_command x.0 (again x.0 x.1)
 
 -- the commands that ask for these features
 abbrev pub asked : Features → List Command

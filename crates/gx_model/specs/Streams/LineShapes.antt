@@ -16,7 +16,8 @@ use Rattle.gx_model.specs.declared.objects.Mode.TheVariants as modes
 use Rattle.gx_model.specs.declared.features.Feature.{Feature}
 use Rattle.gx_model.specs.declared.features.Feature.TheVariants as features
 use Rattle.gx_model.specs.Streams.Commands.{CommitIsh, Marked, Named}
-use Rattle.gx_model.specs.Streams.Grammar.{Where, AtMark, AtName, AtBlock, is_name}
+use Rattle.gx_model.specs.Streams.Grammar.{Where, AtMark, AtName, AtBlock}
+use Rattle.gx_model.specs.Texts.Digits.{is_any_name_text}
 
 -- ---- the word of a line
 
@@ -68,8 +69,8 @@ abbrev pub IsRefText : TextShape Bytes
 IsRefText = IsForm (λ text. IsTrue (is_ref_name text)) faults.BadRefName
 
 -- a tag's name
-abbrev pub IsTagText : TextShape Bytes
-IsTagText = IsForm (λ text. IsTrue (is_tag_name text)) faults.BadRefName
+abbrev pub IsTagNameText : TextShape Bytes
+IsTagNameText = IsForm (λ text. IsTrue (is_tag_name text)) faults.BadRefName
 
 -- an encoding: a line, and not empty
 abbrev pub IsEncodingText : TextShape Bytes
@@ -82,17 +83,17 @@ IsAnyText text given = given ≡ Ok tt
 -- ---- marks and what names a commit
 
 -- a mark as it is written
-abbrev pub mark_text : Bytes → Bytes
-mark_text digits = 58 ∷ digits
+abbrev pub with_colon : Bytes → Bytes
+with_colon digits = 58 ∷ digits
 
 -- a mark: `:` and a number from 1
 pub data IsMarkText : Bytes → Given ℕ → Type 0 where
-  is_mark : {text digits : Bytes} {n : ℕ} → text ≡ mark_text digits → decimal_of digits ≡ Some n → 0 < n → IsMarkText text (Ok n)
+  is_mark : {text digits : Bytes} {n : ℕ} → text ≡ with_colon digits → decimal_of digits ≡ Some n → 0 < n → IsMarkText text (Ok n)
   mark_is_zero : {text digits : Bytes}
-      → text ≡ mark_text digits → decimal_of digits ≡ Some 0 → IsMarkText text (Err faults.BadNumber)
+      → text ≡ with_colon digits → decimal_of digits ≡ Some 0 → IsMarkText text (Err faults.BadNumber)
   mark_is_no_number : {text digits : Bytes}
-      → text ≡ mark_text digits → decimal_of digits ≡ None → IsMarkText text (Err faults.BadNumber)
-  is_no_mark : {text : Bytes} → IsNot mark_text text → IsMarkText text (Err faults.BadLine)
+      → text ≡ with_colon digits → decimal_of digits ≡ None → IsMarkText text (Err faults.BadNumber)
+  is_no_mark : {text : Bytes} → IsNot with_colon text → IsMarkText text (Err faults.BadLine)
 
 -- the name that stands for nothing
 abbrev pub forty_zeros : Bytes
@@ -102,9 +103,9 @@ forty_zeros = replicate 40 48
 pub data IsCommitIshText : Bytes → Given CommitIsh → Type 0 where
   names_mark : {text : Bytes} {n : ℕ} → IsMarkText text (Ok n) → IsCommitIshText text (Ok (Marked n))
   names_bad_mark : {text digits : Bytes} {f : Fault}
-      → text ≡ mark_text digits → IsMarkText text (Err f) → IsCommitIshText text (Err f)
+      → text ≡ with_colon digits → IsMarkText text (Err f) → IsCommitIshText text (Err f)
   names_zeros : {text : Bytes} → text ≡ forty_zeros → IsCommitIshText text (Err faults.Unsupported)
-  names_commit : {text : Bytes} → IsNot mark_text text → (text ≡ forty_zeros → ⊥) → IsCommitIshText text (Ok (Named text))
+  names_commit : {text : Bytes} → IsNot with_colon text → (text ≡ forty_zeros → ⊥) → IsCommitIshText text (Ok (Named text))
 
 -- ---- features
 
@@ -137,12 +138,12 @@ pub data IsModeText : Bytes → Given Mode → Type 0 where
 -- a dataref: a mark, `inline`, or forty hexadecimal digits that aren't all zero
 pub data IsDataRefText : Bytes → Given Where → Type 0 where
   at_mark : {text : Bytes} {n : ℕ} → IsMarkText text (Ok n) → IsDataRefText text (Ok (AtMark n))
-  at_bad_mark : {text digits : Bytes} {f : Fault} → text ≡ mark_text digits → IsMarkText text (Err f) → IsDataRefText text (Err f)
+  at_bad_mark : {text digits : Bytes} {f : Fault} → text ≡ with_colon digits → IsMarkText text (Err f) → IsDataRefText text (Err f)
   at_block : {text : Bytes} → text ≡ codes "inline" → IsDataRefText text (Ok AtBlock)
   at_zeros : {text : Bytes} → text ≡ forty_zeros → IsDataRefText text (Err faults.Unsupported)
-  at_name : {text : Bytes} → IsTrue (is_name text) → (text ≡ forty_zeros → ⊥) → IsDataRefText text (Ok (AtName text))
+  at_name : {text : Bytes} → IsTrue (is_any_name_text text) → (text ≡ forty_zeros → ⊥) → IsDataRefText text (Ok (AtName text))
   at_nothing : {text : Bytes}
-      → IsNot mark_text text → (text ≡ codes "inline" → ⊥) → (IsTrue (is_name text) → ⊥) → IsDataRefText text (Err faults.BadLine)
+      → IsNot with_colon text → (text ≡ codes "inline" → ⊥) → (IsTrue (is_any_name_text text) → ⊥) → IsDataRefText text (Err faults.BadLine)
 
 -- ---- paths in lines
 

@@ -3,12 +3,12 @@ use Rattle.std.specs.Prelude.{◌≡◌, IsTrue, ℕ, zero, suc, ◌+◌, ◌-�
 use Rattle.std.specs.Option.{option_map, option_and_then}
 use Rattle.std.specs.List.{list_any, list_all, slice_split, join_with_byte, flat_map, AllByRecursion}
 use Rattle.std.specs.Str.{bytes_eq}
-use Rattle.std.specs.Cmp.Lexicographic.{slice_cmp, pointwise}
-use Rattle.std.specs.Ordering.{nat_cmp, on}
+use Rattle.std.specs.Cmp.Lexicographic.{pointwise}
+use Rattle.std.specs.Ordering.{on}
 use Rattle.std.specs.declared.cmp.Ordering.{Ordering}
 use Rattle.gx_model.specs.declared.faults.Fault.{Fault}
 use Rattle.gx_model.specs.declared.faults.Fault.TheVariants as faults
-use Rattle.gx_model.specs.Texts.{Bytes, same_bytes}
+use Rattle.gx_model.specs.Texts.{Bytes, byte_cmp, same_bytes}
 
 -- ---- paths
 
@@ -34,7 +34,7 @@ path_text cs = join_with_byte 47 cs
 
 -- the byte order of whole paths
 abbrev pub path_cmp : Path → Path → Ordering
-path_cmp = on path_text (slice_cmp nat_cmp)
+path_cmp = on path_text byte_cmp
 
 -- at most 4,095 bytes
 abbrev pub is_short : Path → Bool

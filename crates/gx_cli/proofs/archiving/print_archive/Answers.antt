@@ -11,7 +11,7 @@ use Rattle.gx_cli.proofs.archiving.print_archive.Goals as goal
 pub returns-in-Ok : goal.returns-in-Ok
 returns-in-Ok g c =
     let r = c.args.repo.now in
-    let given = ap (λ read. only_word (and_then read (λ revision. archive_of (g.N.Namer.name_of r.0) (history_of r.1) revision c.args.prefix.now))) c.in-Ok.ensures.revision in
+    let given = ap (λ read. only_word (read >>= λ revision. archive_of (g.N.Namer.name_of r.0) (history_of r.1) revision c.args.prefix.now)) c.in-Ok.ensures.revision in
     subst (λ text. Prints text (g.W.Sink.taken c.args.sink.now) (g.W.Sink.taken c.archive_revision.new.sink) c.archive_revision.result) (sym given) c.archive_revision.ensures
 
 pub returns-in-Err : goal.returns-in-Err

@@ -2,7 +2,7 @@ use Rattle.std.proofs.Common.{List, ap, map, subst, sym, ◌∙◌, Ok, Err}
 use Rattle.std.specs.List.{AllByRecursion}
 use Rattle.std.proofs.lemmas.Result.{err_from_is_err_and}
 use Rattle.gx_model.specs.declared.objects.Kind.TheVariants as kinds
-use Rattle.gx_model.specs.Faults.{and_then}
+use Rattle.gx_model.specs.Faults.{◌>>=◌}
 use Rattle.gx_model.specs.Histories.Values.{Commit}
 use Rattle.gx_model.specs.Texts.{Bytes}
 use Rattle.gx_model.specs.Records.HistoryOf.{history_of}
@@ -13,7 +13,8 @@ use Rattle.gx_rev.specs.Views.{shown_range}
 use Rattle.gx_cli.specs.Answers.{Prints}
 use Rattle.gx_cli.specs.Logs.{arranged, commits_logged, entries_text, log_text}
 use Rattle.gx_cli.specs.Sending.{PrintsText}
-use Rattle.gx_cli.specs.Stored.{all_words, texts_of}
+use Rattle.gx_cli.specs.Stored.{all_words}
+use Rattle.gx_text.specs.Lent.{lent_texts}
 use Rattle.gx_cli.specs.Words.{RefusesWord}
 use Rattle.gx_cli.proofs.ListedCommits.{all_arranged, map_arranged}
 use Rattle.gx_cli.proofs.RefusedWords.{first_refused, in_two, later_refused, refusal_printed, then_words}
@@ -25,13 +26,13 @@ returns-in_err-read_into g c =
     let p = err_from_is_err_and c.from_residual.result c.from_residual.ensures.1 in
     let name = g.N.Namer.name_of c.args.repo.now.0 in
     let o = c.args.options in
-    let words = texts_of c.args.words.now in
+    let words = lent_texts c.args.words.now in
     let was = g.W.Sink.taken c.args.sink.now in
     let read = each_word range_of words in
     let listed = commits_logged name (history_of c.args.repo.now.1) o.all in
     let text : List Commit → Bytes = λ commits. entries_text name o (arranged o commits) in
     let fault = c.in_err-read_into.field-0.0 in
-    rw (p.1, p.2) (subst (λ given. Prints given was was (Err fault)) (sym (in_two read listed text)) (refusal_printed (all_words (and_then read listed)) text was fault (first_refused read listed fault c.in_err-read_into.ensures)))
+    rw (p.1, p.2) (subst (λ given. Prints given was was (Err fault)) (sym (in_two read listed text)) (refusal_printed (all_words (read >>= listed)) text was fault (first_refused read listed fault c.in_err-read_into.ensures)))
 
 pub returns-in_err-names : goal.returns-in_err-names
 returns-in_err-names g c =
@@ -39,7 +40,7 @@ returns-in_err-names g c =
     let name = g.N.Namer.name_of c.args.repo.now.0 in
     let h = history_of c.args.repo.now.1 in
     let o = c.args.options in
-    let words = texts_of c.args.words.now in
+    let words = lent_texts c.args.words.now in
     let was = g.W.Sink.taken c.args.sink.now in
     let read = each_word range_of words in
     let listed = commits_logged name h o.all in
@@ -61,7 +62,7 @@ returns g c =
     let r = c.args.repo.now.1 in
     let h = history_of r in
     let o = c.args.options in
-    let words = texts_of c.args.words.now in
+    let words = lent_texts c.args.words.now in
     let was = g.W.Sink.taken c.args.sink.now in
     let now = g.W.Sink.taken c.print_commits.new.sink in
     let read = each_word range_of words in

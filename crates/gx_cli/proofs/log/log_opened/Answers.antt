@@ -3,7 +3,7 @@ use Rattle.std.proofs.lemmas.Result.{err_from_is_err_and}
 use Rattle.gx_model.specs.Records.HistoryOf.{history_of}
 use Rattle.gx_cli.specs.Answers.{Prints}
 use Rattle.gx_cli.specs.Logs.{log_text}
-use Rattle.gx_cli.specs.Stored.{texts_of}
+use Rattle.gx_text.specs.Lent.{lent_texts}
 use Rattle.gx_cli.proofs.LoggedLines.{logs_lines, logs_words, no_lines, source_read, source_unread}
 use Rattle.gx_cli.proofs.log.log_opened.Goals as goal
 
@@ -13,7 +13,7 @@ returns-in_err-lines g c =
     let name = g.N.Namer.name_of c.args.repo.now.0 in
     let r = c.args.repo.now.1 in
     let o = c.args.options in
-    let words = texts_of c.args.words.now in
+    let words = lent_texts c.args.words.now in
     let coming = g.R.Source.coming c.args.source in
     let was = g.W.Sink.taken c.args.sink.now in
     let fault = c.in_err-lines.field-0.0 in
@@ -24,7 +24,7 @@ returns-in_ok-lines g c =
     let name = g.N.Namer.name_of c.args.repo.now.0 in
     let r = c.args.repo.now.1 in
     let o = c.args.options in
-    let words = texts_of c.args.words.now in
+    let words = lent_texts c.args.words.now in
     let coming = g.R.Source.coming c.args.source in
     let was = g.W.Sink.taken c.args.sink.now in
     let now = g.W.Sink.taken c.log_words.new.sink in
@@ -37,7 +37,7 @@ returns-else-options g c =
     let name = g.N.Namer.name_of c.args.repo.now.0 in
     let r = c.args.repo.now.1 in
     let o = c.args.options in
-    let words = texts_of c.args.words.now in
+    let words = lent_texts c.args.words.now in
     let was = g.W.Sink.taken c.args.sink.now in
     let now = g.W.Sink.taken c.log_words-else-options.new.sink in
     let answer = c.log_words-else-options.result in

@@ -1,5 +1,5 @@
 use Rattle.std.proofs.Common.{ap, Ok}
-use Rattle.gx_model.specs.Faults.{and_then}
+use Rattle.gx_model.specs.Faults.{◌>>=◌}
 use Rattle.gx_model.specs.Records.HistoryOf.{history_of}
 use Rattle.gx_rev.specs.Objects.{files_at}
 use Rattle.gx_cli.specs.Listings.{tree_lines}
@@ -18,7 +18,7 @@ pub returns-then-recursive : goal.returns-then-recursive
 returns-then-recursive g c =
     let name = g.N.Namer.name_of c.args.repo.now.0 in
     let files = files_at c.args.repo.now.1 c.in-Ok.tree in
-    let given = ap (λ r. only_word (and_then r (λ fs. Ok (list_lines name c.args.recursive fs)))) c.in-Ok.ensures.files in
+    let given = ap (λ r. only_word (r >>= λ fs. Ok (list_lines name c.args.recursive fs))) c.in-Ok.ensures.files in
     let was = g.W.Sink.taken c.args.sink.now in
     let now = g.W.Sink.taken c.print_files.new.sink in
     given_text _ (list_lines name c.args.recursive files) was now c.print_files.result given (rw c.if-recursive.true c.print_files.ensures)
@@ -27,7 +27,7 @@ pub returns-else-recursive : goal.returns-else-recursive
 returns-else-recursive g c =
     let name = g.N.Namer.name_of c.args.repo.now.0 in
     let files = files_at c.args.repo.now.1 c.in-Ok.tree in
-    let given = ap (λ r. only_word (and_then r (λ fs. Ok (list_lines name c.args.recursive fs)))) c.in-Ok.ensures.files in
+    let given = ap (λ r. only_word (r >>= λ fs. Ok (list_lines name c.args.recursive fs))) c.in-Ok.ensures.files in
     let was = g.W.Sink.taken c.args.sink.now in
     let now = g.W.Sink.taken c.print_entries.new.sink in
     let printed = shows_prints (tree_lines name files) was now c.print_entries.result c.print_entries.ensures in

@@ -3,7 +3,8 @@ use Rattle.gx_model.specs.Records.HistoryOf.{history_of}
 use Rattle.gx_model.specs.Stores.StoreReading.{store_of}
 use Rattle.gx_cli.specs.Opening.{bytes_of}
 use Rattle.gx_cli.specs.Serving.{DropsRefs, ExportsRangeStored, ImportsInto, LogsOf, PrintsStored, Serves}
-use Rattle.gx_cli.specs.Stored.{list_text, names_text, show_text, tar_text, texts_of}
+use Rattle.gx_cli.specs.Stored.{list_text, names_text, show_text, tar_text}
+use Rattle.gx_text.specs.Lent.{lent_texts}
 use Rattle.gx_cli.specs.Trying.{FindsFault}
 use Rattle.gx_cli.proofs.ServedLines.{import_served}
 use Rattle.gx_cli.proofs.serving.serve_bytes.Goals as goal
@@ -30,7 +31,7 @@ returns-in-ExportRange-clause-served g c =
     let name = g.N.Namer.name_of c.args.namer in
     let was = g.W.Sink.taken c.args.sink.now in
     let now = g.W.Sink.taken c.export_range_stored.new.sink in
-    let sent = subst (λ words. ExportsRangeStored name c.in-ExportRange.done (store_of name (bytes_of c.args.store)) (texts_of words) was now c.export_range_stored.result) c.as_slice.ensures.value c.export_range_stored.ensures in
+    let sent = subst (λ words. ExportsRangeStored name c.in-ExportRange.done (store_of name (bytes_of c.args.store)) (lent_texts words) was now c.export_range_stored.result) c.as_slice.ensures.value c.export_range_stored.ensures in
     subst (λ l. Serves name l (bytes_of c.args.store) (g.R.Source.coming c.args.source) was now c.export_range_stored.result) (sym c.in-ExportRange.is) sent
 
 pub returns-in-Drop-clause-served : goal.returns-in-Drop-clause-served
@@ -38,7 +39,7 @@ returns-in-Drop-clause-served g c =
     let name = g.N.Namer.name_of c.args.namer in
     let was = g.W.Sink.taken c.args.sink.now in
     let coming = g.R.Source.coming c.args.source in
-    let dropped = subst (λ words. DropsRefs name c.in-Drop.stdin (store_of name (bytes_of c.args.store)) (texts_of words) coming c.drop_stored.result) c.as_slice-in-Drop.ensures.value c.drop_stored.ensures in
+    let dropped = subst (λ words. DropsRefs name c.in-Drop.stdin (store_of name (bytes_of c.args.store)) (lent_texts words) coming c.drop_stored.result) c.as_slice-in-Drop.ensures.value c.drop_stored.ensures in
     subst (λ l. Serves name l (bytes_of c.args.store) coming was was c.drop_stored.result) (sym c.in-Drop.is) (dropped, refl)
 
 pub returns-in-Gc-clause-served : goal.returns-in-Gc-clause-served
@@ -82,7 +83,7 @@ returns-in-Log-clause-served g c =
     let name = g.N.Namer.name_of c.args.namer in
     let was = g.W.Sink.taken c.args.sink.now in
     let now = g.W.Sink.taken c.log_stored.new.sink in
-    let asked = subst (λ words. LogsOf name c.in-Log.options (store_of name (bytes_of c.args.store)) (texts_of words) (g.R.Source.coming c.args.source) was now c.log_stored.result) c.as_slice-in-Log.ensures.value c.log_stored.ensures in
+    let asked = subst (λ words. LogsOf name c.in-Log.options (store_of name (bytes_of c.args.store)) (lent_texts words) (g.R.Source.coming c.args.source) was now c.log_stored.result) c.as_slice-in-Log.ensures.value c.log_stored.ensures in
     subst (λ l. Serves name l (bytes_of c.args.store) (g.R.Source.coming c.args.source) was now c.log_stored.result) (sym c.in-Log.is) asked
 
 pub returns-in-RevParse-clause-served : goal.returns-in-RevParse-clause-served
@@ -90,5 +91,5 @@ returns-in-RevParse-clause-served g c =
     let name = g.N.Namer.name_of c.args.namer in
     let was = g.W.Sink.taken c.args.sink.now in
     let now = g.W.Sink.taken c.names_stored.new.sink in
-    let asked = subst (λ words. PrintsStored (store_of name (bytes_of c.args.store)) (λ r. names_text name (history_of r) (texts_of words)) was now c.names_stored.result) c.as_slice-in-RevParse.ensures.value c.names_stored.ensures in
+    let asked = subst (λ words. PrintsStored (store_of name (bytes_of c.args.store)) (λ r. names_text name (history_of r) (lent_texts words)) was now c.names_stored.result) c.as_slice-in-RevParse.ensures.value c.names_stored.ensures in
     subst (λ l. Serves name l (bytes_of c.args.store) (g.R.Source.coming c.args.source) was now c.names_stored.result) (sym c.in-RevParse.is) asked

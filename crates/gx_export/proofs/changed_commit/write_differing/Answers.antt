@@ -7,7 +7,8 @@ use Rattle.gx_model.specs.Texts.Paths.{Path}
 use Rattle.gx_export.specs.ChangedParts.{differing_lines}
 use Rattle.gx_export.specs.Compared.{gone_items, gone_text}
 use Rattle.gx_export.specs.Outputs.{Writes}
-use Rattle.gx_export.specs.Texts.{file_items, items_text}
+use Rattle.gx_export.specs.Texts.{file_items}
+use Rattle.gx_model.specs.Export.{items_text}
 use Rattle.gx_export.proofs.Writing.{items_append}
 use Rattle.gx_export.proofs.changed_commit.write_differing.Goals as goal
 

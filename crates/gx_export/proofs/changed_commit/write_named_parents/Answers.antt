@@ -10,7 +10,8 @@ use Rattle.gx_rev.specs.Objects.{commit_at}
 use Rattle.gx_model.proofs.Records.HeldValues.{holds_held}
 use Rattle.gx_export.specs.Naming.{shown_commit}
 use Rattle.gx_export.specs.Outputs.{Stops, Writes}
-use Rattle.gx_export.specs.Texts.{items_text, parents_by}
+use Rattle.gx_export.specs.Texts.{parents_by}
+use Rattle.gx_model.specs.Export.{items_text}
 use Rattle.gx_export.proofs.CommitLines.{image_at, line_is, none_at, parent_line, parents_next, parents_parts, passes_at}
 use Rattle.gx_export.proofs.Numbering.{adds_bytes, adds_later, adds_nothing}
 use Rattle.gx_export.proofs.Writing.{items_sooner}

@@ -1,14 +1,14 @@
 use Rattle.std.proofs.Common.{◌++◌, length, sym, subst}
 use Rattle.std.proofs.lemmas.Result.{err_from_is_err_and}
 use Rattle.gx_model.specs.Changes.{named_in, own_files}
-use Rattle.gx_model.specs.Export.{blob_commands, contents, with_blobs}
+use Rattle.gx_model.specs.Export.{blob_commands, contents, items_text, with_blobs}
 use Rattle.gx_model.specs.Histories.Values.{list_of, parents_of, text_of}
 use Rattle.gx_rev.specs.Objects.{commit_at}
 use Rattle.gx_export.specs.Marks.{Adds}
 use Rattle.gx_export.specs.Outputs.{Stops}
 use Rattle.gx_export.specs.Parts.{commits_called}
 use Rattle.gx_export.specs.ChangedParts.{lines_on}
-use Rattle.gx_export.specs.Texts.{items_of, items_text, root_items}
+use Rattle.gx_export.specs.Texts.{items_of, root_items}
 use Rattle.gx_export.proofs.ChangedTexts.{gone_of, items_told_on, lines_found, one_on_parts, some_unmarked_on}
 use Rattle.gx_export.proofs.CommitTexts.{shown_as}
 use Rattle.gx_export.proofs.Numbering.{adds_later}

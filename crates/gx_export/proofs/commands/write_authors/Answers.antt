@@ -4,7 +4,8 @@ use Rattle.std.specs.Fmt.{decimal}
 use Rattle.gx_model.specs.Texts.{Bytes}
 use Rattle.gx_model.specs.Histories.Values.{CommitText}
 use Rattle.gx_export.specs.Outputs.{Writes}
-use Rattle.gx_export.specs.Texts.{author_items, items_text}
+use Rattle.gx_export.specs.Texts.{author_items}
+use Rattle.gx_model.specs.Export.{items_text}
 use Rattle.gx_export.proofs.commands.write_authors.Goals as goal
 
 -- a line's end goes to what follows

@@ -1,13 +1,13 @@
 use Rattle.std.proofs.Common.{sym, subst, arith, Ok}
 use Rattle.std.proofs.lemmas.Result.{err_from_is_err_and}
-use Rattle.gx_model.specs.Export.{contents, one_commit, with_blobs}
+use Rattle.gx_model.specs.Export.{contents, items_text, one_commit, with_blobs}
 use Rattle.gx_model.specs.Laws.RepositoryLaws.{values_of}
 use Rattle.gx_model.specs.Histories.Values.{commit_value, files_of}
 use Rattle.gx_model.proofs.Records.Standing.{at_within, commit_name_there}
 use Rattle.gx_export.specs.FileTexts.{AreKept}
 use Rattle.gx_export.specs.Marks.{Adds}
 use Rattle.gx_export.specs.Outputs.{Stops, Writes}
-use Rattle.gx_export.specs.Texts.{items_of, items_text}
+use Rattle.gx_export.specs.Texts.{items_of}
 use Rattle.gx_export.proofs.CommitTexts.{same_commit}
 use Rattle.gx_export.proofs.Gathering.{kept_commit}
 use Rattle.gx_export.proofs.Numbering.{next_marked, only_place, place_marked}

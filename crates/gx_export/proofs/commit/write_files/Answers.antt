@@ -4,7 +4,8 @@ use Rattle.gx_model.specs.Histories.Values.{Value}
 use Rattle.gx_model.specs.Streams.Items.{Line}
 use Rattle.gx_model.specs.Texts.{Bytes}
 use Rattle.gx_export.specs.Outputs.{Writes}
-use Rattle.gx_export.specs.Texts.{change_lines, file_items, items_text}
+use Rattle.gx_export.specs.Texts.{change_lines, file_items}
+use Rattle.gx_model.specs.Export.{items_text}
 use Rattle.gx_export.proofs.Writing.{items_append}
 use Rattle.gx_export.proofs.commit.write_files.Goals as goal
 

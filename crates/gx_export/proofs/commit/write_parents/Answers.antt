@@ -2,7 +2,7 @@ use Rattle.std.proofs.Common.{◌<◌, ◌≤◌, length, arith, ◌∙◌, ap, 
 use Rattle.std.proofs.lemmas.List.{length-map, take_all}
 use Rattle.std.proofs.lemmas.Result.{err_from_is_err_and}
 use Rattle.gx_model.specs.declared.objects.Kind.TheVariants as kind
-use Rattle.gx_model.specs.Export.{number_in}
+use Rattle.gx_model.specs.Export.{items_text, number_in}
 use Rattle.gx_model.specs.Streams.Commands.{Marked}
 use Rattle.gx_model.specs.Records.HistoryOf.{commit_of_value, value_of_name}
 use Rattle.gx_model.specs.Records.Sound.{Holds}
@@ -10,7 +10,7 @@ use Rattle.gx_model.specs.Texts.{Bytes}
 use Rattle.gx_rev.specs.Objects.{commit_at}
 use Rattle.gx_model.proofs.Records.HeldValues.{commit_stands, holds_held, kind_held}
 use Rattle.gx_export.specs.Outputs.{Stops, Writes}
-use Rattle.gx_export.specs.Texts.{items_text, parent_items}
+use Rattle.gx_export.specs.Texts.{parent_items}
 use Rattle.gx_export.proofs.CommitLines.{by_marks, image_at, line_is, none_at, parent_line, parents_next, parents_parts, passes_at}
 use Rattle.gx_export.proofs.Numbering.{adds_bytes, adds_later, adds_nothing}
 use Rattle.gx_export.proofs.Writing.{items_sooner}

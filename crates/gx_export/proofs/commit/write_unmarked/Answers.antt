@@ -1,12 +1,12 @@
 use Rattle.std.proofs.Common.{◌∙◌, ◌++◌, length, sym, subst}
 use Rattle.std.proofs.lemmas.Result.{err_from_is_err_and}
-use Rattle.gx_model.specs.Export.{carrier, blob_commands, contents, with_blobs}
+use Rattle.gx_model.specs.Export.{carrier, blob_commands, contents, with_blobs, items_text}
 use Rattle.gx_model.specs.Histories.Values.{files_of, list_of, parents_of, text_of}
 use Rattle.gx_rev.specs.Objects.{commit_at}
 use Rattle.gx_export.specs.Marks.{Adds}
 use Rattle.gx_export.specs.Outputs.{Stops}
 use Rattle.gx_export.specs.Parts.{commits_called}
-use Rattle.gx_export.specs.Texts.{commit_lines, items_of, items_text, root_items}
+use Rattle.gx_export.specs.Texts.{commit_lines, items_of, root_items}
 use Rattle.gx_export.proofs.CommitTexts.{items_told, one_commit_parts, shown_as, some_unmarked}
 use Rattle.gx_export.proofs.Numbering.{adds_later}
 use Rattle.gx_export.proofs.Writing.{items_sooner, on_any}

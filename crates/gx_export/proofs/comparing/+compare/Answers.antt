@@ -4,15 +4,16 @@ use Rattle.std.proofs.lemmas.Result.{err_from_is_err_and}
 use Rattle.gx_model.specs.contracts.objects.Mode.{the_type}
 use Rattle.gx_model.specs.declared.objects.Mode.TheVariants.{Dir}
 use Rattle.gx_model.specs.Changes.{changed_files, gone_paths}
-use Rattle.gx_model.specs.Export.{blob_commands, with_blobs}
+use Rattle.gx_model.specs.Export.{blob_commands, items_text, with_blobs}
 use Rattle.gx_model.specs.Records.HistoryOf.{named_values}
 use Rattle.gx_tree.specs.Lists.{below}
 use Rattle.gx_tree.specs.Nodes.{files}
 use Rattle.gx_tree.proofs.LevelsOf.{level_of}
 use Rattle.gx_export.specs.Compared.{Compares, IsBelowIf, IsCompared, file_if, paths_below}
 use Rattle.gx_export.specs.FileTexts.{bytes_in}
-use Rattle.gx_export.specs.Pairs.{bytes_if, entry_order, is_same, shown_pair, side_by_side}
-use Rattle.gx_export.specs.Texts.{items_of, items_text}
+use Rattle.gx_export.specs.Pairs.{entry_order, is_same, shown_pair, side_by_side}
+use Rattle.gx_object.specs.Parts.{bytes_if}
+use Rattle.gx_export.specs.Texts.{items_of}
 use Rattle.gx_export.proofs.BlobLists.{denied}
 use Rattle.gx_export.proofs.Pairing.{pair_is, same_pair}
 use Rattle.gx_export.proofs.PassedPairs.{all_passed, at_pair, compared_nothing, next_pair, pair_next, pair_stops, pairs_if, tree_there}

@@ -6,7 +6,8 @@ use Rattle.gx_tree.proofs.LevelsOf.{level_of}
 use Rattle.gx_export.specs.Compared.{IsBelowIf}
 use Rattle.gx_export.specs.FileTexts.{AreKept}
 use Rattle.gx_export.specs.Marks.{HasWritten}
-use Rattle.gx_export.specs.Pairs.{bytes_if, side_by_side}
+use Rattle.gx_export.specs.Pairs.{side_by_side}
+use Rattle.gx_object.specs.Parts.{bytes_if}
 use Rattle.gx_export.proofs.PassedPairs.{IsPassing}
 use Rattle.gx_export.proofs.SideBySide.{kept_order}
 use Rattle.gx_export.proofs.comparing.+compare.Given as goal

@@ -6,7 +6,7 @@ use Rattle.gx_model.specs.Records.{named_map}
 use Rattle.gx_rev.specs.Objects.{commit_at}
 use Rattle.gx_export.specs.Compared.{IsBelowIf}
 use Rattle.gx_export.specs.FileTexts.{IsTreeBelow}
-use Rattle.gx_export.specs.Pairs.{bytes_if}
+use Rattle.gx_object.specs.Parts.{bytes_if}
 use Rattle.gx_export.proofs.BaseFiles.{base_below, gone_told, of_compared, own_told, parent_held, tree_held}
 use Rattle.gx_export.proofs.comparing.add_changes.Goals as goal
 

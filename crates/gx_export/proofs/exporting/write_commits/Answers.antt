@@ -2,7 +2,7 @@ use Rattle.std.proofs.Common.{◌≡◌, ◌≤◌, ◌∙◌, ap, sym, subst, [
 use Rattle.std.specs.Prelude.{slice_index_or}
 use Rattle.std.proofs.lemmas.Result.{err_from_is_err_and}
 use Rattle.std.proofs.lemmas.List.{length-map, take_all}
-use Rattle.gx_model.specs.Export.{all_written, one_commit, with_commit}
+use Rattle.gx_model.specs.Export.{all_written, items_text, one_commit, with_commit}
 use Rattle.gx_model.specs.Laws.RepositoryLaws.{values_of}
 use Rattle.gx_model.specs.Histories.Marks.{holds}
 use Rattle.gx_export.specs.Branches.{picked}
@@ -10,7 +10,7 @@ use Rattle.gx_export.specs.FileTexts.{AreKept}
 use Rattle.gx_export.specs.Marks.{Adds}
 use Rattle.gx_export.specs.Outputs.{Stops}
 use Rattle.gx_rev.specs.Reached.{is_wanted}
-use Rattle.gx_export.specs.Texts.{items_of, items_text}
+use Rattle.gx_export.specs.Texts.{items_of}
 use Rattle.gx_export.proofs.CommitLists.{commits_items, items_first, items_last, items_parted, marked_commit, picked_next, picked_parts, picked_passed, written_append}
 use Rattle.gx_export.proofs.Numbering.{adds_later, adds_nothing}
 use Rattle.gx_export.proofs.Writing.{items_sooner}

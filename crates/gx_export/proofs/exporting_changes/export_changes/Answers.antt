@@ -1,10 +1,9 @@
 use Rattle.std.proofs.Common.{◌∙◌}
 use Rattle.std.proofs.lemmas.Result.{err_from_is_err_and}
-use Rattle.gx_model.specs.Export.{reached_commits}
+use Rattle.gx_model.specs.Export.{items_text, reached_commits}
 use Rattle.gx_model.specs.Records.HistoryOf.{history_of}
 use Rattle.gx_rev.specs.Reached.{is_wanted}
 use Rattle.gx_export.specs.ChangedParts.{sending_front}
-use Rattle.gx_export.specs.Texts.{items_text}
 use Rattle.gx_export.proofs.ChangesTexts.{whole_sent}
 use Rattle.gx_export.proofs.Writing.{stops_first}
 use Rattle.gx_export.proofs.exporting_changes.export_changes.Goals as goal

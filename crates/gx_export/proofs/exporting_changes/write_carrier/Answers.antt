@@ -1,8 +1,8 @@
 use Rattle.std.proofs.Common.{◌∙◌, [], ◌∷◌, cond, sym, subst, List, Ok}
-use Rattle.gx_model.specs.Export.{carrier, to_nothing}
+use Rattle.gx_model.specs.Export.{carrier, items_text, to_nothing}
 use Rattle.gx_model.specs.Streams.Commands.{Command}
 use Rattle.gx_export.specs.Outputs.{Writes}
-use Rattle.gx_export.specs.Texts.{items_of, items_text}
+use Rattle.gx_export.specs.Texts.{items_of}
 use Rattle.gx_export.proofs.Writing.{writes_none}
 use Rattle.gx_export.proofs.exporting_changes.write_carrier.Goals as goal
 

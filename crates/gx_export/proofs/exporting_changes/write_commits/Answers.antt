@@ -10,7 +10,8 @@ use Rattle.gx_export.specs.ChangedParts.{one_on}
 use Rattle.gx_export.specs.FileTexts.{AreKept}
 use Rattle.gx_export.specs.Marks.{Adds}
 use Rattle.gx_export.specs.Outputs.{Stops}
-use Rattle.gx_export.specs.Texts.{items_of, items_text}
+use Rattle.gx_export.specs.Texts.{items_of}
+use Rattle.gx_model.specs.Export.{items_text}
 use Rattle.gx_export.proofs.ChangedLists.{changed_first, changed_items, changed_last, changed_parted, changes_append, one_items}
 use Rattle.gx_export.proofs.CommitLists.{marked_commit, picked_next, picked_parts, picked_passed}
 use Rattle.gx_export.proofs.Numbering.{adds_later, adds_nothing}

@@ -10,7 +10,7 @@ use Rattle.gx_repo.specs.Refs.{shown_lent_ref}
 use Rattle.gx_export.specs.Branches.{shown_tips}
 use Rattle.gx_export.specs.Marks.{Adds}
 use Rattle.gx_export.specs.Outputs.{Stops}
-use Rattle.gx_export.specs.Texts.{items_text}
+use Rattle.gx_model.specs.Export.{items_text}
 use Rattle.gx_export.proofs.FoundBranches.{got_there, held_there, shown_there}
 use Rattle.gx_export.proofs.Numbering.{adds_later, adds_nothing}
 use Rattle.gx_export.proofs.RefLines.{tip_items, tips_items}

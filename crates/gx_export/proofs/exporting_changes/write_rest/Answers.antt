@@ -1,13 +1,13 @@
 use Rattle.std.proofs.Common.{◌++◌, map, subst, sym, Ok, Err}
 use Rattle.std.proofs.lemmas.Result.{err_from_is_err_and}
 use Rattle.gx_model.specs.Changes.{carrier_reset, named_in}
-use Rattle.gx_model.specs.Export.{ref_by}
+use Rattle.gx_model.specs.Export.{items_text, ref_by}
 use Rattle.gx_model.specs.Laws.RepositoryLaws.{values_of}
 use Rattle.gx_export.specs.Branches.{AreTargets, picked, refs_of, shown_tips, targets}
 use Rattle.gx_export.specs.ChangedParts.{closing}
 use Rattle.gx_export.specs.Marks.{Adds}
 use Rattle.gx_export.specs.Outputs.{Stops}
-use Rattle.gx_export.specs.Texts.{items_of, items_text}
+use Rattle.gx_export.specs.Texts.{items_of}
 use Rattle.gx_export.proofs.Numbering.{adds_bytes, adds_later}
 use Rattle.gx_export.proofs.Writing.{items_sooner}
 use Rattle.gx_export.proofs.exporting_changes.write_rest.Goals as goal

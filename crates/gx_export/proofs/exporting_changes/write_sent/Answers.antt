@@ -9,7 +9,7 @@ use Rattle.gx_model.specs.Replay.{peeled_at}
 use Rattle.gx_model.proofs.Records.Standing.{as_many}
 use Rattle.gx_export.specs.Branches.{picked, targets}
 use Rattle.gx_export.specs.ChangedParts.{SendsText, sending_front}
-use Rattle.gx_export.specs.Texts.{items_text}
+use Rattle.gx_model.specs.Export.{items_text}
 use Rattle.gx_export.proofs.Numbering.{none_written}
 use Rattle.gx_export.proofs.SentMarks.{told_left}
 use Rattle.gx_export.proofs.Writing.{stops_first}

@@ -2,13 +2,12 @@ use Rattle.std.proofs.Common.{[], ◌∷◌, ◌++◌, ◌∙◌, sym, subst, ap
 use Rattle.std.specs.List.{AllByRecursion}
 use Rattle.std.proofs.lemmas.List.{append-nil}
 use Rattle.std.proofs.lemmas.Result.{err_from_is_err_and}
-use Rattle.gx_model.specs.Export.{command_items, ref_command}
+use Rattle.gx_model.specs.Export.{command_items, items_text, ref_command}
 use Rattle.gx_model.specs.Records.Sound.{IsTarget}
 use Rattle.gx_model.specs.Texts.{Bytes}
 use Rattle.gx_model.proofs.Records.PeeledRefs.{told}
 use Rattle.gx_export.specs.Marks.{Adds}
 use Rattle.gx_export.specs.Outputs.{Stops}
-use Rattle.gx_export.specs.Texts.{items_text}
 use Rattle.gx_export.proofs.CommitLines.{by_marks}
 use Rattle.gx_export.proofs.Numbering.{adds_later, adds_nothing}
 use Rattle.gx_export.proofs.RefLines.{ref_items, refs_append, refs_next}

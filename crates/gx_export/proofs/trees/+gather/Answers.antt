@@ -1,6 +1,6 @@
 use Rattle.std.proofs.Common.{◌≡◌, ◌≢◌, ◌+◌, ◌*◌, ◌<◌, ◌≤◌, ◌∙◌, ◌++◌, [], ◌∷◌, length, drop, true, false, not, ap, sym, subst, arith, rules, Ok}
 use Rattle.std.proofs.lemmas.List.{length-append}
-use Rattle.gx_model.specs.Export.{blob_commands, with_blobs}
+use Rattle.gx_model.specs.Export.{blob_commands, items_text, with_blobs}
 use Rattle.gx_model.specs.Records.HistoryOf.{named_values, placed}
 use Rattle.gx_model.specs.Histories.Files.{FileMap}
 use Rattle.gx_model.specs.Objects.NameMaps.{IsHeldTree}
@@ -18,7 +18,7 @@ use Rattle.gx_tree.specs.Nodes.{files, kept_map}
 use Rattle.gx_tree.proofs.HeldLevels.{entries_held, loading_all, loading_more, loading_none, within_all}
 use Rattle.gx_tree.proofs.LevelsOf.{files-level_of, level_of}
 use Rattle.gx_export.specs.FileTexts.{Gathers, IsEntryBelow, IsGathered, IsLinesOf, TakesOver, bytes_in, lines_text}
-use Rattle.gx_export.specs.Texts.{items_of, items_text}
+use Rattle.gx_export.specs.Texts.{items_of}
 use Rattle.gx_export.proofs.BlobLists.{denied}
 use Rattle.gx_export.proofs.Gathering.{entries_below, file_below, file_leaf, folder_below, gathered_again, lines_gathered, nothing_gathered, walking_next, walking_stops}
 use Rattle.gx_export.proofs.HeldEntries.{entries_are, is_tree}

@@ -4,13 +4,13 @@ use Rattle.std.proofs.lemmas.Result.{err_from_is_err_and}
 use Rattle.gx_model.specs.contracts.objects.Mode.{the_type}
 use Rattle.gx_model.specs.declared.objects.Kind.TheVariants as kind
 use Rattle.gx_model.specs.declared.objects.Mode.TheVariants.{Gitlink}
-use Rattle.gx_model.specs.Export.{blob_commands, with_blobs}
+use Rattle.gx_model.specs.Export.{blob_commands, items_text, with_blobs}
 use Rattle.gx_model.specs.Records.HistoryOf.{bytes_of_blob, named_values}
 use Rattle.gx_rev.specs.Objects.{value_at}
 use Rattle.gx_model.proofs.Records.HeldValues.{holds_held, kind_held}
 use Rattle.gx_export.specs.declared.fault.ExportFault.TheVariants.{OutOfMemory}
 use Rattle.gx_export.specs.FileTexts.{bytes_in}
-use Rattle.gx_export.specs.Texts.{items_of, items_text}
+use Rattle.gx_export.specs.Texts.{items_of}
 use Rattle.gx_export.proofs.CommitLines.{file_held}
 use Rattle.gx_export.proofs.Gathering.{file_stops, gathers_file, gathers_gitlink, stops_last}
 use Rattle.gx_export.proofs.Numbering.{blob_place, mark_of_blob, place_marked}

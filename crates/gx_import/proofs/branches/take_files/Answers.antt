@@ -1,8 +1,7 @@
 use Rattle.std.proofs.Common.{◌≡◌, Some, map, refl, sym, subst, ◌∙◌, inl}
 use Rattle.std.specs.Map.{lookup}
 use Rattle.std.specs.Ordering.{is_eq}
-use Rattle.gx_model.specs.Replay.{byte_cmp}
-use Rattle.gx_model.specs.Texts.{same_bytes}
+use Rattle.gx_model.specs.Texts.{byte_cmp, same_bytes}
 use Rattle.gx_import.specs.Rows.{AreRows, row_of}
 use Rattle.gx_import.specs.Standing.{IsTaken}
 use Rattle.gx_import.proofs.SortedRows.{found_at}

@@ -1,6 +1,6 @@
 use Rattle.std.proofs.Common.{◌≡◌, map, Some, None, refl, ◌∙◌}
 use Rattle.gx_model.specs.Objects.{unhex}
-use Rattle.gx_model.specs.Revisions.Denotation.{lower}
+use Rattle.gx_model.specs.Texts.Digits.{lower}
 use Rattle.gx_model.proofs.Revisions.Bases.{name_written, whole_digits}
 use Rattle.gx_import.proofs.HeldBlobs.{content_found, lower_text}
 use Rattle.gx_import.proofs.changes.named_content.Goals as goal

@@ -1,6 +1,6 @@
 use Rattle.std.proofs.Common.{Ok}
 use Rattle.std.proofs.lemmas.Result.{err_from_is_err_and}
-use Rattle.gx_model.specs.Faults.{and_then}
+use Rattle.gx_model.specs.Faults.{◌>>=◌}
 use Rattle.gx_model.specs.Histories.Edits.{modified}
 use Rattle.gx_model.specs.Histories.Files.{FileMap}
 use Rattle.gx_model.specs.Laws.RepositoryLaws.{values_of}
@@ -35,7 +35,7 @@ returns-in_err-name-clause-steps g c = λ s f h are.
     let d = shown_data c.args.data_ref in
     let clash = Clash name (values_of c.args.repo.now.1) (content_added d) in
     rw (p.1, p.2) (adds_refused {X = Name} {Y = State × Bytes} {Z = Unit {0}} {W = State × FileMap Bytes} clash clash (λ u x. Unit {0}) (λ u x. Unit {0}) (λ q. q) c.in_err-name.field-0.0 (content name s c.args.mode d)
-    (λ r. and_then (modified f c.args.path.now (c.args.mode, r.1)) (λ z. Ok (r.0, z))) (c.in_err-name.ensures.steps s h))
+    (λ r. modified f c.args.path.now (c.args.mode, r.1) >>= λ z. Ok (r.0, z)) (c.in_err-name.ensures.steps s h))
 
 pub returns-in_err-name-clause-asked : goal.returns-in_err-name-clause-asked
 returns-in_err-name-clause-asked g c = λ s h.

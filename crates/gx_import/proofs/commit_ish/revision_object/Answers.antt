@@ -1,5 +1,5 @@
 use Rattle.std.proofs.Common.{ap, ◌∙◌}
-use Rattle.gx_model.specs.Faults.{and_then}
+use Rattle.gx_model.specs.Faults.{◌>>=◌}
 use Rattle.gx_model.specs.Revisions.Denotation.{shown_value, value_denoted}
 use Rattle.gx_model.specs.Records.HistoryOf.{history_of}
 use Rattle.gx_model.proofs.Records.HeldValues.{held_is}
@@ -12,4 +12,4 @@ returns-in-Object-clause-shows g c =
     let shown = rw c.in-Object.is at c.in_ok-kind.ensures.shown in
     let named = rw c.in-Object.is at c.in_ok-kind.ensures.named in
     let held = held_is name (g.met.N.Namer.is_namer c.args.repo.now.0) r c.sound.ensures c.in-Object.name.bytes named.2 in
-    (_, ap (λ x. and_then x (λ v. value_denoted name (history_of r) v)) c.in_ok-revision.ensures.revision ∙ ap (λ d. and_then d shown_value) shown, record { stands = held.stands; kind = named.0; named = named.1 })
+    (_, ap (λ x. x >>= λ v. value_denoted name (history_of r) v) c.in_ok-revision.ensures.revision ∙ ap (λ d. d >>= shown_value) shown, record { stands = held.stands; kind = named.0; named = named.1 })

@@ -1,7 +1,7 @@
 use Rattle.std.proofs.Common.{IsTrue, ap, sym, subst, ◌∙◌}
 use Rattle.std.specs.Bool.{passes}
 use Rattle.std.specs.FinMap.Entries.{is_sorted, is_sorted-put, put}
-use Rattle.gx_model.specs.Replay.{byte_cmp}
+use Rattle.gx_model.specs.Texts.{byte_cmp}
 use Rattle.gx_model.proofs.Texts.PathTests.{is_true}
 use Rattle.gx_repo.specs.Refs.{shown_update}
 use Rattle.gx_import.specs.Rows.{rows_of}

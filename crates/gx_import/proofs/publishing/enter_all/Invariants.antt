@@ -1,7 +1,7 @@
 use Rattle.std.proofs.Common.{◌≡◌, List, map, drop, IsTrue}
 use Rattle.std.specs.FinMap.Entries.{is_sorted}
 use Rattle.gx_model.specs.Records.Publishing.{Ref, with_changes}
-use Rattle.gx_model.specs.Replay.{byte_cmp}
+use Rattle.gx_model.specs.Texts.{byte_cmp}
 use Rattle.gx_repo.specs.Refs.{shown_update}
 use Rattle.gx_import.specs.Keeping.{AreNames}
 use Rattle.gx_import.specs.Rows.{rows_of}

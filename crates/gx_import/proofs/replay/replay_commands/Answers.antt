@@ -3,7 +3,8 @@ use Rattle.std.proofs.lemmas.List.{append-nil}
 use Rattle.std.proofs.lemmas.Result.{err_from_is_err_and}
 use Rattle.gx_model.specs.Streams.Gitlinks.{HoldsNoNullGitlink}
 use Rattle.gx_model.specs.Records.HistoryOf.{history_of}
-use Rattle.gx_model.specs.Replay.{State, byte_cmp}
+use Rattle.gx_model.specs.Replay.{State}
+use Rattle.gx_model.specs.Texts.{byte_cmp}
 use Rattle.gx_model.proofs.Replay.GitlinkSteps.{none_held}
 use Rattle.gx_command.specs.Views.{shown_command}
 use Rattle.gx_command.specs.CommandFaults.{fault_of as of_command}

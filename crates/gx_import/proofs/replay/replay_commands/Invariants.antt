@@ -6,7 +6,8 @@ use Rattle.gx_model.specs.declared.features.Features.{Features}
 use Rattle.gx_model.specs.Streams.Gitlinks.{HoldsNoNullGitlink}
 use Rattle.gx_model.specs.Histories.{IsHistory}
 use Rattle.gx_model.specs.Records.HistoryOf.{history_of}
-use Rattle.gx_model.specs.Replay.{State, byte_cmp}
+use Rattle.gx_model.specs.Replay.{State}
+use Rattle.gx_model.specs.Texts.{byte_cmp}
 use Rattle.gx_model.proofs.Replay.GitlinkSteps.{IsFreeState}
 use Rattle.std.specs.Prelude.{IsTrue, Option}
 use Rattle.std.specs.FinMap.Entries.{is_sorted}

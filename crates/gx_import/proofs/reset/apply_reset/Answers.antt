@@ -1,7 +1,7 @@
 use Rattle.std.proofs.Common.{Ok, refl, sym, ap, subst, ◌∙◌}
 use Rattle.std.proofs.lemmas.Result.{err_from_is_err_and}
 use Rattle.std.specs.Option.{option_map}
-use Rattle.gx_model.specs.Faults.{IsFaultOf, and_then}
+use Rattle.gx_model.specs.Faults.{IsFaultOf, ◌>>=◌}
 use Rattle.gx_model.specs.Replay.{on_branch}
 use Rattle.gx_model.specs.declared.faults.Fault.TheVariants.{OutOfMemory}
 use Rattle.gx_command.specs.Views.{shown_commit_ish, shown_reset}
@@ -41,7 +41,7 @@ returns-clause-steps g c = λ s h.
     let x = option_map shown_commit_ish c.args.reset.from in
     let k = c.in-Ok.ensures s h in (
       on_branch b k.0 s,
-      reset_by name s b x ∙ ap (λ r. and_then r (λ y. Ok (on_branch b y s))) k.1,
+      reset_by name s b x ∙ ap (λ r. r >>= λ y. Ok (on_branch b y s)) k.1,
       record { stands = moved_branch name c.args.repo.now.1 c.args.tables.now _ s h b c.args.reset.branch.proper k.0 _ (record { commit = k.2; files = tt }) c.set_tip.ensures.marks c.set_tip.ensures.tags c.set_tip.ensures.forced c.in_ok-set_tip.ensures.branches; progress = refl; held = refl },
     )
 

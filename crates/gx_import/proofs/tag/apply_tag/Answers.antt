@@ -1,6 +1,6 @@
 use Rattle.std.proofs.Common.{ap, ◌∙◌}
 use Rattle.gx_model.specs.Replay.{State, commit_alone, committed, step}
-use Rattle.gx_model.specs.Faults.{and_then}
+use Rattle.gx_model.specs.Faults.{◌>>=◌}
 use Rattle.gx_model.specs.Histories.Values.{Commit}
 use Rattle.gx_command.specs.Views.{shown_commit_ish, shown_tag, tag_parts}
 use Rattle.gx_import.specs.Asking.{AsksInVain}
@@ -36,4 +36,4 @@ returns-in-Ok-clause-asked g c = λ s h.
     let name = g.N.Namer.name_of c.args.repo.now.0 in
     let t = tag_parts c.args.tag in
     let k = c.in-Ok.ensures s h in
-    made_vain (AsksInVain name s (shown_tag c.args.tag)) c.args.asked.now c.requires.unasked _ _ c.make_tag.result (step name s (shown_tag c.args.tag)) _ (tag_step name s t ∙ ap (λ o. and_then o (tag_next t s)) k.1) (c.make_tag.ensures.steps s h)
+    made_vain (AsksInVain name s (shown_tag c.args.tag)) c.args.asked.now c.requires.unasked _ _ c.make_tag.result (step name s (shown_tag c.args.tag)) _ (tag_step name s t ∙ ap (λ o. o >>= tag_next t s) k.1) (c.make_tag.ensures.steps s h)

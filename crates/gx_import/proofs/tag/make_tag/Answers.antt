@@ -1,9 +1,10 @@
 use Rattle.std.proofs.Common.{◌≡◌, refl, sym, ap, subst, ◌∙◌}
 use Rattle.std.proofs.lemmas.Result.{err_from_is_err_and}
 use Rattle.std.specs.FinMap.Entries.{put}
-use Rattle.gx_model.specs.Faults.{and_then}
+use Rattle.gx_model.specs.Faults.{◌>>=◌}
 use Rattle.gx_model.specs.Texts.RefNames.{tag_ref}
-use Rattle.gx_model.specs.Replay.{added, byte_cmp}
+use Rattle.gx_model.specs.Replay.{added}
+use Rattle.gx_model.specs.Texts.{byte_cmp}
 use Rattle.gx_model.specs.Laws.RepositoryLaws.{values_of}
 use Rattle.gx_model.specs.Histories.Values.{tag_value}
 use Rattle.gx_command.specs.Views.{tag_parts}
@@ -47,7 +48,7 @@ returns-clause-steps g c = λ s h.
     let f = subst (Follows name c.add.new.repo.1 c.args.tables.now s) (sym same) a.2.0 in
     let ref = c.in_ok-tag_ref.ensures ∙ ap tag_ref c.as_slice.ensures.value in (
       tagged t v (added (tag_value v) s),
-      tag_step name s t ∙ ap (λ o. and_then o (tag_next t s)) d.1,
+      tag_step name s t ∙ ap (λ o. o >>= tag_next t s) d.1,
       tag_set name c.add.new.repo.1 c.args.tables.now s (added (tag_value v) s) f v called (one_has s.history.values (tag_value v)) a.2.1 t.mark c.set.new.self _ refl refl c.in_ok-set.ensures _ refl refl refl
           (c.in_ok-set-2.ensures ∙ ap (λ n. put byte_cmp n called (rows_of c.args.tables.now.tags)) ref),
     )

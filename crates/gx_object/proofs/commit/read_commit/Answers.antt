@@ -2,7 +2,7 @@ use Rattle.std.proofs.Common.{◌≡◌, [], ◌∷◌, Some, refl, sym, ap, ◌
 use Rattle.std.specs.Prelude.{codes}
 use Rattle.gx_model.specs.Texts.{Bytes}
 use Rattle.gx_object.specs.Lines.{ident_field, name_field, or_absent, stripped}
-use Rattle.gx_object.specs.Commits.{commit_of, encoding_field, parents_of}
+use Rattle.gx_object.specs.Commits.{commit_parts_of, encoding_field, parents_of}
 use Rattle.gx_object.proofs.Parents.{are_parents}
 use Rattle.gx_object.proofs.commit.read_commit.Goals as goal
 
@@ -12,12 +12,12 @@ invariant_of-result c = (are_parents _ _ c.split_parents.ensures.lines c.split_p
 -- the steps, one after the other
 read_so : (body : Bytes) (tree author committer : Bytes × Bytes) (message : Bytes) → name_field (codes "tree") body ≡ Some tree → ident_field (codes "author") (parents_of tree.1).1 ≡ Some author
     → ident_field (codes "committer") author.1 ≡ Some committer → stripped (10 ∷ []) (or_absent (encoding_field committer.1) committer.1).1 ≡ Some message
-    → commit_of body ≡ Some (record {
+    → commit_parts_of body ≡ Some (record {
       tree = tree.0;
       parents = (parents_of tree.1).0;
       text = record { author = author.0; committer = committer.0; encoding = (or_absent (encoding_field committer.1) committer.1).0; message = message };
     })
-unfolding commit_of
+unfolding commit_parts_of
 read_so body tree author committer message t a c m = rw (t, a, c, m) refl
 
 pub returns : goal.returns

@@ -3,7 +3,7 @@ use Rattle.std.specs.Prelude.{not}
 use Rattle.std.specs.List.{filter}
 use Rattle.std.proofs.lemmas.Fn.{filter_same}
 use Rattle.std.proofs.lemmas.Result.{err_from_is_err_and}
-use Rattle.gx_repo.specs.Dropping.{is_in}
+use Rattle.gx_repo.specs.Dropping.{is_entered}
 use Rattle.gx_repo.proofs.DroppedRefs.{all_dropped, none_dropped}
 use Rattle.gx_repo.proofs.dropping.drop_refs.Goals as goal
 
@@ -14,5 +14,5 @@ returns-in_err-enter_names-clause-dropped g c =
 
 pub returns-clause-dropped : goal.returns-clause-dropped
 returns-clause-dropped g c =
-    let left : c.retain.new.self.items ≡ filter (λ ref. not (is_in c.enter_names.new.entered ref.name.items)) c.args.refs.now.items = filter_same _ _ _ (λ x b f' k. search rules) _ _ c.retain.ensures.filtered in
+    let left : c.retain.new.self.items ≡ filter (λ ref. not (is_entered c.enter_names.new.entered ref.name.items)) c.args.refs.now.items = filter_same _ _ _ (λ x b f' k. search rules) _ _ c.retain.ensures.filtered in
     all_dropped c.as_slice.result.now c.args.refs.now.items c.retain.new.self.items c.enter_names.new.entered c.args.names.now c.as_slice.ensures.value c.in_ok-enter_names.ensures left

@@ -1,7 +1,7 @@
 use Rattle.std.proofs.Common.{rules, of_calls, ◌++◌}
 use Rattle.std.specs.Bool.{passes}
 use Rattle.std.proofs.lemmas.Fn.{always_returns_same}
-use Rattle.gx_model.specs.Replay.{byte_cmp}
+use Rattle.gx_model.specs.Texts.{byte_cmp}
 use Rattle.gx_repo.specs.Refs.{shown_ref}
 use Rattle.gx_model.proofs.Records.SortedRefs.{answers_rise, found_at, not_parted}
 use Rattle.gx_repo.proofs.refs.find.Goals as goal

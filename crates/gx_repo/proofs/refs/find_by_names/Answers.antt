@@ -1,7 +1,8 @@
 use Rattle.std.proofs.Common.{ap, ◌∙◌, map, ◌++◌, append-nil, codes, drop}
 use Rattle.std.specs.Map.{lookup}
 use Rattle.gx_model.specs.Texts.{same_bytes}
-use Rattle.gx_model.specs.Records.Lookups.{or_else, first_named}
+use Rattle.gx_model.specs.Records.Lookups.{first_named}
+use Rattle.std.specs.Option.{option_or}
 use Rattle.gx_model.specs.Revisions.Denotation.{ref_names}
 use Rattle.gx_repo.specs.Refs.{shown_ref}
 use Rattle.gx_repo.proofs.refs.find_by_names.Goals as goal
@@ -11,7 +12,7 @@ returns-in-Some g c =
     let n = c.args.word.now in
     let refs = map shown_ref c.args.refs.now in
     let one = c.in-Some.ensures ∙ ap (λ z. lookup (same_bytes z) refs) (append-nil n) in
-    λ i. or_else (one i) (first_named refs (drop 1 (ref_names n)))
+    λ i. option_or (one i) (first_named refs (drop 1 (ref_names n)))
 
 pub returns-in-Some-find : goal.returns-in-Some-find
 returns-in-Some-find g c =
@@ -19,7 +20,7 @@ returns-in-Some-find g c =
     let refs = map shown_ref c.args.refs.now in
     let one = c.in_default.ensures ∙ ap (λ z. lookup (same_bytes z) refs) (append-nil n) in
     let two = c.in-Some-find.ensures ∙ ap (λ z. lookup (same_bytes z) refs) (append-nil (codes "refs/" ++ n)) in
-    λ i. or_else (one i) (or_else (two i) (first_named refs (drop 2 (ref_names n))))
+    λ i. option_or (one i) (option_or (two i) (first_named refs (drop 2 (ref_names n))))
 
 pub returns-in-Some-find-2 : goal.returns-in-Some-find-2
 returns-in-Some-find-2 g c =
@@ -28,7 +29,7 @@ returns-in-Some-find-2 g c =
     let one = c.in_default.ensures ∙ ap (λ z. lookup (same_bytes z) refs) (append-nil n) in
     let two = c.in_default-find.ensures ∙ ap (λ z. lookup (same_bytes z) refs) (append-nil (codes "refs/" ++ n)) in
     let three = c.in-Some-find-2.ensures ∙ ap (λ z. lookup (same_bytes z) refs) (append-nil (codes "refs/tags/" ++ n)) in
-    λ i. or_else (one i) (or_else (two i) (or_else (three i) (first_named refs (drop 3 (ref_names n)))))
+    λ i. option_or (one i) (option_or (two i) (option_or (three i) (first_named refs (drop 3 (ref_names n)))))
 
 pub returns : goal.returns
 returns g c =
@@ -37,4 +38,4 @@ returns g c =
     let one = c.in_default.ensures ∙ ap (λ z. lookup (same_bytes z) refs) (append-nil n) in
     let two = c.in_default-find.ensures ∙ ap (λ z. lookup (same_bytes z) refs) (append-nil (codes "refs/" ++ n)) in
     let three = c.in_default-find-2.ensures ∙ ap (λ z. lookup (same_bytes z) refs) (append-nil (codes "refs/tags/" ++ n)) in
-    c.find_branch.ensures ∙ (λ i. or_else (one i) (or_else (two i) (or_else (three i) (first_named refs (drop 3 (ref_names n))))))
+    c.find_branch.ensures ∙ (λ i. option_or (one i) (option_or (two i) (option_or (three i) (first_named refs (drop 3 (ref_names n))))))

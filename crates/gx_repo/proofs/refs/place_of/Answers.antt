@@ -1,6 +1,6 @@
 use Rattle.std.proofs.Common.{rules, of_calls}
 use Rattle.std.proofs.lemmas.Fn.{always_returns_same}
-use Rattle.gx_model.specs.Replay.{byte_cmp}
+use Rattle.gx_model.specs.Texts.{byte_cmp}
 use Rattle.gx_repo.proofs.NamedRefs.{named_at, not_named}
 use Rattle.gx_repo.proofs.refs.place_of.Goals as goal
 

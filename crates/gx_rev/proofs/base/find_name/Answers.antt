@@ -1,6 +1,6 @@
 use Rattle.std.proofs.Common.{◌≡◌, ◌∙◌, map, Some, None}
 use Rattle.gx_model.specs.Objects.{unhex}
-use Rattle.gx_model.specs.Revisions.Denotation.{lower}
+use Rattle.gx_model.specs.Texts.Digits.{lower}
 use Rattle.gx_model.proofs.Revisions.Bases.{full_found, full_none, name_written, whole_digits, none_got, some_got}
 use Rattle.gx_rev.proofs.base.find_name.Goals as goal
 

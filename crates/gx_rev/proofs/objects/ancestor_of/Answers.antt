@@ -1,6 +1,6 @@
 use Rattle.std.proofs.Common.{ap, ◌∙◌, ◌-◌}
 use Rattle.std.proofs.lemmas.Result.{err_from_is_err_and}
-use Rattle.gx_model.specs.Faults.{and_then}
+use Rattle.gx_model.specs.Faults.{◌>>=◌}
 use Rattle.gx_model.specs.Revisions.Denotation.{nth_ancestor, nth_parent}
 use Rattle.gx_rev.specs.Objects.{commit_at}
 use Rattle.gx_rev.specs.RevFaults.{fault_of}
@@ -19,5 +19,5 @@ loop-left-preserved g c =
     let at = commit_at c.args.repo.now.1 c.loop-left.ancestor in
     record {
       held = c.in_ok-ancestor.ensures.held;
-      same = c.loop-left.invariant.same ∙ next_ancestor c.loop-left.left at c.loop-left-test.true ∙ ap (λ p. and_then p (nth_ancestor (c.loop-left.left - 1))) c.in_ok-ancestor.ensures.parent;
+      same = c.loop-left.invariant.same ∙ next_ancestor c.loop-left.left at c.loop-left-test.true ∙ ap (λ p. p >>= nth_ancestor (c.loop-left.left - 1)) c.in_ok-ancestor.ensures.parent;
     }

@@ -1,14 +1,14 @@
 use Rattle.std.proofs.Common.{◌≡◌, ◌∙◌, ap, sym, subst, arith, length}
 use Rattle.std.proofs.lemmas.List.{with_items_is}
-use Rattle.gx_model.specs.Revisions.Ranges.{nothing}
+use Rattle.gx_model.specs.Revisions.Ranges.{no_commit}
 use Rattle.gx_rev.specs.Tips.{AreTips}
 use Rattle.gx_rev.proofs.walking.walked.Goals as goal
 
 pub mark_walked-requires-clause-wanted : goal.mark_walked-requires-clause-wanted
-mark_walked-requires-clause-wanted g c = subst (AreTips c.args.repo.now.1 nothing) (sym c.deref_mut.ensures.value) c.in_ok-included.ensures
+mark_walked-requires-clause-wanted g c = subst (AreTips c.args.repo.now.1 no_commit) (sym c.deref_mut.ensures.value) c.in_ok-included.ensures
 
 pub mark_walked-requires-clause-unwanted : goal.mark_walked-requires-clause-unwanted
-mark_walked-requires-clause-unwanted g c = subst (AreTips c.args.repo.now.1 nothing) (sym c.deref_mut-2.ensures.value) c.in_ok-excluded.ensures
+mark_walked-requires-clause-unwanted g c = subst (AreTips c.args.repo.now.1 no_commit) (sym c.deref_mut-2.ensures.value) c.in_ok-excluded.ensures
 
 pub returns : goal.returns
 returns g c =

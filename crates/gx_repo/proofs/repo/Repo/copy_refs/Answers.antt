@@ -1,7 +1,7 @@
 use Rattle.std.proofs.Common.{map, sym, ap, subst, ◌∙◌}
 use Rattle.std.specs.Prelude.{IsTrue}
 use Rattle.std.specs.FinMap.Entries.{is_sorted}
-use Rattle.gx_model.specs.Replay.{byte_cmp}
+use Rattle.gx_model.specs.Texts.{byte_cmp}
 use Rattle.gx_repo.specs.Refs.{shown_ref}
 use Rattle.gx_repo.proofs.repo.Repo.copy_refs.Goals as goal
 

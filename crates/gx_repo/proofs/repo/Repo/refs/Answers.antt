@@ -1,7 +1,7 @@
 use Rattle.std.proofs.Common.{rules, map, subst, sym}
 use Rattle.std.specs.Prelude.{IsTrue}
 use Rattle.std.specs.FinMap.Entries.{is_sorted}
-use Rattle.gx_model.specs.Replay.{byte_cmp}
+use Rattle.gx_model.specs.Texts.{byte_cmp}
 use Rattle.gx_repo.specs.Refs.{shown_ref}
 use Rattle.gx_repo.proofs.repo.Repo.refs.Goals as goal
 

@@ -1,6 +1,6 @@
 use Rattle.std.proofs.Common.{◌+◌, ◌&&◌, length, sym, ap, ◌∙◌, arith}
 use Rattle.indexmap.specs.IndexMap.{keys}
-use Rattle.gx_store.specs.Chains.{chain_of, is_in}
+use Rattle.gx_store.specs.Chains.{chain_of, is_in_chain}
 use Rattle.gx_store.specs.NameOrder.{is_within}
 use Rattle.gx_store.specs.Prefixes.{joined, picked}
 use Rattle.gx_store.proofs.Between.{at_first, at_last, at_next, at_two}
@@ -18,7 +18,7 @@ loop-chain-preserved g c =
     let heads = c.args.self.now.heads in
     let ends = c.args.ends.now in
     let ns = keys c.args.names.now in
-    c.with_chain-found.ensures ∙ ap (λ found. joined found (picked (λ n. is_in (length heads.items) c.loop-chain.chain n && is_within ends.0.bytes ends.1.bytes n.bytes) ns)) c.loop-chain.invariant
+    c.with_chain-found.ensures ∙ ap (λ found. joined found (picked (λ n. is_in_chain (length heads.items) c.loop-chain.chain n && is_within ends.0.bytes ends.1.bytes n.bytes) ns)) c.loop-chain.invariant
     ∙ at_next (length heads.items) ends.0 ends.1 ns c.requires.names c.loop-chain.chain
 
 pub returns-in-Ambiguous : goal.returns-in-Ambiguous
@@ -26,7 +26,7 @@ returns-in-Ambiguous g c =
     let heads = c.args.self.now.heads in
     let ends = c.args.ends.now in
     let ns = keys c.args.names.now in
-    let found = c.with_chain-found.ensures ∙ ap (λ found. joined found (picked (λ n. is_in (length heads.items) c.loop-chain.chain n && is_within ends.0.bytes ends.1.bytes n.bytes) ns)) c.loop-chain.invariant
+    let found = c.with_chain-found.ensures ∙ ap (λ found. joined found (picked (λ n. is_in_chain (length heads.items) c.loop-chain.chain n && is_within ends.0.bytes ends.1.bytes n.bytes) ns)) c.loop-chain.invariant
     ∙ at_next (length heads.items) ends.0 ends.1 ns c.requires.names c.loop-chain.chain in
     c.in-Ambiguous.is ∙ at_two (length heads.items) ends.0 ends.1 ns c.requires.names (c.loop-chain.chain + 1) (sym found ∙ c.in-Ambiguous.is)
 

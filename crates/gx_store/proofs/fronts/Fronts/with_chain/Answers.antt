@@ -3,7 +3,7 @@ use Rattle.std.proofs.lemmas.Bool.{eqb-true}
 use Rattle.std.proofs.lemmas.Option.{slice_get-map, slice_get_within}
 use Rattle.indexmap.specs.IndexMap.{keys}
 use Rattle.gx_object.specs.declared.name.Name.{Name}
-use Rattle.gx_store.specs.Chains.{chain_of, is_in, up_to_last}
+use Rattle.gx_store.specs.Chains.{chain_of, is_in_chain, up_to_last}
 use Rattle.gx_store.specs.NameOrder.{is_within}
 use Rattle.gx_store.specs.Prefixes.{joined, picked}
 use Rattle.gx_store.proofs.Chained.{read_so, up_to_last_again, up_to_last_bound}
@@ -15,7 +15,7 @@ pub loop-end-init : goal.loop-end-init
 loop-end-init g c =
     let chains = length c.args.self.now.heads.items in
     let ns = keys c.args.names.now in
-    let test : Name → Bool = is_in chains c.args.chain in
+    let test : Name → Bool = is_in_chain chains c.args.chain in
     let other : Name → Bool = λ n. is_within c.args.ends.now.0.bytes c.args.ends.now.1.bytes n.bytes in
     let end = c.index-end.result.now in
     let first = sym (read_so c.args.self.now.heads.items c.args.chain end c.requires.within c.index-end.ensures) ∙ c.requires.fronts.heads c.args.chain c.requires.within in (
@@ -28,7 +28,7 @@ pub returns-in_default-found : goal.returns-in_default-found
 returns-in_default-found g c =
     let chains = length c.args.self.now.heads.items in
     let ns = keys c.args.names.now in
-    let test : Name → Bool = is_in chains c.args.chain in
+    let test : Name → Bool = is_in_chain chains c.args.chain in
     let other : Name → Bool = λ n. is_within c.args.ends.now.0.bytes c.args.ends.now.1.bytes n.bytes in
     let n = c.in-Some.name.now in
     let end = c.loop-end.end in
@@ -42,7 +42,7 @@ pub loop-end-smaller : goal.loop-end-smaller
 loop-end-smaller g c =
     let chains = length c.args.self.now.heads.items in
     let ns = keys c.args.names.now in
-    let test : Name → Bool = is_in chains c.args.chain in
+    let test : Name → Bool = is_in_chain chains c.args.chain in
     let other : Name → Bool = λ n. is_within c.args.ends.now.0.bytes c.args.ends.now.1.bytes n.bytes in
     let n = c.in-Some.name.now in
     let end = c.loop-end.end in
@@ -54,14 +54,14 @@ loop-end-smaller g c =
     let left = c.index-end-in-loop-end.result.now in
     let within : place < length before = omega (arith, c.requires.fronts.long, slice_get_within ns place n at) in
     let own = eqb-true (chain_of chains n) c.args.chain (last_passes test other ns end place n next at last) in
-    let goes = sym (read_so before place left within c.index-end-in-loop-end.ensures) ∙ c.requires.fronts.next place n at ∙ ap (λ k. up_to_last (is_in chains k) (take place ns)) own in
+    let goes = sym (read_so before place left within c.index-end-in-loop-end.ensures) ∙ c.requires.fronts.next place n at ∙ ap (λ k. up_to_last (is_in_chain chains k) (take place ns)) own in
     omega (arith, goes, next, short test other ns end place n next at last)
 
 pub loop-end-preserved : goal.loop-end-preserved
 loop-end-preserved g c =
     let chains = length c.args.self.now.heads.items in
     let ns = keys c.args.names.now in
-    let test : Name → Bool = is_in chains c.args.chain in
+    let test : Name → Bool = is_in_chain chains c.args.chain in
     let other : Name → Bool = λ n. is_within c.args.ends.now.0.bytes c.args.ends.now.1.bytes n.bytes in
     let n = c.in-Some.name.now in
     let end = c.loop-end.end in
@@ -73,7 +73,7 @@ loop-end-preserved g c =
     let left = c.index-end-in-loop-end.result.now in
     let within : place < length before = omega (arith, c.requires.fronts.long, slice_get_within ns place n at) in
     let own = eqb-true (chain_of chains n) c.args.chain (last_passes test other ns end place n next at last) in
-    let goes = sym (read_so before place left within c.index-end-in-loop-end.ensures) ∙ c.requires.fronts.next place n at ∙ ap (λ k. up_to_last (is_in chains k) (take place ns)) own in
+    let goes = sym (read_so before place left within c.index-end-in-loop-end.ensures) ∙ c.requires.fronts.next place n at ∙ ap (λ k. up_to_last (is_in_chain chains k) (take place ns)) own in
     let low = slice_get_within ns place n at in
     let small = short test other ns end place n next at last in
     let again = goes ∙ next_again test other ns end place n next at last ∙ ap (λ k. up_to_last test (take k ns)) (sym goes) in (

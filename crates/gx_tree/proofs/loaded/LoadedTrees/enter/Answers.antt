@@ -2,8 +2,7 @@ use Rattle.std.proofs.Common.{◌≡◌, cond, Option, Some, refl, sym, subst}
 use Rattle.std.specs.Prelude.{IfSome}
 use Rattle.std.specs.Ordering.{is_eq}
 use Rattle.std.specs.declared.cmp.Ordering.TheVariants.{Less, Equal, Greater}
-use Rattle.gx_model.specs.Texts.{Bytes}
-use Rattle.gx_model.specs.Replay.{byte_cmp}
+use Rattle.gx_model.specs.Texts.{Bytes, byte_cmp}
 use Rattle.gx_model.proofs.Records.SortedRefs.{same_text}
 use Rattle.gx_tree.specs.Named.{NamedTree}
 use Rattle.gx_tree.specs.Loaded.{IsLoaded}

@@ -2,10 +2,10 @@
 
 ghost use Rattle.std.specs.Prelude.{◌≡◌, ◌+◌, ◌≤◌, ◌++◌, ◌∷◌, [], length, vec_capacity, vec_len, IsTrue, OnErr, OnOk};
 ghost use Rattle.std.specs.Option.{option_map};
-ghost use Rattle.gx_model.specs.Objects.{is_name, mode_text};
+ghost use Rattle.gx_model.specs.Objects.{entry_text, is_name, mode_text};
 ghost use Rattle.gx_text.specs.Buffers.{GrowsBy};
 ghost use Rattle.gx_object.specs.Trees.{entry_at, mode_of};
-ghost use Rattle.gx_object.specs.Entries.{shown, written_entry};
+ghost use Rattle.gx_object.specs.Entries.{entry_of, shown};
 
 use crate::{Mode, Name};
 use gx_text::cut;
@@ -48,7 +48,7 @@ pub fn append_entry<A: Allocator + Copy>(
     component: &[u8],
     name: &Name,
 ) -> Result<(), AllocError>
-    ensures text { GrowsBy body.old body.new (written_entry mode component.now name.now) result }
+    ensures text { GrowsBy body.old body.new (entry_text (entry_of mode component.now name.now)) result }
     ensures unchanged { OnErr result (body.new.items ≡ body.old.items) }
     ensures name { OnOk result (IsTrue (is_name name.now.bytes)) }
 {

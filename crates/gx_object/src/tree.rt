@@ -1,13 +1,13 @@
 //! The bodies of trees. Source: Pro Git, "Git Objects".
 
-ghost use Rattle.std.specs.Prelude.{◌≡◌, ◌≤◌, List, length, map, true, IsTrue, IfOk, OnOk};
+ghost use Rattle.std.specs.Prelude.{◌≡◌, ◌≤◌, List, length, map, true, IsTrue, IfOk, OnOk, ◌∷◌};
 ghost use Rattle.std.specs.Result.{result_ok};
 ghost use Rattle.std.specs.Iterator.{item_count};
 ghost use Rattle.std.specs.Map.Iter.{TakesFirst};
 ghost use Rattle.gx_model.specs.Objects.{Entry as TreeEntry, IsTreeText, is_canonical};
-ghost use Rattle.gx_object.specs.Order.{meets};
+ghost use Rattle.gx_object.specs.Order.{is_long_repeated, meets};
 ghost use Rattle.gx_object.specs.Trees.{AreEntries, entries_left, is_tree, tree_of};
-ghost use Rattle.gx_object.specs.Entries.{is_long_repeated_from, meets_from, shown};
+ghost use Rattle.gx_object.specs.Entries.{meets_from, shown};
 ghost use Rattle.gx_object.specs.Passing.{LeadsPastFrom};
 ghost use Rattle.gx_object.specs.Parts.{FindsEach};
 
@@ -147,7 +147,7 @@ fn leads(files: &mut EarlierFiles, first: &Entry<'_>, next: &Entry<'_>, after: &
 
 /// Whether a file whose component is too long to be remembered stands again behind itself.
 fn is_long_repeated(first: &Entry<'_>, next: &Entry<'_>, after: &[u8]) -> bool
-    ensures { AreEntries after.now → result ≡ is_long_repeated_from first.now next.now after.now }
+    ensures { AreEntries after.now → result ≡ is_long_repeated (shown first.now) (shown next.now ∷ entries_left after.now) }
 {
     first.component.len() >= MOST && is_front(first, next) && meets(first.component, next, after)
 }

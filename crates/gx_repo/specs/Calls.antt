@@ -16,7 +16,7 @@ use Rattle.gx_store.specs.declared.fault.StoreFault.{StoreFault}
 use Rattle.gx_tree.specs.Named.{IsAtHome, NamedTree}
 use Rattle.gx_tree.specs.Writes.{map_name}
 use Rattle.gx_repo.specs.declared.fault.AddFault.{AddFault}
-use Rattle.gx_repo.specs.Additions.{Adds, AddsAll, HasValues, commit_among, commit_record, files_among, tag_among, tag_record, value_among}
+use Rattle.gx_repo.specs.Additions.{Adds, AddsAll, HasValues, commit_among, files_among, tag_among, value_among}
 use Rattle.gx_repo.specs.Records.{AddsRecord}
 use Rattle.gx_repo.specs.Repositories.{Repository}
 
@@ -55,21 +55,9 @@ module _ {N : Type 0} (names : N → Kind → Bytes → Bytes) where
   abbrev pub NamesValue : {E : Type 0} → Repository N → Value → Result Name E → Type 0
   NamesValue repository value answer = IfOk answer (λ name. name.bytes ≡ name_of (names repository.0) value)
 
-  -- where a call is accepted, it answers the name of the value of a body of this kind
-  abbrev pub NamesObject : {E : Type 0} → Repository N → Kind → Bytes → Result Name E → Type 0
-  NamesObject repository of_kind body answer = NamesValue repository (value_among repository.1.records of_kind body) answer
-
   -- the records with an object of this kind and body put, or unchanged, and its name
   abbrev pub AddsObject : Repository N → Repository N → Kind → Bytes → Result Name StoreFault → Type 0
   AddsObject old new of_kind body answer = Adds old.1.records new.1.records (record_for (names old.0) of_kind body) answer
-
-  -- the records with the commit of these parts put, or unchanged, and its name
-  abbrev pub AddsCommit : Repository N → Repository N → CommitParts → Result Name StoreFault → Type 0
-  AddsCommit old new parts answer = Adds old.1.records new.1.records (commit_record (names old.0) (commit_parts parts)) answer
-
-  -- the records with the tag of these parts put, or unchanged, and its name
-  abbrev pub AddsTag : Repository N → Repository N → TagParts → Result Name StoreFault → Type 0
-  AddsTag old new parts answer = Adds old.1.records new.1.records (tag_record (names old.0) (tag_parts parts)) answer
 
   -- the records with this tree and those below it put, or unchanged, and its name
   abbrev pub AddsTree : Repository N → Repository N → NamedTree → Result Name StoreFault → Type 0

@@ -1,11 +1,11 @@
 -- What a record of which nothing is known has against it, and how much room the entries of a tree take. Source: this project's own limit of 4,095 bytes for a path.
-use Rattle.std.specs.Prelude.{◌≡◌, ◌⊎◌, ℕ, max, false, ◌&&◌, if◌then◌else◌, List, [], ◌∷◌, Option, Some, None}
+use Rattle.std.specs.Prelude.{◌≡◌, ◌⊎◌, ℕ, max, ◌&&◌, if◌then◌else◌, List, [], ◌∷◌, Option, Some, None}
 use Rattle.gx_model.specs.declared.objects.Kind.{Kind}
 use Rattle.gx_model.specs.Texts.{Bytes}
 use Rattle.gx_model.specs.Objects.{Entry, is_dir}
 use Rattle.gx_model.specs.Histories.{Record}
 use Rattle.gx_model.specs.Records.Growth.{record_named}
-use Rattle.gx_model.specs.Records.RecordFaults.{content_fault, is_entry_held, is_without_entries}
+use Rattle.gx_model.specs.Records.RecordFaults.{content_fault, is_without_entries}
 use Rattle.gx_repo.specs.declared.fault.AddFault.{AddFault}
 use Rattle.gx_repo.specs.declared.fault.AddFault.TheVariants.{OutOfMemory}
 use Rattle.gx_repo.specs.Records.{add_fault}
@@ -27,10 +27,6 @@ entry_room records e =
 abbrev pub widest : List Record → List Entry → Option ℕ
 widest records [] = Some 0
 widest records (e ∷ es) = wider (entry_room records e) (widest records es)
-
--- what an entry names isn't held
-abbrev pub IsDangling : List Record → Entry → Type 0
-IsDangling records e = is_entry_held records e.mode e.name ≡ false
 
 -- this is against a body of this kind
 abbrev pub IsAgainst : List Record → Kind → Bytes → AddFault → Type 0

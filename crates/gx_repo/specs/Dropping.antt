@@ -4,7 +4,6 @@ use Rattle.std.specs.Borrow.{Bor}
 use Rattle.std.specs.BTreeSet.{BTreeSet, contains_by}
 use Rattle.std.specs.List.{filter, list_any}
 use Rattle.gx_model.specs.Histories.{Records}
-use Rattle.gx_model.specs.Laws.RepositoryLaws.{values_of}
 use Rattle.gx_model.specs.Records.Publishing.{Ref}
 use Rattle.gx_model.specs.Texts.{Bytes, byte_cmp, same_bytes}
 use Rattle.gx_repo.specs.Refs.{is_ref_held, shown_ref}
@@ -51,10 +50,6 @@ DropsFrom old new names answer = Drops (map shown_ref old) (map shown_ref new) (
 -- the same of a repository
 abbrev pub DropsRefs : Records → Records → List (Bor Bytes) → Result (Unit {0}) DropFault → Type 0
 DropsRefs old new names answer = Drops old.refs new.refs (lent_texts names) answer
-
--- the values of the history stay
-abbrev pub KeepsValues : Records → Records → Type 0
-KeepsValues old new = values_of new ≡ values_of old
 
 -- whether a name is held in a set
 abbrev pub is_entered : BTreeSet (Bor Bytes) → Bytes → Bool

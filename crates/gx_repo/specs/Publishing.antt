@@ -1,12 +1,11 @@
 -- Which refs a list of changes gives, or why it is refused, as a fault of the model.
-use Rattle.std.specs.Prelude.{◌≡◌, ℕ, List, map, Some, Result}
+use Rattle.std.specs.Prelude.{◌≡◌, ℕ, List, map, Some}
 use Rattle.std.specs.FinMap.Entries.{put}
 use Rattle.std.specs.declared.vec.Vec.{Vec}
 use Rattle.gx_model.specs.declared.faults.Fault.{Fault}
 use Rattle.gx_model.specs.declared.faults.Fault.TheVariants as model
-use Rattle.gx_model.specs.Faults.{Gives}
-use Rattle.gx_model.specs.Histories.{Record, Records}
-use Rattle.gx_model.specs.Records.Publishing.{change_fault, changes_fault, published, with_changes}
+use Rattle.gx_model.specs.Histories.{Record}
+use Rattle.gx_model.specs.Records.Publishing.{change_fault, changes_fault, with_changes}
 use Rattle.gx_model.specs.Texts.{Bytes, byte_cmp}
 use Rattle.gx_object.specs.declared.name.Name.{Name}
 use Rattle.gx_repo.specs.Refs.{ref_of, shown_update, shown_ref}
@@ -30,10 +29,6 @@ IsAgainstChange records change fault = change_fault records (shown_update change
 abbrev pub IsAgainstFirst : List Record → List RefChange → PublishFault → Type 0
 IsAgainstFirst records changes fault = changes_fault records (map shown_update changes) ≡ Some (fault_of fault)
 
--- the refs are those with these changes made in turn, or this is why they aren't
-abbrev pub SetsRefs : Records → Records → List RefChange → Result (Unit {0}) PublishFault → Type 0
-SetsRefs old new changes answer = Gives fault_of (λ _. new.refs) answer (published old (map shown_update changes))
-
 -- the refs with these changes made in turn
 abbrev pub MakesChanges : {A : Type 0} → List (Ref A) → List (Ref A) → List RefChange → Type 0
 MakesChanges old new changes = map shown_ref new ≡ with_changes (map shown_ref old) (map shown_update changes)
@@ -41,7 +36,3 @@ MakesChanges old new changes = map shown_ref new ≡ with_changes (map shown_ref
 -- besides what was entered, an object is under a ref's name, in place of one that was
 abbrev pub Enters : {A : Type 0} → List (Vec ℕ A × Name) → List (Vec ℕ A × Name) → Bytes → Name → Type 0
 Enters old new name object = map ref_of new ≡ put byte_cmp name object.bytes (map ref_of old)
-
--- what is entered is these refs with the changes made in turn
-abbrev pub EntersAll : {A : Type 0} → List (Bytes × Bytes) → List (Vec ℕ A × Name) → List RefChange → Type 0
-EntersAll old new changes = map ref_of new ≡ with_changes old (map shown_update changes)

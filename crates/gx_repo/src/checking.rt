@@ -1,11 +1,11 @@
 //! What a record of which nothing is known has against it. Source: Pro Git, "Git Objects".
 ghost use Rattle.std.specs.Prelude.{◌≡◌, slice_get, true, false, Some, None, IsTrue, IfOk, IfErr, OnOk, OnErr};
 ghost use Rattle.gx_model.specs.declared.objects.Kind.TheVariants as kinds;
-ghost use Rattle.gx_model.specs.Records.RecordFaults.{content_fault, is_held, is_of_kind};
+ghost use Rattle.gx_model.specs.Records.RecordFaults.{content_fault, is_entry_held, is_held, is_of_kind};
 ghost use Rattle.gx_object.specs.Entries.{shown};
 ghost use Rattle.gx_store.specs.Stores.{place_named};
 ghost use Rattle.gx_repo.specs.declared.fault.AddFault.TheVariants.{Dangling};
-ghost use Rattle.gx_repo.specs.Checking.{IsAgainst, IsDangling, MayRefuse, entry_room, wider};
+ghost use Rattle.gx_repo.specs.Checking.{IsAgainst, MayRefuse, entry_room, wider};
 ghost use Rattle.gx_repo.specs.Rooms.{IsFront, room_below, rooms_of};
 ghost use Rattle.gx_repo.specs.Earlier.{IsThere};
 ghost use Rattle.gx_repo.specs.Repositories.{IsSoundStore};
@@ -123,7 +123,7 @@ fn entry_room<N: Namer, A: Allocator + Copy>(
     ensures room { IfOk result (λ room. room ≡ entry_room store.now.1 (shown entry.now)) }
     ensures held { OnOk result (IsThere store.now.1 (shown entry.now)) }
     ensures fault { IfErr result (λ fault. fault ≡ Dangling) }
-    ensures dangling { OnErr result (IsDangling store.now.1 (shown entry.now)) }
+    ensures dangling { OnErr result (is_entry_held store.now.1 (shown entry.now).mode (shown entry.now).name ≡ false) }
 {
     let own = 1 + entry.component.len();
     match entry.mode {

@@ -2,9 +2,10 @@
 ghost use Rattle.std.specs.Prelude.{◌≡◌, ◌+◌, ◌<◌, ◌^◌, [], map, IsTrue, OnErr};
 ghost use Rattle.std.specs.FinMap.Entries.{is_sorted};
 ghost use Rattle.gx_model.specs.Texts.{byte_cmp};
-ghost use Rattle.gx_repo.specs.Dropping.{DropsFrom, DropsRefs, EntersNames, KeepsValues, is_entered};
+ghost use Rattle.gx_repo.specs.Dropping.{DropsFrom, DropsRefs, EntersNames, is_entered};
 ghost use Rattle.gx_repo.specs.Refs.{shown_ref};
 ghost use Rattle.gx_repo.specs.declared.fault.DropFault.TheVariants.{UnknownRef};
+ghost use Rattle.gx_model.specs.Laws.RepositoryLaws.{values_of};
 
 use crate::fault::DropFault;
 use crate::refs::{Ref, is_held};
@@ -25,7 +26,7 @@ impl<N: Namer, A: Allocator + Copy> Repo<N, A> {
         ensures namer { self.new.0 ≡ self.old.0 }
         ensures records { self.new.1.records ≡ self.old.1.records }
         ensures refs { DropsRefs self.old.1 self.new.1 names.now result }
-        ensures values { KeepsValues self.old.1 self.new.1 }
+        ensures values { values_of self.new.1 ≡ values_of self.old.1 }
         ensures unchanged { OnErr result (self.new ≡ self.old) }
     {
         parts_change();

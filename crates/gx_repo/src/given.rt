@@ -1,6 +1,8 @@
 //! The bytes of a record that is to be added.
 ghost use Rattle.std.specs.Prelude.{◌≡◌};
-ghost use Rattle.gx_repo.specs.GivenBytes.{IsInText, PutsGiven, bytes_given};
+ghost use Rattle.gx_repo.specs.GivenBytes.{IsInText, bytes_given};
+ghost use Rattle.gx_store.specs.Stores.{Puts};
+ghost use Rattle.gx_model.specs.Histories.{record_for};
 
 use gx_object::{Kind, Name, Namer};
 use gx_store::{Store, StoreFault, Text};
@@ -32,7 +34,7 @@ impl<'a, A: Allocator + Copy> Given<'a, A> {
     ) -> Result<Name, StoreFault>
         requires { IsInText self.now }
         ensures namer { store.new.0 ≡ store.old.0 }
-        ensures puts { PutsGiven N.name_of store.old store.new kind self.now result }
+        ensures puts { Puts store.old.1 store.new.1 (record_for (N.name_of store.old.0) kind (bytes_given self.now)) result }
     {
         match self {
             Given::Copied(bytes) => store.put(kind, bytes),

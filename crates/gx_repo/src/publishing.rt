@@ -3,7 +3,8 @@ ghost use Rattle.std.specs.Prelude.{◌≡◌, [], map, IsTrue, IfOk, OnErr, OnO
 ghost use Rattle.std.specs.FinMap.Entries.{is_sorted};
 ghost use Rattle.gx_model.specs.Texts.{byte_cmp};
 ghost use Rattle.gx_repo.specs.Refs.{are_held, shown_update, shown_ref, ref_of};
-ghost use Rattle.gx_repo.specs.Publishing.{Enters, EntersAll, MakesChanges};
+ghost use Rattle.gx_repo.specs.Publishing.{Enters, MakesChanges};
+ghost use Rattle.gx_model.specs.Records.Publishing.{with_changes};
 
 use crate::refs::{Ref, is_held, set_object};
 use gx_object::Name;
@@ -82,7 +83,7 @@ fn enter_changed<A: Allocator + Copy>(
 ) -> Result<(), AllocError>
     requires none { objects.old.entries ≡ [] }
     requires sorted { IsTrue (is_sorted byte_cmp (map shown_ref refs.now)) }
-    ensures { OnOk result (EntersAll (map shown_ref refs.now) objects.new.entries changes.now) }
+    ensures { OnOk result (map ref_of objects.new.entries ≡ with_changes (map shown_ref refs.now) (map shown_update changes.now)) }
 {
     enter_refs(alloc, objects, refs)?;
     for change in changes {

@@ -16,13 +16,13 @@ ghost use Rattle.gx_model.specs.Histories.Values.{blob_value, is_optional_encodi
 ghost use Rattle.gx_object.specs.Parts.{bytes_if, commit_parts, tag_parts};
 ghost use Rattle.gx_tree.specs.Named.{IsAtHome};
 ghost use Rattle.gx_tree.specs.StoreFaults.{tree_fault};
-ghost use Rattle.gx_repo.specs.Additions.{IsWriteFault};
-ghost use Rattle.gx_repo.specs.Publishing.{IsAgainstChange, IsAgainstFirst, SetsRefs};
-ghost use Rattle.gx_model.specs.Records.Publishing.{change_fault, changes_fault};
+ghost use Rattle.gx_repo.specs.Additions.{Adds, IsWriteFault, commit_record, tag_record, value_among};
+ghost use Rattle.gx_repo.specs.Publishing.{IsAgainstChange, IsAgainstFirst, fault_of};
+ghost use Rattle.gx_model.specs.Records.Publishing.{change_fault, changes_fault, published};
 ghost use Rattle.gx_repo.specs.GivenBytes.{IsInText, bytes_given};
 ghost use Rattle.gx_repo.specs.Refs.{FindsFirst, FindsObject, HasTagParts, TellsOwnRef, shown_update, shown_ref};
 ghost use Rattle.gx_repo.specs.Rooms.{room_below};
-ghost use Rattle.gx_repo.specs.Calls.{AddsAnew, AddsCommit, AddsObject, AddsTag, AddsTree, GainsObject, GainsTree, GainsValue, HasShortPathsBelow, NamesObject, NamesValue, commit_given, tag_given, tree_given};
+ghost use Rattle.gx_repo.specs.Calls.{AddsAnew, AddsObject, AddsTree, GainsObject, GainsTree, GainsValue, HasShortPathsBelow, NamesValue, commit_given, tag_given, tree_given};
 ghost use Rattle.gx_repo.specs.Objects.{AreTargets, HoldsEach};
 ghost use Rattle.gx_repo.specs.Checking.{MayRefuse};
 
@@ -61,6 +61,7 @@ pub struct Repo<N: Namer, A: Allocator> {
 impl<N: Namer, A: Allocator> Model for Repo<N, A> {
     ghost use Rattle.gx_model.specs.Histories.{Records};
     ghost use Rattle.gx_repo.specs.Repositories.{IsRepository, held_in};
+    ghost use Rattle.gx_model.specs.Faults.{Gives};
 
     ghost Value = { N × Records };
 
@@ -253,7 +254,7 @@ impl<N: Namer, A: Allocator + Copy> Repo<N, A> {
         requires tree { Holds self.now.1.records kinds.Tree (commit_parts parts.now).tree }
         requires parents { HoldsEach self.now.1.records kinds.Commit (commit_parts parts.now).parents }
         ensures namer { self.new.0 ≡ self.old.0 }
-        ensures adds { AddsCommit N.name_of self.old self.new parts.now result }
+        ensures adds { Adds self.old.1.records self.new.1.records (commit_record (N.name_of self.old.0) (commit_parts parts.now)) result }
         ensures refs { self.new.1.refs ≡ self.old.1.refs }
         ensures history { GainsValue self.old self.new (commit_given self.old parts.now) result }
         ensures value { NamesValue N.name_of self.old (commit_given self.old parts.now) result }
@@ -274,7 +275,7 @@ impl<N: Namer, A: Allocator + Copy> Repo<N, A> {
         requires name { IsTrue (is_tag_name (tag_parts parts.now).name) }
         requires object { Holds self.now.1.records kinds.Commit (tag_parts parts.now).object }
         ensures namer { self.new.0 ≡ self.old.0 }
-        ensures adds { AddsTag N.name_of self.old self.new parts.now result }
+        ensures adds { Adds self.old.1.records self.new.1.records (tag_record (N.name_of self.old.0) (tag_parts parts.now)) result }
         ensures refs { self.new.1.refs ≡ self.old.1.refs }
         ensures history { GainsValue self.old self.new (tag_given self.old parts.now) result }
         ensures value { NamesValue N.name_of self.old (tag_given self.old parts.now) result }
@@ -340,7 +341,7 @@ impl<N: Namer, A: Allocator + Copy> Repo<N, A> {
     pub fn publish(&mut self, changes: &[RefChange<'_>]) -> Result<(), PublishFault>
         ensures namer { self.new.0 ≡ self.old.0 }
         ensures records { self.new.1.records ≡ self.old.1.records }
-        ensures refs { SetsRefs self.old.1 self.new.1 changes.now result }
+        ensures refs { Gives fault_of (λ _. self.new.1.refs) result (published self.old.1 (map shown_update changes.now)) }
         ensures unchanged { OnErr result (self.new ≡ self.old) }
     {
         parts_change();
@@ -410,7 +411,7 @@ impl<N: Namer, A: Allocator + Copy> Repo<N, A> {
         ensures adds { AddsObject N.name_of self.old self.new kind (bytes_given given.now) result }
         ensures refs { self.new.1.refs ≡ self.old.1.refs }
         ensures history { GainsObject self.old self.new kind (bytes_given given.now) result }
-        ensures value { NamesObject N.name_of self.old kind (bytes_given given.now) result }
+        ensures value { NamesValue self.old (value_among self.old.1.records kind (bytes_given given.now)) result }
         ensures held { IfOk result (λ name. Holds self.new.1.records kind name.bytes) }
         ensures keeps { Keeps self.old.1.records self.new.1.records }
     {

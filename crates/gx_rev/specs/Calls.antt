@@ -15,9 +15,9 @@ use Rattle.gx_model.specs.Laws.RepositoryLaws.{values_of}
 use Rattle.gx_model.specs.Objects.{CommitParts}
 use Rattle.gx_model.specs.Records.{parts_of_commit}
 use Rattle.gx_model.specs.Records.HistoryOf.{history_of}
-use Rattle.gx_model.specs.Revisions.{RangeWord, Revision, base_and_suffixes, revision_of, suffixes_of}
+use Rattle.gx_model.specs.Revisions.{RangeWord, Revision, revision_of}
 use Rattle.gx_model.specs.Revisions as model
-use Rattle.gx_model.specs.Revisions.Denotation.{all_suffixed, base_value, begun_by, commit_denoted, denoted, files_in, full_name, looked_up, nth_ancestor, nth_parent, shown_at, suffixed, the_one, value_denoted}
+use Rattle.gx_model.specs.Revisions.Denotation.{all_suffixed, begun_by, commit_denoted, denoted, files_in, full_name, looked_up, nth_ancestor, nth_parent, shown_at, suffixed, the_one, value_denoted}
 use Rattle.gx_model.specs.Revisions.Ranges.{listed}
 use Rattle.gx_object.specs.declared.name.Name.{Name}
 use Rattle.gx_rev.specs.Answers.{revision_with, shown_file, shown_by}
@@ -31,10 +31,6 @@ use Rattle.gx_rev.specs.declared.shown.Shown.{Shown}
 use Rattle.gx_rev.specs.declared.suffix.Suffix.{Suffix}
 
 -- ---- suffixes as texts
-
--- the suffixes of a text that begins with one, or is empty
-abbrev pub ReadsSuffixes : {A : Type 0} → Bytes → Result (Vec Suffix A) RevFault → Type 0
-ReadsSuffixes text result = Gives fault_of (λ suffixes. map shown_suffix suffixes.items) result (suffixes_of (base_and_suffixes text).1)
 
 -- ---- objects by their names
 
@@ -77,10 +73,6 @@ ReadsFile given result = Gives fault_of shown_file result given
 -- ---- what is found in the history
 
 module _ {N : Type 0} (name_of : N → Kind → Bytes → Bytes) (repo : N × Records) where
-  -- the object that a base gives
-  abbrev pub GivesBase : Bytes → Result Name RevFault → Type 0
-  GivesBase base result = GivesValue repo.1 (base_value (name_of repo.0) (history_of repo.1) base) result
-
   -- the object that has these digits as its name in full
   abbrev pub GivesNamed : Bytes → Result Name RevFault → Type 0
   GivesNamed digits result = GivesValue repo.1 (full_name (name_of repo.0) (begun_by (name_of repo.0) (history_of repo.1) digits)) result
@@ -88,10 +80,6 @@ module _ {N : Type 0} (name_of : N → Kind → Bytes → Bytes) (repo : N × Re
   -- the only object whose name begins with these digits
   abbrev pub GivesBegun : Bytes → Result Name RevFault → Type 0
   GivesBegun digits result = GivesValue repo.1 (the_one (name_of repo.0) (begun_by (name_of repo.0) (history_of repo.1) digits)) result
-
-  -- the object of this name, where it is of this kind
-  abbrev pub GivesOnly : Kind → Name → Result Name RevFault → Type 0
-  GivesOnly kind called result = GivesValue repo.1 (only (name_of repo.0) kind (value_at repo.1 called)) result
 
   -- ---- revisions
 
@@ -106,14 +94,6 @@ module _ {N : Type 0} (name_of : N → Kind → Bytes → Bytes) (repo : N × Re
   -- what the revision of these parts shows
   abbrev pub DenotesParts : Bytes → List Suffix → Option (Bor Path) → Result Shown RevFault → Type 0
   DenotesParts base suffixes path result = Denotes (revision_with base suffixes (borrowed path)) result
-
-  -- the object that a revision shows
-  abbrev pub GivesObjectOf : Revision → Result Name RevFault → Type 0
-  GivesObjectOf revision result = GivesValue repo.1 (value_denoted (name_of repo.0) (history_of repo.1) revision) result
-
-  -- the commit that a revision gives after peeling
-  abbrev pub GivesCommitOf : Revision → Result Name RevFault → Type 0
-  GivesCommitOf revision result = GivesCommit repo.1 (commit_denoted (name_of repo.0) (history_of repo.1) revision) result
 
   -- the body of that commit
   abbrev pub GivesBodyOf : Revision → Result CommitParts RevFault → Type 0

@@ -16,7 +16,3 @@ IsFirstParentWalk repository names =
 
 abbrev pub AreFirstParents : {A : Type 0} → Records → FirstParents A → Type 0
 AreFirstParents repository first_parents = IsFirstParentWalk repository first_parents.names.items
-
--- in whatever repository
-abbrev pub AreAlwaysFirstParents : {A : Type 0} → FirstParents A → Type 0
-AreAlwaysFirstParents first_parents = (repository : Records) → AreFirstParents repository first_parents

@@ -10,7 +10,7 @@ use Rattle.gx_model.specs.Histories.Files.{FileMap}
 use Rattle.gx_model.specs.Histories.Values.{Commit, Commits, Value, blob_value, commit_value, parents_of, tag_value, tree_value}
 use Rattle.gx_model.specs.Laws.RepositoryLaws.{values_of}
 use Rattle.gx_model.specs.Objects.{Entry, TagParts}
-use Rattle.gx_model.specs.Records.{body_of, entries, kind_of, name_of, named_map}
+use Rattle.gx_model.specs.Records.{body_of, entries, kind_of, name_of}
 use Rattle.gx_model.specs.Histories.{Records}
 use Rattle.gx_model.specs.Records.HistoryOf.{commit_of_value, files_of_tree, value_of_name}
 use Rattle.gx_model.specs.Records.Growth.{record_named, same_kind}
@@ -43,10 +43,6 @@ parents_at repository called = parents_of (commit_at repository called)
 -- the entries of the tree of this name
 abbrev pub entries_at : Records → Name → List Entry
 entries_at repository called = entries_named repository.records called.bytes
-
--- the entries that the file map of the tree of this name gives
-abbrev pub entries_given : {N : Type 0} → (N → Kind → Bytes → Bytes) → N × Records → Name → List Entry
-entries_given name_of repo called = entries (name_of repo.0) (named_map (name_of repo.0) (files_at repo.1 called))
 
 -- a value of this kind, and no other
 abbrev pub only : (Kind → Bytes → Bytes) → Kind → Value → Given Value

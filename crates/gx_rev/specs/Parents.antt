@@ -1,6 +1,6 @@
 -- The places of the parents of commits.
 use Rattle.std.specs.Prelude.{◌≡◌, ◌<◌, ◌≤◌, ◌++◌, ℕ, Bool, List, length, map, Some, slice_range, slice_index_or}
-use Rattle.std.specs.List.{AllByRecursion, slice_get}
+use Rattle.std.specs.List.{slice_get}
 use Rattle.gx_model.specs.Histories.Values.{Commit, Commits, commit_value, list_of, parents_of}
 use Rattle.gx_model.specs.Histories.{Records}
 use Rattle.gx_model.specs.Histories.Marks.{IsAt, Marks}
@@ -14,10 +14,6 @@ use Rattle.gx_rev.specs.declared.parents.Row.{Row}
 -- a commit stands at a place
 abbrev pub IsCommitPlace : Records → ℕ → Type 0
 IsCommitPlace repository place = (made : Commit) × IsAt repository place made
-
--- each of these is such a place
-abbrev pub AreCommitPlaces : Records → List ℕ → Type 0
-AreCommitPlaces repository places = AllByRecursion (IsCommitPlace repository) places
 
 -- the commits stand at these places, one at each
 abbrev pub StandAt : Records → List Commit → List ℕ → Type 0
@@ -55,7 +51,3 @@ pub record IsRowOf (repository : Records) (places : List ℕ) (place : ℕ) (row
 -- what is known are the parents' places
 abbrev pub HoldsParents : {A : Type 0} → Records → Parents A → Type 0
 HoldsParents repository table = (place : ℕ) → IsRowOf repository table.places.items place (slice_index_or table.rows.items place no_row)
-
--- in whatever repository
-abbrev pub AreAlwaysParents : {A : Type 0} → Parents A → Type 0
-AreAlwaysParents table = (repository : Records) → HoldsParents repository table

@@ -2,12 +2,11 @@
 use Rattle.std.specs.Prelude.{◌≡◌, ℕ, Bool, ◌&&◌, ◌||◌, IsTrue, List, length}
 use Rattle.gx_model.specs.Histories.Values.{Commit}
 use Rattle.gx_model.specs.Histories.{Records}
-use Rattle.gx_model.specs.Histories.Marks.{IsAt, IsMarked, Marks, marks_of}
-use Rattle.gx_model.specs.Revisions.Ranges.{reaches, some_reaches}
-use Rattle.gx_model.specs.Laws.HistoryLaws.{IsParent}
+use Rattle.gx_model.specs.Histories.Marks.{IsAt, IsMarked, marks_of}
+use Rattle.gx_model.specs.Revisions.Ranges.{reaches}
 use Rattle.gx_model.specs.Laws.RepositoryLaws.{values_of}
 use Rattle.gx_object.specs.declared.name.Name.{Name}
-use Rattle.gx_rev.specs.Objects.{commit_at, parents_at}
+use Rattle.gx_rev.specs.Objects.{commit_at}
 
 -- the marks are of commits, and what these reach are the commits that pass
 pub record AreTips (repository : Records) (test : Commit → Bool) (marks : List Bool) : Type 0 where
@@ -39,18 +38,6 @@ TellsReach repository from to answer = answer ≡ reaches (commit_at repository 
 -- the commits that the one of this name reaches are marked, and no other place
 abbrev pub marks_from : Records → Name → List Bool
 marks_from repository from = marks_of (reaches (commit_at repository from)) (values_of repository)
-
--- besides those that were, the commit of this name is marked
-abbrev pub MarksOne : Records → Name → List Bool → List Bool → Type 0
-MarksOne repository called old new = Marks repository (λ marked. marked ≡ commit_at repository called) old new
-
--- besides those that were, its parents are marked
-abbrev pub MarksParentsOf : Records → Name → List Bool → List Bool → Type 0
-MarksParentsOf repository called old new = Marks repository (λ parent. IsParent parent (parents_at repository called)) old new
-
--- the tips reach besides what its parents reach
-abbrev pub AddsParentsOf : Records → Name → List Bool → List Bool → Type 0
-AddsParentsOf repository called old new = AddsTips repository (some_reaches (parents_at repository called)) old new
 
 -- the tips reach besides what both the one and the other reach
 abbrev pub AddsCommon : Records → Name → Name → List Bool → List Bool → Type 0

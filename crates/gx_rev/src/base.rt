@@ -4,9 +4,11 @@ ghost use Rattle.std.specs.Prelude.{◌≡◌, true, IfOk};
 ghost use Rattle.std.specs.List.{list_all};
 ghost use Rattle.gx_model.specs.Texts.Digits.{is_any_digit};
 ghost use Rattle.gx_rev.specs.Bases.{is_abbreviation, is_full_name};
-ghost use Rattle.gx_rev.specs.Calls.{GivesBase, GivesBegun, GivesNamed};
+ghost use Rattle.gx_rev.specs.Calls.{GivesBegun, GivesNamed, GivesValue};
 ghost use Rattle.gx_rev.specs.Objects.{IsHeld};
 ghost use Rattle.gx_model.specs.Faults.{NeedsNoMemory};
+ghost use Rattle.gx_model.specs.Revisions.Denotation.{base_value};
+ghost use Rattle.gx_model.specs.Records.HistoryOf.{history_of};
 
 use crate::RevFault;
 use gx_object::{Name, Namer};
@@ -19,7 +21,7 @@ pub(crate) fn eval_base<N: Namer, A: Allocator + Copy>(
     repo: &Repo<N, A>,
     base: &[u8],
 ) -> Result<Name, RevFault>
-    ensures value { GivesBase N.name_of repo.now base.now result }
+    ensures value { GivesValue repo.now.1 (base_value (N.name_of repo.now.0) (history_of repo.now.1) base.now) result }
     ensures held { IfOk result (IsHeld repo.now.1) }
     ensures memory { NeedsNoMemory RevFault.OutOfMemory result }
 {

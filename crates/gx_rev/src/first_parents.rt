@@ -4,8 +4,9 @@ ghost use Rattle.std.specs.Prelude.{◌≡◌, ◌<◌, IfOk, IsTrue, OnOk, Some
 ghost use Rattle.std.specs.List.{slice_get};
 ghost use Rattle.gx_model.specs.declared.objects.Kind.TheVariants as kinds;
 ghost use Rattle.gx_rev.specs.Calls.{GivesCommit, ancestor_at};
-ghost use Rattle.gx_rev.specs.FirstParents.{AreAlwaysFirstParents, AreFirstParents};
+ghost use Rattle.gx_rev.specs.FirstParents.{AreFirstParents};
 ghost use Rattle.gx_rev.specs.Objects.{IsHeldAs};
+ghost use Rattle.gx_model.specs.Histories.{Records};
 
 use crate::RevFault;
 use crate::objects::parent_of;
@@ -22,7 +23,7 @@ pub struct FirstParents<A: Allocator> {
 impl<A: Allocator + Copy> FirstParents<A> {
     /// Of no commit yet. Takes no memory.
     pub fn new(alloc: A) -> FirstParents<A>
-        ensures { AreAlwaysFirstParents result }
+        ensures { (repository : Records) → AreFirstParents repository result }
     {
         FirstParents {
             names: Vec::new(alloc),

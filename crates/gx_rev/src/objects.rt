@@ -4,9 +4,9 @@ ghost use Rattle.std.specs.Prelude.{◌≡◌, ◌<◌, IfOk, Some, length};
 ghost use Rattle.gx_model.specs.declared.objects.Kind.TheVariants as kinds;
 ghost use Rattle.gx_model.specs.Laws.RepositoryLaws.{values_of};
 ghost use Rattle.gx_model.specs.Revisions.Denotation.{commit_in, files_in};
-ghost use Rattle.gx_model.specs.Records.{body_of, kind_of, parts_of_commit};
+ghost use Rattle.gx_model.specs.Records.{body_of, entries, kind_of, named_map, parts_of_commit};
 ghost use Rattle.gx_rev.specs.Calls.{GivesCommit, GivesFiles, ancestor_at, parent_at};
-ghost use Rattle.gx_rev.specs.Objects.{IsHeld, IsHeldAs, body_in_place, commit_at, entries_at, entries_given, parts_of_tag_value, value_at};
+ghost use Rattle.gx_rev.specs.Objects.{IsHeld, IsHeldAs, body_in_place, commit_at, entries_at, files_at, parts_of_tag_value, value_at};
 ghost use Rattle.gx_model.specs.Faults.{NeedsNoMemory};
 
 use crate::RevFault;
@@ -96,7 +96,7 @@ pub fn entries_of<'a, N: Namer, A: Allocator + Copy>(
 ) -> TreeEntries<'a>
     requires { IsHeldAs kinds.Tree repo.now.1 tree.now }
     ensures entries { result ≡ entries_at repo.now.1 tree.now }
-    ensures files { result ≡ entries_given N.name_of repo.now tree.now }
+    ensures files { result ≡ entries (N.name_of repo.now.0) (named_map (N.name_of repo.now.0) (files_at repo.now.1 tree.now)) }
 {
     let Some((_, body)) = repo.store().get(tree) else {
         unreachable!();

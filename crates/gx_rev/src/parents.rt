@@ -3,7 +3,8 @@
 ghost use Rattle.std.specs.Prelude.{◌≡◌, ◌<◌, length, OnOk};
 ghost use Rattle.gx_model.specs.declared.objects.Kind.TheVariants as kinds;
 ghost use Rattle.gx_rev.specs.Objects.{IsHeldAs};
-ghost use Rattle.gx_rev.specs.Parents.{AppendsParents, AreAlwaysParents, AreParentPlaces, HoldsParents, IsCommitPlace, StaysInFront, parents_in};
+ghost use Rattle.gx_rev.specs.Parents.{AppendsParents, AreParentPlaces, HoldsParents, IsCommitPlace, StaysInFront, parents_in};
+ghost use Rattle.gx_model.specs.Histories.{Records};
 
 use crate::objects::view_of;
 use crate::reached::{name_at, place_of};
@@ -29,7 +30,7 @@ pub struct Parents<A: Allocator> {
 impl<A: Allocator + Copy> Parents<A> {
     /// Of no commit yet. Takes no memory.
     pub fn new(alloc: A) -> Parents<A>
-        ensures { AreAlwaysParents result }
+        ensures { (repository : Records) → HoldsParents repository result }
     {
         Parents {
             rows: Vec::new(alloc),

@@ -2,14 +2,16 @@
 //! tips, and one pass from the newest record on spreads the marks: a commit's parents stand before it.
 
 ghost use Rattle.std.specs.Prelude.{◌≡◌, ◌<◌, IfOk, OnOk, Some, length};
-ghost use Rattle.std.specs.List.{slice_get};
+ghost use Rattle.std.specs.List.{AllByRecursion, slice_get};
 ghost use Rattle.gx_model.specs.declared.objects.Kind.TheVariants as kinds;
-ghost use Rattle.gx_model.specs.Revisions.Ranges.{no_commit, reaches};
+ghost use Rattle.gx_model.specs.Revisions.Ranges.{no_commit, reaches, some_reaches};
 ghost use Rattle.gx_model.specs.Laws.RepositoryLaws.{values_of};
 ghost use Rattle.gx_model.specs.Records.Sound.{Holds};
-ghost use Rattle.gx_rev.specs.Objects.{IsHeld, IsHeldAs, commit_at, value_at};
-ghost use Rattle.gx_rev.specs.Parents.{AreCommitPlaces, HoldsParents, MarksPlaces};
-ghost use Rattle.gx_rev.specs.Tips.{AddsParentsOf, AddsTips, AreTips, HasTips, MarksOne, MarksParentsOf, Spreads, TellsReach, marks_from};
+ghost use Rattle.gx_rev.specs.Objects.{IsHeld, IsHeldAs, commit_at, parents_at, value_at};
+ghost use Rattle.gx_rev.specs.Parents.{HoldsParents, IsCommitPlace, MarksPlaces};
+ghost use Rattle.gx_rev.specs.Tips.{AddsTips, AreTips, HasTips, Spreads, TellsReach, marks_from};
+ghost use Rattle.gx_model.specs.Histories.Marks.{Marks};
+ghost use Rattle.gx_model.specs.Laws.HistoryLaws.{IsParent};
 
 use crate::Parents;
 use crate::objects::view_of;
@@ -117,7 +119,7 @@ pub(crate) fn spread_by<N: Namer, A: Allocator + Copy>(
 /// Marks the commits at these places.
 fn mark_at<N: Namer, A: Allocator + Copy>(repo: &Repo<N, A>, marks: &mut [bool], places: &[usize])
     requires long { length marks.old ≡ length (values_of repo.now.1) }
-    requires commits { AreCommitPlaces repo.now.1 places.now }
+    requires commits { AllByRecursion (IsCommitPlace repo.now.1) places.now }
     ensures { MarksPlaces repo.now.1 places.now marks.old marks.new }
 {
     repo.sound();
@@ -134,8 +136,8 @@ pub(crate) fn mark_parents<N: Namer, A: Allocator + Copy>(
 )
     requires held { IsHeldAs kinds.Commit repo.now.1 commit.now }
     requires long { length marks.old ≡ length (values_of repo.now.1) }
-    ensures marked { MarksParentsOf repo.now.1 commit.now marks.old marks.new }
-    ensures tips { AddsParentsOf repo.now.1 commit.now marks.old marks.new }
+    ensures marked { Marks repo.now.1 (λ parent. IsParent parent (parents_at repo.now.1 commit.now)) marks.old marks.new }
+    ensures tips { AddsTips repo.now.1 (some_reaches (parents_at repo.now.1 commit.now)) marks.old marks.new }
 {
     repo.sound();
     let view = view_of(repo, commit);
@@ -154,7 +156,7 @@ pub(crate) fn mark<N: Namer, A: Allocator + Copy>(
 )
     requires held { IsHeldAs kinds.Commit repo.now.1 commit.now }
     requires long { length marks.old ≡ length (values_of repo.now.1) }
-    ensures marked { MarksOne repo.now.1 commit.now marks.old marks.new }
+    ensures marked { Marks repo.now.1 (λ marked. marked ≡ commit_at repo.now.1 commit.now) marks.old marks.new }
     ensures tips { AddsTips repo.now.1 (reaches (commit_at repo.now.1 commit.now)) marks.old marks.new }
 {
     repo.sound();

@@ -1,13 +1,12 @@
 //! Revisions as texts.
 
-ghost use Rattle.std.specs.Prelude.{◌≡◌, ◌≤◌, length, []};
+ghost use Rattle.std.specs.Prelude.{◌≡◌, ◌≤◌, length, [], map};
 ghost use Rattle.gx_model.specs.Faults.{Gives};
 ghost use Rattle.gx_model.specs.Texts.{cut_at};
-ghost use Rattle.gx_model.specs.Revisions.{base_and_suffixes, base_of, optional_path, revision_of, with_path};
+ghost use Rattle.gx_model.specs.Revisions.{base_and_suffixes, base_of, optional_path, revision_of, suffixes_of, with_path};
 ghost use Rattle.gx_rev.specs.Bases.{base_text};
-ghost use Rattle.gx_rev.specs.Calls.{ReadsSuffixes};
 ghost use Rattle.gx_rev.specs.RevFaults.{FaultsComeFirst, fault_of};
-ghost use Rattle.gx_rev.specs.Views.{borrowed};
+ghost use Rattle.gx_rev.specs.Views.{borrowed, shown_suffix};
 
 use crate::RevFault;
 use crate::suffix::Suffix;
@@ -100,7 +99,7 @@ fn read_base<A: Allocator + Copy>(alloc: A, text: &[u8]) -> Result<Vec<u8, A>, R
 /// The suffixes of a text that begins with one, or is empty.
 fn read_suffixes<A: Allocator + Copy>(alloc: A, text: &[u8]) -> Result<Vec<Suffix, A>, RevFault>
     requires { (base_and_suffixes text.now).0 ≡ [] }
-    ensures { ReadsSuffixes text.now result }
+    ensures { Gives fault_of (λ suffixes. map shown_suffix suffixes.items) result (suffixes_of (base_and_suffixes text.now).1) }
 {
     let mut suffixes = Vec::new(alloc);
     let mut rest = text;

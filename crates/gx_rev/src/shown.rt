@@ -3,10 +3,10 @@
 ghost use Rattle.std.specs.Prelude.{◌≡◌, IfOk, Some};
 ghost use Rattle.gx_model.specs.declared.objects.Kind.TheVariants as kinds;
 ghost use Rattle.gx_model.specs.declared.objects.Mode.TheVariants as modes;
-ghost use Rattle.gx_model.specs.Revisions.Denotation.{file_shown};
-ghost use Rattle.gx_model.specs.Records.HistoryOf.{bytes_of_blob};
+ghost use Rattle.gx_model.specs.Revisions.Denotation.{commit_denoted, file_shown, value_denoted};
+ghost use Rattle.gx_model.specs.Records.HistoryOf.{bytes_of_blob, history_of};
 ghost use Rattle.gx_rev.specs.Answers.{AnswersTell, IsNamed, file_of, shown_as};
-ghost use Rattle.gx_rev.specs.Calls.{Denotes, DenotesParts, GivesBodyOf, GivesCommitOf, GivesObjectOf, GivesTreeOf, ReadsFile, ShowsPathOf, file_in};
+ghost use Rattle.gx_rev.specs.Calls.{Denotes, DenotesParts, GivesBodyOf, GivesCommit, GivesTreeOf, GivesValue, ReadsFile, ShowsPathOf, file_in};
 ghost use Rattle.gx_rev.specs.FirstParents.{AreFirstParents};
 ghost use Rattle.gx_rev.specs.Objects.{IsHeld, IsHeldAs, files_at, value_at};
 ghost use Rattle.gx_rev.specs.RevFaults.{FaultsComeFirst};
@@ -188,7 +188,7 @@ pub(crate) fn eval_commit<N: Namer, A: Allocator + Copy>(
     repo: &Repo<N, A>,
     revision: &Revision<A>,
 ) -> Result<Name, RevFault>
-    ensures commit { GivesCommitOf N.name_of repo.now revision.now result }
+    ensures commit { GivesCommit repo.now.1 (commit_denoted (N.name_of repo.now.0) (history_of repo.now.1) revision.now) result }
     ensures held { IfOk result (IsHeldAs kinds.Commit repo.now.1) }
     ensures memory { NeedsNoMemory RevFault.OutOfMemory result }
 {
@@ -201,7 +201,7 @@ fn eval_object<N: Namer, A: Allocator + Copy>(
     repo: &Repo<N, A>,
     revision: &Revision<A>,
 ) -> Result<Name, RevFault>
-    ensures value { GivesObjectOf N.name_of repo.now revision.now result }
+    ensures value { GivesValue repo.now.1 (value_denoted (N.name_of repo.now.0) (history_of repo.now.1) revision.now) result }
     ensures held { IfOk result (IsHeld repo.now.1) }
     ensures memory { NeedsNoMemory RevFault.OutOfMemory result }
 {

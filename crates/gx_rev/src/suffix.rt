@@ -8,9 +8,9 @@ ghost use Rattle.gx_model.specs.Texts.{same_bytes};
 ghost use Rattle.gx_model.specs.Revisions as model;
 ghost use Rattle.gx_model.specs.Revisions.{braced_suffixes, number_or_one, suffix_of};
 ghost use Rattle.gx_model.specs.Revisions.Denotation.{peel};
-ghost use Rattle.gx_rev.specs.Calls.{GivesAllSuffixed, GivesOnly, GivesSuffixed};
+ghost use Rattle.gx_rev.specs.Calls.{GivesAllSuffixed, GivesSuffixed, GivesValue};
 ghost use Rattle.gx_rev.specs.FirstParents.{AreFirstParents};
-ghost use Rattle.gx_rev.specs.Objects.{IsHeld, value_at};
+ghost use Rattle.gx_rev.specs.Objects.{IsHeld, only, value_at};
 ghost use Rattle.gx_rev.specs.RevFaults.{fault_of};
 ghost use Rattle.gx_rev.specs.Views.{shown_suffix};
 
@@ -212,7 +212,7 @@ fn of_kind<N: Namer, A: Allocator + Copy>(
     kind: Kind,
 ) -> Result<Name, RevFault>
     requires { IsHeld repo.now.1 name.now }
-    ensures value { GivesOnly N.name_of repo.now kind name.now result }
+    ensures value { GivesValue repo.now.1 (only (N.name_of repo.now.0) kind (value_at repo.now.1 name.now)) result }
     ensures held { IfOk result (IsHeld repo.now.1) }
     ensures memory { NeedsNoMemory RevFault.OutOfMemory result }
 {

@@ -1,12 +1,11 @@
 -- What a store holds, and what a put does to it.
 use Rattle.std.specs.Prelude.{◌≡◌, ℕ, Bool, true, false, List, map, Option, Some, None, Result, Ok, Err, IsTrue}
 use Rattle.std.specs.List.{list_all, position, AllByRecursion}
-use Rattle.std.specs.Option.{option_map}
 use Rattle.std.specs.Borrow.{Bor}
 use Rattle.gx_model.specs.declared.objects.Kind.{Kind}
 use Rattle.gx_model.specs.Texts.{Bytes, same_bytes}
 use Rattle.gx_model.specs.Objects.{is_name}
-use Rattle.gx_model.specs.Histories.{AreDistinct, Record, object_of, record_for}
+use Rattle.gx_model.specs.Histories.{AreDistinct, Record, record_for}
 use Rattle.gx_model.specs.Records.Growth.{put, record_named}
 use Rattle.gx_object.specs.declared.name.Name.{Name}
 use Rattle.gx_store.specs.declared.fault.StoreFault.{StoreFault}
@@ -42,10 +41,6 @@ IsFound rs r (Err OutOfMemory) = ⊥
 -- the place of the first record with this name, counted from 0
 abbrev pub place_named : List Record → Bytes → Option ℕ
 place_named records name = position (λ held. same_bytes name held.name) records
-
--- the object with this name, where there is one
-abbrev pub named_object : List Record → Bytes → Option (Kind × Bytes)
-named_object records name = option_map object_of (record_named records name)
 
 -- what a look-up shows, through the reference that it lends
 abbrev pub shown_object : Kind × Bor Bytes → Kind × Bytes

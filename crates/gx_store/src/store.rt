@@ -5,7 +5,7 @@ ghost use Rattle.std.specs.List.{slice_range};
 ghost use Rattle.std.specs.Option.{option_map};
 ghost use Rattle.gx_model.specs.Records.Growth.{record_named};
 ghost use Rattle.gx_model.specs.Records.Lookups.{records_begun_by};
-ghost use Rattle.gx_store.specs.Stores.{AreHeld, IsFound, Puts, PutsObject, named_object, place_named, record_under, shown_object, shown_record};
+ghost use Rattle.gx_store.specs.Stores.{AreHeld, IsFound, Puts, PutsObject, place_named, record_under, shown_object, shown_record};
 ghost use Rattle.gx_store.specs.Bodies.{bytes_of};
 ghost use Rattle.gx_store.specs.Marked.{first_mark, marked};
 ghost use Rattle.gx_store.specs.Prefixes.{prefix_of};
@@ -48,6 +48,7 @@ impl<N: Namer, A: Allocator> Model for Store<N, A> {
 
     ghost use Rattle.gx_store.specs.Objects.{IsStore, shown_stored};
     ghost use Rattle.indexmap.specs.IndexMap.{keys};
+    ghost use Rattle.gx_model.specs.Histories.{object_of};
 
     ghost view = { λ s. (s.namer, map shown_stored s.objects.entries) };
 
@@ -150,7 +151,7 @@ impl<N: Namer, A: Allocator + Copy> Store<N, A> {
 
     /// The kind and the body of the object with this name. Cost: constant, as expected of hashes. Takes no memory.
     pub fn get(&self, name: &Name) -> Option<(Kind, &[u8])>
-        ensures { option_map shown_object result ≡ named_object self.now.1 name.now.bytes }
+        ensures { option_map shown_object result ≡ option_map object_of (record_named self.now.1 name.now.bytes) }
     {
         let object = self.objects.get(name)?;
         Some((object.kind, object.body.as_slice()))

@@ -2,7 +2,7 @@
 use Rattle.std.specs.Prelude.{◌≡◌, ℕ, ◌+◌, ◌-◌, ◌<◌, ◌≤◌, ◌⊎◌, Bool, true, false, [], ◌++◌, length, drop, take, slice_range, Option, Some, None, suc, nat_eq, if◌then◌else◌}
 use Rattle.std.specs.Option.{option_map}
 use Rattle.gx_model.specs.Texts.{Bytes}
-use Rattle.gx_model.specs.Streams.Items.{Item, Line, Data, First, first_line, takes, ends, line_len, has_no_line, lines_before, items_of, then_comes}
+use Rattle.gx_model.specs.Streams.Items.{Item, Line, Data, First, takes, ends, line_len, has_no_line, lines_before, items_of, then_comes}
 use Rattle.gx_stream.specs.Faults.{shown_end, ended}
 use Rattle.gx_stream.specs.declared.fault.StreamFault.{StreamFault}
 use Rattle.gx_stream.specs.declared.fault.StreamFault.TheVariants.{BadNumber}
@@ -93,10 +93,6 @@ abbrev pub Begins : Bytes → First → Found → Type 0
 Begins text first (found.Line p) = IsWithin text p × (first ≡ takes (Line (bytes_at text p)) (drop p.next text))
 Begins text first (found.Data p) = IsWithin text p × (first ≡ takes (Data (bytes_at text p)) (drop p.next text))
 Begins text first (found.End e) = first ≡ ends (shown_end e)
-
--- what a line at a place begins, with the text after it
-abbrev pub first_at : Bytes → Place → Bool → First
-first_at text line fails = first_line (bytes_at text line) (drop line.next text) fails
 
 -- the delimiter that the line at a place would give
 abbrev pub delimiter_at : Bytes → Place → Bytes

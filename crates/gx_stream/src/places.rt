@@ -2,9 +2,9 @@
 
 ghost use Rattle.std.specs.Prelude.{◌≡◌, ◌≤◌, ◌+◌, ℕ, length, drop, nat_eq, nat_lt, ◌||◌, ◌&&◌, codes, true, false};
 ghost use Rattle.std.specs.List.{starts_with};
-ghost use Rattle.gx_model.specs.Streams.Items.{line_len, has_no_line, without_lf, counted_block, delimited, announced, end_of, cut_off};
+ghost use Rattle.gx_model.specs.Streams.Items.{line_len, has_no_line, without_lf, counted_block, delimited, announced, end_of, cut_off, first_line};
 ghost use Rattle.gx_stream.specs.Faults.{shown_end};
-ghost use Rattle.gx_stream.specs.Places.{IsLineAt, AreLinesAt, GoesTo, IsSearched, IsScanned, from_line, without, at_line, past_first, Begins, Skipped, Finds, bytes_at, delimiter_at, first_at};
+ghost use Rattle.gx_stream.specs.Places.{IsLineAt, AreLinesAt, GoesTo, IsSearched, IsScanned, from_line, without, at_line, past_first, Begins, Skipped, Finds, bytes_at, delimiter_at};
 
 use crate::fault::StreamFault;
 use gx_text::decimal;
@@ -124,7 +124,7 @@ pub(crate) fn find_from(text: &[u8], line: Place, scan: &mut Scan, fails: bool) 
     requires within { (line.start ≤ line.end) × (line.end ≤ line.next) × (line.next ≤ length text.now) }
     requires no_comment { starts_with nat_eq (bytes_at text.now line) (codes "#") ≡ false }
     requires scan { IsSearched text.now (delimiter_at text.now line) fails line.next scan.old }
-    ensures begins { Begins text.now (first_at text.now line fails) result }
+    ensures begins { Begins text.now (first_line (bytes_at text.now line) (drop line.next text.now) fails) result }
     ensures scan { IsSearched text.now (delimiter_at text.now line) fails line.next scan.new }
     ensures first { scan.new.first ≡ scan.old.first }
 {

@@ -7,7 +7,7 @@ use Rattle.gx_model.specs.Histories.Files.{FileMap}
 use Rattle.gx_model.specs.Texts.{Bytes, same_bytes}
 use Rattle.gx_model.specs.Texts.Paths.{Path}
 use Rattle.gx_tree.specs.Named.{NamedTree}
-use Rattle.gx_tree.specs.Nodes.{Kept, Level, files, inserted, kept_at, kept_map, others, with_kept}
+use Rattle.gx_tree.specs.Nodes.{Kept, Level, files, inserted, kept_at, kept_map, with_kept}
 use Rattle.gx_tree.specs.Steps.{grafted, kept_grafted, kept_removed, replaced}
 use Rattle.gx_tree.specs.Views.{shown_item, shown_item_if, shown_entries}
 use Rattle.gx_tree.specs.declared.directory.Entry.{Entry}
@@ -31,14 +31,6 @@ ReplacesItem c item old new = shown_entries new.items ≡ with_kept c (shown_ite
 abbrev pub InsertsItem : {A : Type 0} → Bytes → Item A → Vec (Entry A) A → Vec (Entry A) A → Type 0
 InsertsItem c item old new = shown_entries new.items ≡ inserted c (shown_item item) (shown_entries old.items)
 
--- the old entries but for that of the component, if there is one
-abbrev pub LeavesOthers : {A : Type 0} → Bytes → List (Entry A) → Vec (Entry A) A → Type 0
-LeavesOthers c old new = shown_entries new.items ≡ others c (shown_entries old)
-
--- the old entries, with more behind them
-abbrev pub AddsEntries : {A : Type 0} → List (Entry A) → Vec (Entry A) A → Vec (Entry A) A → Type 0
-AddsEntries more old new = shown_entries new.items ≡ shown_entries old.items ++ shown_entries more
-
 -- ---- what is put
 
 -- a tree with k at the path, in place of what is in line with it
@@ -49,10 +41,6 @@ Grafts p k old new = new.files ≡ grafted p (kept_map k) old.files
 abbrev pub GraftsItem : {A : Type 0} → Path → Item A → Option Kept → Item A → Type 0
 GraftsItem p item old new = shown_item new ≡ kept_grafted p (shown_item item) old
 
--- the same of an item that stands there
-abbrev pub GraftsBelow : {A : Type 0} → Path → Item A → Item A → Item A → Type 0
-GraftsBelow p item old new = GraftsItem p item (Some (shown_item old)) new
-
 -- entries, with k at the path: what stands at its first component is another
 abbrev pub with_grafted : Path → Kept → Level → Level
 with_grafted [] k es = es
@@ -61,10 +49,6 @@ with_grafted (c ∷ p) k es = with_kept c (kept_grafted p k (kept_at c es)) es
 -- the files below the entries are the old ones, with an item at the path, in place of what is in line with it
 abbrev pub GraftsFiles : {A : Type 0} → Path → Item A → List (Entry A) → Vec (Entry A) A → Type 0
 GraftsFiles p item old new = files (shown_entries new.items) ≡ grafted p (kept_map (shown_item item)) (files (shown_entries old))
-
--- the same of entries that may be shared
-abbrev pub GraftsIn : {A : Type 0} → Path → Item A → Rc (Vec (Entry A) A) A → Rc (Vec (Entry A) A) A → Type 0
-GraftsIn p item old new = GraftsFiles p item old.value.items new.value
 
 -- what is put at the path, from the component at i on, stands there as where nothing stood at that component
 abbrev pub StandsAnew : {A : Type 0} → ℕ → Path → List (Entry A) → Type 0
@@ -120,7 +104,3 @@ CarriesBelow i s d item old new = shown_item new ≡ kept_grafted (drop i d) (sh
 -- of entries
 abbrev pub CarriesAt : {A : Type 0} → ℕ → Path → Path → Item A → Vec (Entry A) A → Vec (Entry A) A → Type 0
 CarriesAt i s d item old new = files (shown_entries new.items) ≡ carried i s d item (files (shown_entries old.items))
-
--- and of entries that may be shared
-abbrev pub CarriesIn : {A : Type 0} → ℕ → Path → Path → Item A → Rc (Vec (Entry A) A) A → Rc (Vec (Entry A) A) A → Type 0
-CarriesIn i s d item old new = CarriesAt i s d item old.value new.value

@@ -6,12 +6,11 @@ use Rattle.gx_model.specs.declared.objects.Kind.{Kind}
 use Rattle.gx_model.specs.Texts.{Bytes}
 use Rattle.gx_model.specs.Histories.Files.{FileMap}
 use Rattle.gx_model.specs.Histories.{Record}
-use Rattle.gx_object.specs.declared.name.Name.{Name}
 use Rattle.gx_tree.specs.Homes.{AreAtHome, IsItemAtHome}
 use Rattle.gx_tree.specs.Named.{NamedTree, IsAtHome, is_named}
 use Rattle.gx_tree.specs.Nodes.{files}
 use Rattle.gx_tree.specs.Views.{RememberAll, Remembers, shown_entries, shown_item}
-use Rattle.gx_tree.specs.Writes.{IsTreeName, level_records, own_record}
+use Rattle.gx_tree.specs.Writes.{level_records, own_record}
 use Rattle.gx_tree.specs.declared.directory.Item.{Item}
 use Rattle.gx_tree.specs.declared.directory.Entry.{Entry}
 
@@ -52,10 +51,6 @@ records_below name es = level_records name (shown_entries es)
 -- the record of the tree of entries, without those below it
 abbrev pub record_above : {A : Type 0} → (Kind → Bytes → Bytes) → List (Entry A) → List Record
 record_above name es = own_record name (files (shown_entries es))
-
--- n is the name of the tree of entries
-abbrev pub IsNameAbove : {A : Type 0} → (Kind → Bytes → Bytes) → List (Entry A) → Name → Type 0
-IsNameAbove name es = IsTreeName name (files (shown_entries es))
 
 -- what is made of x is written where the new records are held
 abbrev pub Writes : {N X Y : Type 0} → (N → Kind → Bytes → Bytes) → ((Kind → Bytes → Bytes) → List Record → X → Y → Type 0) → N × List Record → N × List Record → X → Y → Type 0

@@ -1,9 +1,9 @@
 //! Directories: their entries in the order of Git's trees, each a file or a directory below. Entries never change while
 //! more than one directory has them, so trees share them.
-ghost use Rattle.std.specs.Prelude.{◌≡◌, ◌<◌, ◌≤◌, [], IsTrue, ◌↔◌, IfOk, OnErr, OnOk, drop, length};
+ghost use Rattle.std.specs.Prelude.{◌≡◌, ◌<◌, ◌≤◌, [], IsTrue, ◌↔◌, IfOk, OnErr, OnOk, drop, length, ◌++◌};
 ghost use Rattle.std.specs.Option.{option_map};
 ghost use Rattle.gx_model.specs.Histories.Files.{sub_map};
-ghost use Rattle.gx_tree.specs.Edits.{AddsEntries, InsertsItem};
+ghost use Rattle.gx_tree.specs.Edits.{InsertsItem};
 ghost use Rattle.gx_tree.specs.Homes.{Keeps, Both, IfThere, Borrowed, AreAtHome, EntriesKeepHome, IsItemAtHome, IsLentAtHome};
 ghost use Rattle.gx_tree.specs.Named.{IsAtHome, no_files};
 ghost use Rattle.gx_tree.specs.Nodes.{IsInner, IsKeptAt, IsLevel, is_folder, map_if, mark};
@@ -246,7 +246,7 @@ fn share_into<A: Allocator + Copy>(
     shared: &mut Vec<Entry<A>, A>,
     entries: &[Entry<A>],
 ) -> Result<(), AllocError>
-    ensures entries { OnOk result (AddsEntries entries.now shared.old shared.new) }
+    ensures entries { OnOk result (shown_entries shared.new.items ≡ shown_entries shared.old.items ++ shown_entries entries.now) }
     ensures home { OnOk result (EntriesKeepHome AreAtHome shared.old.items entries.now shared.new) }
 {
     for entry in entries {

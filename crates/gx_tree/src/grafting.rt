@@ -1,8 +1,8 @@
 //! Putting an item into a directory: the directories on its path change, and no other. Where no other tree has their entries,
 //! these change in place; else new ones share them first.
-ghost use Rattle.std.specs.Prelude.{◌≡◌, ◌≢◌, ◌<◌, ◌+◌, [], IfOk, OnErr, OnOk, IsTrue, None, drop, get_or, length};
+ghost use Rattle.std.specs.Prelude.{◌≡◌, ◌≢◌, ◌<◌, ◌+◌, [], IfOk, OnErr, OnOk, IsTrue, None, drop, get_or, length, Some};
 ghost use Rattle.gx_model.specs.Texts.Paths.{is_component};
-ghost use Rattle.gx_tree.specs.Edits.{Grafts, GraftsBelow, GraftsFiles, GraftsIn, GraftsItem, ReplacesItem, files_below, level_in};
+ghost use Rattle.gx_tree.specs.Edits.{Grafts, GraftsFiles, GraftsItem, ReplacesItem, files_below, level_in};
 ghost use Rattle.gx_tree.specs.Homes.{BelowKeepHome, EntriesKeepHome, GraftKeepsHome, IsItemAtHome, ItemKeepsHome, Keeps};
 ghost use Rattle.gx_tree.specs.Named.{IsAtHome, no_files};
 ghost use Rattle.gx_tree.specs.Nodes.{IsKept, IsLevel, files, is_folder, mark};
@@ -76,7 +76,7 @@ fn graft_in<A: Allocator + Copy>(
     requires level { IsLevel (level_in entries.now) }
     requires reach { IsReach reach (files_below entries.now) }
     ensures level { OnOk result (IsLevel (level_in entries.new)) }
-    ensures files { OnOk result (GraftsIn (drop depth path.now) item.now entries.old entries.new) }
+    ensures files { OnOk result (GraftsFiles (drop depth path.now) item.now entries.old.value.items entries.new.value) }
     ensures reach { IfOk result (λ n. IsReach n (files_below entries.new)) }
     ensures unchanged { OnErr result (entries.new.value.items ≡ entries.old.value.items) }
     ensures home { OnOk result (BelowKeepHome item.now entries.old entries.new) }
@@ -170,7 +170,7 @@ impl<A: Allocator + Copy> Item<A> {
         requires within { depth < length path.now }
         requires folder { IsTrue (is_folder (shown_item self.now)) }
         requires kept { IsKept (shown_item item.now) }
-        ensures kept { OnOk result (GraftsBelow (drop depth path.now) item.now self.old self.new) }
+        ensures kept { OnOk result (GraftsItem (drop depth path.now) item.now (Some (shown_item self.old)) self.new) }
         ensures mark { OnOk result (mark (shown_item self.new) ≡ mark (shown_item self.old)) }
         ensures unchanged { OnErr result (self.new ≡ self.old) }
         ensures home { OnOk result (ItemKeepsHome item.now self.old self.new) }

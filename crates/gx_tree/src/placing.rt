@@ -1,9 +1,9 @@
 //! Putting an entry in place of what stands at its component, and taking one out. Neither needs memory.
 ghost use Rattle.std.specs.Prelude.{◌≡◌, [], ◌∷◌, IsTrue};
 ghost use Rattle.gx_model.specs.Texts.Paths.{is_component};
-ghost use Rattle.gx_tree.specs.Edits.{LeavesOthers, RemovesFiles, ReplacesItem};
+ghost use Rattle.gx_tree.specs.Edits.{RemovesFiles, ReplacesItem};
 ghost use Rattle.gx_tree.specs.Homes.{AreAtHome, EntriesKeepHome, IsItemAtHome, Keeps};
-ghost use Rattle.gx_tree.specs.Nodes.{IsKept, IsLevel, files};
+ghost use Rattle.gx_tree.specs.Nodes.{IsKept, IsLevel, files, others};
 ghost use Rattle.gx_tree.specs.Rooms.{HasRoom, IsReach};
 ghost use Rattle.gx_tree.specs.Views.{shown_entries, shown_entry, shown_item};
 
@@ -47,7 +47,7 @@ pub(crate) fn take_out<A: Allocator + Copy>(
     requires reach { IsReach reach (files (shown_entries entries.now.items)) }
     ensures level { IsLevel (shown_entries entries.new.items) }
     ensures files { RemovesFiles (component.now ∷ []) entries.old.items entries.new }
-    ensures others { LeavesOthers component.now entries.old.items entries.new }
+    ensures others { shown_entries entries.new.items ≡ others component.now (shown_entries entries.old.items) }
     ensures room { HasRoom entries.old → HasRoom entries.new }
     ensures reach { IsReach result (files (shown_entries entries.new.items)) }
     ensures home { Keeps AreAtHome AreAtHome entries.old.items entries.new.items }

@@ -2,7 +2,7 @@
 //! directories on both change, and no other. Where no other tree has their entries, these change in place; else new ones share
 //! them first.
 ghost use Rattle.std.specs.Prelude.{◌≡◌, ◌≢◌, ◌<◌, ◌≤◌, ◌+◌, [], IfOk, OnErr, OnOk, IsTrue, drop, false, get_or, length};
-ghost use Rattle.gx_tree.specs.Edits.{AreApart, Carries, CarriesBelow, CarriesAt, CarriesIn, are_apart, files_below, level_in};
+ghost use Rattle.gx_tree.specs.Edits.{AreApart, Carries, CarriesBelow, CarriesAt, are_apart, files_below, level_in};
 ghost use Rattle.gx_tree.specs.Homes.{BelowKeepHome, EntriesKeepHome, GraftKeepsHome, IsItemAtHome, ItemKeepsHome};
 ghost use Rattle.gx_tree.specs.Nodes.{IsKept, IsLevel, files, is_folder, mark};
 ghost use Rattle.gx_tree.specs.Rooms.{IsReach};
@@ -79,7 +79,7 @@ fn rename_in<A: Allocator + Copy>(
     requires level { IsLevel (level_in entries.now) }
     requires reach { IsReach reach (files_below entries.now) }
     ensures level { OnOk result (IsLevel (level_in entries.new)) }
-    ensures files { OnOk result (CarriesIn depth from.now to.now item.now entries.old entries.new) }
+    ensures files { OnOk result (CarriesAt depth from.now to.now item.now entries.old.value entries.new.value) }
     ensures reach { IfOk result (λ n. IsReach n (files_below entries.new)) }
     ensures unchanged { OnErr result (entries.new.value.items ≡ entries.old.value.items) }
     ensures home { OnOk result (BelowKeepHome item.now entries.old entries.new) }

@@ -6,11 +6,11 @@ ghost use Rattle.gx_model.specs.Objects.{entry_text, tree_text};
 ghost use Rattle.gx_tree.specs.Edits.{level_in};
 ghost use Rattle.gx_tree.specs.Homes.{EntriesKeepHome, HoldsIn, AreAtHome, IsItemAtHome};
 ghost use Rattle.gx_tree.specs.Named.{IsAtHome, is_named, own_name};
-ghost use Rattle.gx_tree.specs.Nodes.{IsLevel};
+ghost use Rattle.gx_tree.specs.Nodes.{IsLevel, files};
 ghost use Rattle.gx_tree.specs.Views.{IsNamed, shown_item, own_entry, shown_entries, shown_entry, RememberAll, Remembers};
 ghost use Rattle.std.specs.List.{AllByRecursion};
-ghost use Rattle.gx_tree.specs.Writes.{Extends, StoresAll, kept_records, level_records};
-ghost use Rattle.gx_tree.specs.Written.{AreWritten, AreWrittenIn, IsItemWritten, IsNameAbove, IsWritten, PushesItem, RemembersMore, Writes, record_above, records_below};
+ghost use Rattle.gx_tree.specs.Writes.{Extends, IsTreeName, StoresAll, kept_records, level_records};
+ghost use Rattle.gx_tree.specs.Written.{AreWritten, AreWrittenIn, IsItemWritten, IsWritten, PushesItem, RemembersMore, Writes, record_above, records_below};
 
 use crate::directory::{Directory, Entry, Item};
 use crate::fault::TreeFault;
@@ -147,7 +147,7 @@ pub(crate) fn put_tree<A: Allocator + Copy, N: Namer>(
     requires home { HoldsIn N.name_of store.now AreAtHome entries.now }
     requires remember { RememberAll entries.now }
     ensures extends { Extends store.old store.new }
-    ensures name { IfOk result (IsNameAbove (N.name_of store.old.0) entries.now) }
+    ensures name { IfOk result (IsTreeName (N.name_of store.old.0) (files (shown_entries entries.now))) }
     ensures puts { StoresAll N.name_of record_above entries.now store.old store.new result }
 {
     encode_entries(body, entries)?;

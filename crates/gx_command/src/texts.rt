@@ -8,14 +8,14 @@ ghost use Rattle.gx_model.specs.Texts.{is_line};
 ghost use Rattle.gx_model.specs.Histories.Values.{is_optional_encoding};
 ghost use Rattle.gx_model.specs.Texts.RefNames.{is_ref_name, is_tag_name};
 ghost use Rattle.gx_model.specs.Streams.Grammar.{ident_of, encoding_of, is_null};
-ghost use Rattle.gx_model.specs.Texts.Digits.{is_any_digit, is_any_name_text};
+ghost use Rattle.gx_model.specs.Texts.Digits.{is_any_name_text};
 ghost use Rattle.gx_command.specs.CommandFaults.{fault_of};
 ghost use Rattle.gx_command.specs.Lines.{shown_words};
 ghost use Rattle.gx_command.specs.declared.fault.CommandFault.TheVariants.{OutOfMemory};
 
 use crate::fault::CommandFault;
 use crate::lines::Words;
-use gx_text::Ident;
+use gx_text::{Ident, are_hex_digits};
 use std::alloc::Allocator;
 
 /// A ref name. Source: git-check-ref-format(1).
@@ -145,16 +145,4 @@ pub(crate) fn is_name(text: &[u8]) -> bool
     ensures { result ≡ is_any_name_text text.now }
 {
     are_hex_digits(text) && text.len() == 40
-}
-
-fn are_hex_digits(text: &[u8]) -> bool
-    ensures { result ≡ list_all is_any_digit text.now }
-{
-    text.iter().all(|b| is_hex_digit(*b))
-}
-
-fn is_hex_digit(b: u8) -> bool
-    ensures { result ≡ is_any_digit b }
-{
-    matches!(b, b'0'..=b'9' | b'a'..=b'f' | b'A'..=b'F')
 }

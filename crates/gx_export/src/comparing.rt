@@ -10,12 +10,13 @@ ghost use Rattle.gx_object.specs.Parts.{bytes_if};
 use crate::ExportFault;
 use crate::changes::Changes;
 use crate::pairs::{Pair, Pairs, is_same, name_in};
-use crate::trees::{MOST_BYTES, add_file, child};
+use crate::trees::add_file;
 use crate::written::Written;
 use gx_object::{Entry, Mode, Name, Namer, TreeEntries, held_tree};
 use gx_repo::Repo;
 use gx_rev::{entries_of, view_of};
-use gx_text::{Sink, TreePath};
+use gx_text::{MOST_BYTES, Sink, TreePath};
+use gx_tree::child;
 use std::alloc::Allocator;
 
 /// Writes the blobs of a held commit's files that differ from its first parent's and weren't written yet, and gathers the

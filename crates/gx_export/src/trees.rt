@@ -4,7 +4,6 @@ ghost use Rattle.std.specs.Prelude.{◌≡◌, ◌≢◌, ◌++◌, [], ◌∷�
 ghost use Rattle.gx_model.specs.declared.objects.Kind.TheVariants as kinds;
 ghost use Rattle.gx_model.specs.declared.objects.Mode.TheVariants as modes;
 ghost use Rattle.gx_model.specs.Texts.{Bytes};
-ghost use Rattle.gx_model.specs.Texts.Paths.{is_component, is_short};
 ghost use Rattle.gx_model.specs.Records.Sound as sound;
 ghost use Rattle.gx_model.specs.Histories.Values.{Value};
 ghost use Rattle.gx_rev.specs.Objects.{IsHeldAs};
@@ -19,11 +18,9 @@ use crate::written::Written;
 use gx_object::{Entry, Mode, Name, Namer};
 use gx_repo::Repo;
 use gx_rev::{body_at, entries_of, place_of, view_of};
-use gx_text::{Sink, TextFault, TreePath};
-use std::alloc::{AllocError, Allocator};
-
-/// The bytes of the longest path.
-pub(crate) const MOST_BYTES: usize = 4095;
+use gx_text::{MOST_BYTES, Sink, TreePath};
+use gx_tree::child;
+use std::alloc::Allocator;
 
 /// Writes the blobs of a held commit's files that weren't written yet, and gathers the files' lines.
 pub(crate) fn add_files<N: Namer, A: Allocator + Copy, W: Sink>(
@@ -187,28 +184,4 @@ fn write_blob_once<N: Namer, A: Allocator + Copy, W: Sink>(
     write_blob(sink, &mut written.bytes, written.count + 1, body)?;
     written.mark(place);
     Ok(())
-}
-
-/// The path with one more component.
-pub(crate) fn child<A: Allocator + Copy>(
-    alloc: A,
-    front: &TreePath<A>,
-    component: &[u8],
-) -> Result<TreePath<A>, AllocError>
-    requires component { IsTrue (is_component component.now) }
-    requires short { IsTrue (is_short (front.now ++ component.now ∷ [])) }
-    ensures { IfOk result (λ path. path ≡ front.now ++ component.now ∷ []) }
-{
-    let mut text = Vec::from_slice(alloc, front.joined())?;
-    if front.len() > 0 {
-        text.push(b'/')?;
-    }
-    text.extend_from_slice(component)?;
-    match TreePath::read(alloc, &text) {
-        Ok(path) => Ok(path),
-        Err(fault) => match fault {
-            TextFault::OutOfMemory => Err(AllocError),
-            _ => unreachable!(),
-        },
-    }
 }

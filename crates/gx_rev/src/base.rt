@@ -1,8 +1,6 @@
 //! What the base of a revision gives: an object's name in full, a ref, or the digits that a name begins with.
 
 ghost use Rattle.std.specs.Prelude.{◌≡◌, true, IfOk};
-ghost use Rattle.std.specs.List.{list_all};
-ghost use Rattle.gx_model.specs.Texts.Digits.{is_any_digit};
 ghost use Rattle.gx_rev.specs.Bases.{is_abbreviation, is_full_name};
 ghost use Rattle.gx_rev.specs.Calls.{GivesBegun, GivesNamed, GivesValue};
 ghost use Rattle.gx_rev.specs.Objects.{IsHeld};
@@ -14,6 +12,7 @@ use crate::RevFault;
 use gx_object::{Name, Namer};
 use gx_repo::Repo;
 use gx_store::Prefix;
+use gx_text::are_hex_digits;
 use std::alloc::Allocator;
 
 /// What a base gives.
@@ -43,14 +42,14 @@ pub(crate) fn eval_base<N: Namer, A: Allocator + Copy>(
 fn is_whole(text: &[u8]) -> bool
     ensures { result ≡ is_full_name text.now }
 {
-    are_digits(text) && text.len() == 40
+    are_hex_digits(text) && text.len() == 40
 }
 
 /// Whether the text may abbreviate a name: 4 to 39 digits.
 fn is_abbreviation(text: &[u8]) -> bool
     ensures { result ≡ is_abbreviation text.now }
 {
-    are_digits(text) && 4 <= text.len() && text.len() < 40
+    are_hex_digits(text) && 4 <= text.len() && text.len() < 40
 }
 
 /// The object of this name in full.
@@ -86,17 +85,4 @@ fn find_digits<N: Namer, A: Allocator + Copy>(
         Prefix::Absent => Err(RevFault::UnknownRef),
         Prefix::Ambiguous => Err(RevFault::Ambiguous),
     }
-}
-
-/// Whether each byte is a hexadecimal digit, of either case.
-fn are_digits(text: &[u8]) -> bool
-    ensures { result ≡ list_all is_any_digit text.now }
-{
-    text.iter().all(|b| is_digit(*b))
-}
-
-fn is_digit(byte: u8) -> bool
-    ensures { result ≡ is_any_digit byte }
-{
-    matches!(byte, b'0'..=b'9' | b'a'..=b'f' | b'A'..=b'F')
 }

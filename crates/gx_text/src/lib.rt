@@ -4,6 +4,7 @@
 
 mod cuts;
 mod device;
+mod digits;
 mod fault;
 mod ident;
 mod memory;
@@ -16,10 +17,11 @@ mod ref_name;
 
 pub use cuts::cut;
 pub use device::{Failed, Sink, Source, send};
+pub use digits::are_hex_digits;
 pub use fault::TextFault;
 pub use ident::Ident;
 pub use memory::{Bytes, Held};
 pub use number::decimal;
 pub use outside::{FromRead, IntoWrite};
-pub use path::TreePath;
+pub use path::{MOST_BYTES, TreePath};
 pub use ref_name::is_ref_name;

@@ -17,7 +17,7 @@ use std::alloc::{AllocError, Allocator};
 use std::marker::Model;
 
 /// The bytes of the longest path.
-const MOST_BYTES: usize = 4095;
+pub const MOST_BYTES: usize = 4095;
 
 /// A path in a tree, seen as the list of its components. The empty list is the root.
 /// Components are neither empty nor `.` or `..`, and hold no `/` and no NUL; a path has at most 4,095 bytes.

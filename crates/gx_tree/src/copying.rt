@@ -14,11 +14,8 @@ ghost use Rattle.gx_tree.specs.Views.{shown_item};
 use crate::directory::{Directory, Item};
 use crate::fault::TreeFault;
 use gx_object::{Mode, Name};
-use gx_text::TreePath;
+use gx_text::{MOST_BYTES, TreePath};
 use std::alloc::{AllocError, Allocator};
-
-/// The bytes of the longest path.
-pub(crate) const MOST_BYTES: usize = 4095;
 
 /// What stands at a path: a file, or a directory with files.
 #[derive(Drop)]

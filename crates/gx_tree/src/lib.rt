@@ -24,5 +24,6 @@ mod writing;
 
 pub use fault::TreeFault;
 pub use laws::{records_keep_home, records_keep_loaded};
+pub use listing::child;
 pub use loaded::LoadedTrees;
 pub use path_tree::{Found, PathTree};

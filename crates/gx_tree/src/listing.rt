@@ -30,8 +30,10 @@ impl<A: Allocator + Copy> Directory<A> {
     }
 }
 
-// The path with one more component.
-fn child<A: Allocator + Copy>(
+/// The path with one more component.
+///
+/// Cost: the path's length. Memory: the path, and its text twice at most.
+pub fn child<A: Allocator + Copy>(
     alloc: A,
     front: &TreePath<A>,
     component: &[u8],

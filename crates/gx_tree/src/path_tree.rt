@@ -18,14 +18,13 @@ ghost use Rattle.gx_tree.specs.Standings.{standing_of, standing_at};
 ghost use Rattle.gx_model.specs.declared.objects.Mode.TheVariants as modes;
 ghost use Rattle.gx_tree.specs.declared.fault.TreeFault.TheVariants as faults;
 
-use crate::copying::MOST_BYTES;
 use crate::directory::{Directory, Item};
 use crate::fault::TreeFault;
 use crate::loaded::LoadedTrees;
 use crate::root::Root;
 use gx_object::{Mode, Name, Namer};
 use gx_store::Store;
-use gx_text::TreePath;
+use gx_text::{MOST_BYTES, TreePath};
 use std::alloc::Allocator;
 use std::marker::Model;
 

@@ -23,6 +23,7 @@ pub mod Gathered
 pub mod GatheredLines
 pub mod SentRanges
 pub mod ServedLines
+pub mod RoomlessLines
 pub mod DroppedStores
 pub mod CollectedStores
 pub mod ReportedImports

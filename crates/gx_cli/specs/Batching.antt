@@ -18,7 +18,6 @@ use Rattle.gx_batch.specs.declared.format.Part.{Part}
 use Rattle.gx_line.specs.declared.command_line.BatchForm.{BatchForm}
 use Rattle.gx_cli.specs.Commanding.{Asked, answered, archive, contents, flush, info, log, ls, no_options, refs, rev_parse, unknown}
 use Rattle.gx_cli.specs.Gathering.{batch_answer}
-use Rattle.gx_cli.specs.Opening.{bytes_of}
 use Rattle.gx_cli.specs.Serving.{AnswersLines, BatchesStored, ending_of, format_parts, line_answer, printed_by}
 use Rattle.gx_cli.specs.Logs.{log_text}
 use Rattle.gx_cli.specs.Stored.{names_text}
@@ -28,7 +27,6 @@ use Rattle.gx_cli.specs.declared.commanding.asked.Asked.{Asked as Line}
 use Rattle.gx_cli.specs.declared.commanding.asked.Asked.TheVariants as asks
 use Rattle.gx_cli.specs.declared.fault.CliFault.{CliFault}
 use Rattle.gx_cli.specs.declared.fault.CliFault.TheVariants.{BadFormat, OutOfMemory}
-use Rattle.gx_cli.specs.declared.opening.StoreBytes.{StoreBytes}
 use Rattle.gx_cli.specs.declared.questions.Question.{Question}
 use Rattle.gx_cli.specs.declared.serving.Outcome.{Outcome}
 
@@ -53,14 +51,14 @@ ReadsParts parts (Err fault) = ⊥
 
 module _ {N W : Type 0} (name_of : N → Kind → Bytes → Bytes) (taken : W → Option Taken) where
   -- the answers to the lines of a source over the store of these bytes go out, and how the command ends
-  abbrev pub AnswersStored : {A : Type 0} → N → BatchForm → Option (Bor Bytes) → Bool → StoreBytes A → Option Coming → W → W → Outcome A → Type 0
+  abbrev pub AnswersStored : {A : Type 0} → N → BatchForm → Option (Bor Bytes) → Bool → Bytes → Option Coming → W → W → Outcome A → Type 0
   AnswersStored namer form format nul store coming old new o =
-      AnswersLines (name_of namer) form (format_parts format) (ending_of nul) (bytes_of store) coming (taken old) (taken new) o
+      AnswersLines (name_of namer) form (format_parts format) (ending_of nul) store coming (taken old) (taken new) o
 
   -- the same in a format that was read
-  abbrev pub AnswersFormatted : {A : Type 0} → N → BatchForm → List Part → LineEnding → StoreBytes A → Option Coming → W → W → Outcome A → Type 0
+  abbrev pub AnswersFormatted : {A : Type 0} → N → BatchForm → List Part → LineEnding → Bytes → Option Coming → W → W → Outcome A → Type 0
   AnswersFormatted namer form parts ending store coming old new o =
-      BatchesStored (name_of namer) form parts ending (store_of (name_of namer) (bytes_of store)) coming (taken old) (taken new) o
+      BatchesStored (name_of namer) form parts ending (store_of (name_of namer) store) coming (taken old) (taken new) o
 
 module _ {N W : Type 0} (name_of : N → Kind → Bytes → Bytes) (taken : W → Option Taken) (repo : N × Records) where
   -- the answers to the lines of a source go out

@@ -18,7 +18,6 @@ pub mod LogRows
 pub mod Gathering
 pub mod Archiving
 pub mod Placing
-pub mod Opening
 pub mod Forms
 pub mod Serving
 pub mod Batching

@@ -31,14 +31,12 @@ use Rattle.gx_repo.specs.Repositories.{Repository}
 use Rattle.gx_cli.specs.Answers.{Prints}
 use Rattle.gx_cli.specs.Sending.{PrintsText}
 use Rattle.gx_cli.specs.Logs.{commits_logged, entry_of, log_text, next_entry}
-use Rattle.gx_cli.specs.Opening.{bytes_of}
 use Rattle.gx_cli.specs.Serving.{ExportsRangeStored, LogsOf, PrintsStored, printed_by, unknown_at}
 use Rattle.gx_cli.specs.Stored.{all_words, names_text, texts_of}
 use Rattle.gx_cli.specs.Words.{GivesWords}
 use Rattle.gx_line.specs.declared.command_line.LogOptions.{LogOptions}
 use Rattle.gx_cli.specs.declared.fault.CliFault.{CliFault}
 use Rattle.gx_cli.specs.declared.fault.CliFault.TheVariants.{OutOfMemory}
-use Rattle.gx_cli.specs.declared.opening.StoreBytes.{StoreBytes}
 use Rattle.gx_cli.specs.declared.questions.Question.{Question}
 use Rattle.gx_cli.specs.declared.serving.Outcome.{Outcome}
 
@@ -101,18 +99,18 @@ module _ {N : Type 0} (name_of : N → Kind → Bytes → Bytes) where
 
 module _ {N W : Type 0} (name_of : N → Kind → Bytes → Bytes) (taken : W → Option Taken) where
   -- what a question prints of the store of these bytes goes out, or a refusal is answered, and how the command ends
-  abbrev pub AsksStore : {A : Type 0} → N → Question → StoreBytes A → W → W → Outcome A → Type 0
-  AsksStore namer asked store old new o = PrintsStored (store_of (name_of namer) (bytes_of store)) (printed_by (name_of namer) asked) (taken old) (taken new) o
+  abbrev pub AsksStore : {A : Type 0} → N → Question → Bytes → W → W → Outcome A → Type 0
+  AsksStore namer asked store old new o = PrintsStored (store_of (name_of namer) store) (printed_by (name_of namer) asked) (taken old) (taken new) o
 
   -- the names of what revisions give of the store of these bytes go out, and how the command ends
-  abbrev pub NamesStore : {A : Type 0} → N → List (Bor Bytes) → StoreBytes A → W → W → Outcome A → Type 0
+  abbrev pub NamesStore : {A : Type 0} → N → List (Bor Bytes) → Bytes → W → W → Outcome A → Type 0
   NamesStore namer words store old new o =
-      PrintsStored (store_of (name_of namer) (bytes_of store)) (λ r. names_text (name_of namer) (history_of r) (lent_texts words)) (taken old) (taken new) o
+      PrintsStored (store_of (name_of namer) store) (λ r. names_text (name_of namer) (history_of r) (lent_texts words)) (taken old) (taken new) o
 
   -- the export of what range words give, of the store of these bytes, goes out, and how the command ends
-  abbrev pub SendsRangeOf : {A : Type 0} → N → Bool → List (Bor Bytes) → StoreBytes A → W → W → Outcome A → Type 0
+  abbrev pub SendsRangeOf : {A : Type 0} → N → Bool → List (Bor Bytes) → Bytes → W → W → Outcome A → Type 0
   SendsRangeOf namer done words store old new o =
-      ExportsRangeStored (name_of namer) done (store_of (name_of namer) (bytes_of store)) (lent_texts words) (taken old) (taken new) o
+      ExportsRangeStored (name_of namer) done (store_of (name_of namer) store) (lent_texts words) (taken old) (taken new) o
 
   -- the commits that words and lines behind them list go out, or the first that is refused is answered
   abbrev pub LogsWords : {A : Type 0} → Repository N → LogOptions → List (Bor Bytes) → List (Vec ℕ A) → W → W → Result (Unit {0}) CliFault → Type 0
@@ -120,9 +118,9 @@ module _ {N W : Type 0} (name_of : N → Kind → Bytes → Bytes) (taken : W �
       Prints (log_text (name_of repo.0) options (history_of repo.1) (with_lines words lines)) (taken old) (taken new) result
 
   -- the same of words and, where they are asked for, of the lines of a source, of the store of these bytes, and how the command ends
-  abbrev pub LogsStored : {A : Type 0} → N → LogOptions → List (Bor Bytes) → StoreBytes A → Option Coming → W → W → Outcome A → Type 0
+  abbrev pub LogsStored : {A : Type 0} → N → LogOptions → List (Bor Bytes) → Bytes → Option Coming → W → W → Outcome A → Type 0
   LogsStored namer options words store coming old new o =
-      LogsOf (name_of namer) options (store_of (name_of namer) (bytes_of store)) (lent_texts words) coming (taken old) (taken new) o
+      LogsOf (name_of namer) options (store_of (name_of namer) store) (lent_texts words) coming (taken old) (taken new) o
 
   -- the commits of these names go out, which stand behind another one
   abbrev pub PrintsOthers : Repository N → LogOptions → List Name → W → W → Result (Unit {0}) CliFault → Type 0

@@ -161,6 +161,17 @@ line_answer name form.Bytes parts repository = answered_by name false parts (his
 line_answer name form.Check parts repository = answered_by name true parts (history_of repository)
 line_answer name form.Commands parts repository = command_answer name parts repository
 
+-- why a command is refused where there is no memory for its store's text; none where it has no use for one
+abbrev pub without_room : Line → Option CliFault
+without_room line.Blobs = None
+without_room (line.Try word done force explain) = None
+without_room (line.Adapt drops) = None
+without_room (line.Where command) = None
+without_room (line.WhereFault done force) = None
+without_room (line.Init file) = None
+without_room (line.Batch form format nul file) = Some OutOfMemory
+without_room _ = Some (Store file.OutOfMemory)
+
 -- what is printed of a store, and how the command ends
 abbrev pub PrintsStored : {A : Type 0} → Stored Records → (Records → Printed) → Option Taken → Option Taken → Outcome A → Type 0
 PrintsStored stored given was now o = (answer : Result (Unit {0}) CliFault) × Prints (of_stored stored given) was now answer × IsOutcome answer o

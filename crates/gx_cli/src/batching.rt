@@ -6,7 +6,7 @@ ghost use Rattle.gx_cli.specs.Batching.{AnswersAll, AnswersFormatted, AnswersRev
 ghost use Rattle.gx_cli.specs.Serving.{ending_of, format_parts};
 
 use crate::commanding::Commands;
-use crate::opening::{StoreBytes, open};
+use crate::opening::open;
 use crate::serving::{Outcome, outcome_of, refused};
 use crate::{BatchForm, CliFault};
 use gx_batch::{BatchFault, Format, LineEnding, Revisions, answer_lines};
@@ -25,12 +25,12 @@ pub(crate) fn batch_stored<N: Namer + Drop, R: Source + Drop, W: Sink, A: Alloca
     form: BatchForm,
     format: Option<&str>,
     nul: bool,
-    store: StoreBytes<'_, A>,
+    store: Vec<u8, A>,
     source: R,
     sink: &mut W,
     state: RandomState,
 ) -> Outcome<A>
-    ensures { AnswersStored N.name_of W.taken namer form format.entry nul store.entry (R.coming source) sink.old sink.new result }
+    ensures { AnswersStored N.name_of W.taken namer form format.entry nul store.items (R.coming source) sink.old sink.new result }
 {
     match read_format(alloc, format) {
         Ok(format) => {
@@ -79,12 +79,12 @@ fn batch_formatted<N: Namer + Drop, R: Source + Drop, W: Sink, A: Allocator + Co
     form: BatchForm,
     format: &Format<A>,
     ending: LineEnding,
-    store: StoreBytes<'_, A>,
+    store: Vec<u8, A>,
     source: R,
     sink: &mut W,
     state: RandomState,
 ) -> Outcome<A>
-    ensures { AnswersFormatted N.name_of W.taken namer form format.now.parts.items ending store.entry (R.coming source) sink.old sink.new result }
+    ensures { AnswersFormatted N.name_of W.taken namer form format.now.parts.items ending store.items (R.coming source) sink.old sink.new result }
 {
     match open(alloc, namer, store, state) {
         Ok(repo) => outcome_of(batch_opened(alloc, &repo, form, format, ending, source, sink)),

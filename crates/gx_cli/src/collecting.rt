@@ -3,12 +3,11 @@
 ghost use Rattle.std.specs.Prelude.{Ok};
 ghost use Rattle.gx_model.specs.Stores.StoreReading.{store_of};
 ghost use Rattle.gx_cli.specs.Serving.{CollectsInto};
-ghost use Rattle.gx_cli.specs.Opening.{bytes_of};
 ghost use Rattle.gx_cli.specs.Collecting.{CollectsStored};
 
 use crate::CliFault;
 use crate::importing::with_text;
-use crate::opening::{StoreBytes, open};
+use crate::opening::open;
 use crate::serving::{Outcome, refused};
 use gx_model::pruning_laws::{pruned_answers, pruned_stands};
 use gx_object::Namer;
@@ -31,7 +30,10 @@ pub fn collect_store<N: Namer + Drop, A: Allocator + Copy>(
 ) -> Result<(Repo<N, A>, Pruned), CliFault>
     ensures { CollectsStored N.name_of namer (store_of (N.name_of namer) store.items) result }
 {
-    collect(alloc, namer, StoreBytes::Owned(store), state)
+    match open(alloc, namer, store, state) {
+        Ok(repo) => collect_opened(repo),
+        Err(fault) => Err(CliFault::Store(fault)),
+    }
 }
 
 /// Lets the objects of a store's text go that no ref reaches, and makes the text of what that leaves.
@@ -40,29 +42,14 @@ pub fn collect_store<N: Namer + Drop, A: Allocator + Copy>(
 pub(crate) fn collect_stored<N: Namer + Drop, A: Allocator + Copy>(
     alloc: A,
     namer: N,
-    store: StoreBytes<'_, A>,
+    store: Vec<u8, A>,
     state: RandomState,
 ) -> Outcome<A>
-    ensures { CollectsInto (N.name_of namer) (store_of (N.name_of namer) (bytes_of store.entry)) result }
+    ensures { CollectsInto (N.name_of namer) (store_of (N.name_of namer) store.items) result }
 {
-    match collect(alloc, namer, store, state) {
+    match collect_store(alloc, namer, store, state) {
         Ok((repo, _)) => with_text(alloc, &repo, 0, None),
         Err(fault) => refused(fault),
-    }
-}
-
-/// Does what [`collect_store`] does, with bytes that are borrowed or owned.
-fn collect<N: Namer + Drop, A: Allocator + Copy>(
-    alloc: A,
-    namer: N,
-    store: StoreBytes<'_, A>,
-    state: RandomState,
-) -> Result<(Repo<N, A>, Pruned), CliFault>
-    ensures { CollectsStored N.name_of namer (store_of (N.name_of namer) (bytes_of store.entry)) result }
-{
-    match open(alloc, namer, store, state) {
-        Ok(repo) => collect_opened(repo),
-        Err(fault) => Err(CliFault::Store(fault)),
     }
 }
 

@@ -2,7 +2,6 @@
 
 ghost use Rattle.gx_model.specs.Stores.StoreReading.{store_of};
 ghost use Rattle.gx_repo.specs.Dropping.{dropped};
-ghost use Rattle.gx_cli.specs.Opening.{bytes_of};
 ghost use Rattle.gx_cli.specs.Stored.{texts_of};
 ghost use Rattle.gx_cli.specs.Serving.{DropsFrom, DropsRefs, IsDropped};
 ghost use Rattle.gx_cli.specs.Parts.{DropsAll, with_lines};
@@ -10,7 +9,7 @@ ghost use Rattle.gx_cli.specs.Parts.{DropsAll, with_lines};
 use crate::CliFault;
 use crate::importing::with_text;
 use crate::lines::{add_lines, lines_from};
-use crate::opening::{StoreBytes, open};
+use crate::opening::open;
 use crate::serving::{Outcome, refused};
 use crate::words::texts_of;
 use gx_object::Namer;
@@ -29,13 +28,13 @@ use std::hash::RandomState;
 pub(crate) fn drop_stored<N: Namer + Drop, R: Source + Drop, A: Allocator + Copy>(
     alloc: A,
     namer: N,
-    store: StoreBytes<'_, A>,
+    store: Vec<u8, A>,
     words: &[&str],
     stdin: bool,
     source: R,
     state: RandomState,
 ) -> Outcome<A>
-    ensures { DropsRefs (N.name_of namer) stdin (store_of (N.name_of namer) (bytes_of store.entry)) (texts_of words.now) (R.coming source) result }
+    ensures { DropsRefs (N.name_of namer) stdin (store_of (N.name_of namer) store.items) (texts_of words.now) (R.coming source) result }
 {
     match open(alloc, namer, store, state) {
         Ok(mut repo) => drop_opened(alloc, &mut repo, words, stdin, source),

@@ -1,10 +1,9 @@
 //! The export of a store. Source: git-fast-export(1).
 
-ghost use Rattle.gx_cli.specs.Opening.{bytes_of};
 ghost use Rattle.gx_cli.specs.Forms.{ExportsAs};
 ghost use Rattle.gx_cli.specs.Serving.{ExportsStore, SendsExport};
 
-use crate::opening::{StoreBytes, open};
+use crate::opening::open;
 use crate::serving::{Outcome, outcome_of, refused};
 use crate::{CliFault, ExportForm};
 use gx_export::{ExportFault, export, export_changes};
@@ -21,11 +20,11 @@ pub(crate) fn export_stored<N: Namer + Drop, W: Sink, A: Allocator + Copy>(
     alloc: A,
     namer: N,
     form: ExportForm,
-    store: StoreBytes<'_, A>,
+    store: Vec<u8, A>,
     sink: &mut W,
     state: RandomState,
 ) -> Outcome<A>
-    ensures { ExportsStore (N.name_of namer) form (bytes_of store.entry) (W.taken sink.old) (W.taken sink.new) result }
+    ensures { ExportsStore (N.name_of namer) form store.items (W.taken sink.old) (W.taken sink.new) result }
 {
     match open(alloc, namer, store, state) {
         Ok(repo) => outcome_of(export_opened(alloc, &repo, form, sink)),

@@ -7,7 +7,7 @@ ghost use Rattle.gx_cli.specs.Parts.{ReadsRangesInto, SendsRangeOf};
 
 use crate::CliFault;
 use crate::log::read_into;
-use crate::opening::{StoreBytes, open};
+use crate::opening::open;
 use crate::serving::{Outcome, outcome_of, refused};
 use crate::words::{refused as refused_word, texts_of};
 use gx_export::{RangeFault, export_range};
@@ -26,11 +26,11 @@ pub(crate) fn export_range_stored<N: Namer + Drop, W: Sink, A: Allocator + Copy>
     namer: N,
     done: bool,
     words: &[&str],
-    store: StoreBytes<'_, A>,
+    store: Vec<u8, A>,
     sink: &mut W,
     state: RandomState,
 ) -> Outcome<A>
-    ensures { SendsRangeOf N.name_of W.taken namer done words.now store.entry sink.old sink.new result }
+    ensures { SendsRangeOf N.name_of W.taken namer done words.now store.items sink.old sink.new result }
 {
     match open(alloc, namer, store, state) {
         Ok(repo) => outcome_of(export_words(alloc, &repo, done, words, sink)),

@@ -3,14 +3,14 @@
 ghost use Rattle.std.specs.Prelude.{Ok};
 ghost use Rattle.gx_import.specs.Exported.{nothing};
 ghost use Rattle.gx_cli.specs.Again.{ImportsAgain, IntoAgain};
-ghost use Rattle.gx_cli.specs.Opening.{bytes_of};
 ghost use Rattle.gx_cli.specs.Serving.{EndsWithText, ImportsInto, ImportsIntoStored, IsLeft, IsWritten};
 ghost use Rattle.gx_cli.specs.declared.fault.CliFault.TheVariants.{Import};
 
 use crate::CliFault;
 use crate::forms::forms_are_imported;
-use crate::opening::{StoreBytes, open};
+use crate::opening::open;
 use crate::serving::{Outcome, refused};
+use gx_file::FileFault;
 use gx_import::{ImportFault, Report, import_asking};
 use gx_model::Features;
 use gx_object::Namer;
@@ -36,7 +36,7 @@ pub(crate) fn init<N: Namer + Drop, A: Allocator + Copy>(
 ///
 /// The store's text is read first. After a refused import the text is that of the last checkpoint; where there was none,
 /// there is no text. There is a report where the import isn't refused, also where there is no memory for the next text.
-/// Cost: that of reading the store's text, of the import, and of the next text.
+/// Cost: that of reading the store's text, of which a copy is made, of the import, and of the next text.
 pub fn import_into<N: Namer + Drop, R: Source + Drop, W: Sink, A: Allocator + Copy>(
     alloc: A,
     namer: N,
@@ -49,22 +49,24 @@ pub fn import_into<N: Namer + Drop, R: Source + Drop, W: Sink, A: Allocator + Co
     ensures imported { ImportsInto (N.name_of namer) features store.now (R.coming source) (W.taken sink.old) (W.taken sink.new) result }
     ensures again { IntoAgain (N.name_of namer) features store.now (R.coming source) result.0 }
 {
-    let store = StoreBytes::Borrowed(store);
-    import_stored(alloc, namer, store, source, sink, features, state)
+    match Vec::from_slice(alloc, store) {
+        Ok(copy) => import_stored(alloc, namer, copy, source, sink, features, state),
+        Err(_) => (refused(CliFault::Store(FileFault::OutOfMemory)), None),
+    }
 }
 
-/// Does what [`import_into`] does, with bytes that are borrowed or owned.
+/// Does what [`import_into`] does, with a text that it is given.
 pub(crate) fn import_stored<N: Namer + Drop, R: Source + Drop, W: Sink, A: Allocator + Copy>(
     alloc: A,
     namer: N,
-    store: StoreBytes<'_, A>,
+    store: Vec<u8, A>,
     source: R,
     sink: &mut W,
     features: Features,
     state: RandomState,
 ) -> (Outcome<A>, Option<Report>)
-    ensures imported { ImportsInto (N.name_of namer) features (bytes_of store.entry) (R.coming source) (W.taken sink.old) (W.taken sink.new) result }
-    ensures again { IntoAgain (N.name_of namer) features (bytes_of store.entry) (R.coming source) result.0 }
+    ensures imported { ImportsInto (N.name_of namer) features store.items (R.coming source) (W.taken sink.old) (W.taken sink.new) result }
+    ensures again { IntoAgain (N.name_of namer) features store.items (R.coming source) result.0 }
 {
     match open(alloc, namer, store, state) {
         Ok(mut repo) => import_opened(alloc, &mut repo, source, sink, features),

@@ -13,7 +13,7 @@ mod identities;
 mod messages;
 
 use crate::lines::{add_lines, lines_from};
-use crate::opening::{StoreBytes, open};
+use crate::opening::open;
 use crate::serving::{Outcome, outcome_of, refused};
 use crate::words::{refused as refused_word, texts_of};
 use crate::{CliFault, LogOptions};
@@ -36,12 +36,12 @@ pub(crate) fn log_stored<N: Namer + Drop, R: Source + Drop, W: Sink, A: Allocato
     namer: N,
     options: LogOptions,
     words: &[&str],
-    store: StoreBytes<'_, A>,
+    store: Vec<u8, A>,
     source: R,
     sink: &mut W,
     state: RandomState,
 ) -> Outcome<A>
-    ensures { LogsStored N.name_of W.taken namer options words.now store.entry (R.coming source) sink.old sink.new result }
+    ensures { LogsStored N.name_of W.taken namer options words.now store.items (R.coming source) sink.old sink.new result }
 {
     match open(alloc, namer, store, state) {
         Ok(repo) => outcome_of(log_opened(alloc, &repo, options, words, source, sink)),

@@ -12,7 +12,6 @@ ghost use Rattle.gx_cli.specs.Answers.{Prints, shown_line};
 ghost use Rattle.gx_cli.specs.Parts.{EvaluatesInto, NamesStore};
 
 use crate::CliFault;
-use crate::opening::StoreBytes;
 use crate::questions::{Question, print_stored};
 use crate::sending::put_text;
 use crate::serving::{Outcome, refused};
@@ -29,11 +28,11 @@ pub(crate) fn names_stored<N: Namer + Drop, W: Sink, A: Allocator + Copy>(
     alloc: A,
     namer: N,
     revisions: &[&str],
-    store: StoreBytes<'_, A>,
+    store: Vec<u8, A>,
     sink: &mut W,
     state: RandomState,
 ) -> Outcome<A>
-    ensures { NamesStore N.name_of W.taken namer revisions.now store.entry sink.old sink.new result }
+    ensures { NamesStore N.name_of W.taken namer revisions.now store.items sink.old sink.new result }
 {
     match texts_of(alloc, revisions) {
         Ok(words) => {

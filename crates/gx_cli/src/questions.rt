@@ -8,7 +8,7 @@ use crate::archiving::print_archive;
 use crate::log::log;
 use crate::ls::list;
 use crate::names::print_names;
-use crate::opening::{StoreBytes, open};
+use crate::opening::open;
 use crate::refs::print_refs;
 use crate::serving::{Outcome, outcome_of, refused};
 use crate::showing::show;
@@ -41,11 +41,11 @@ pub(crate) fn print_stored<N: Namer + Drop, W: Sink, A: Allocator + Copy>(
     alloc: A,
     namer: N,
     question: Question<'_>,
-    store: StoreBytes<'_, A>,
+    store: Vec<u8, A>,
     sink: &mut W,
     state: RandomState,
 ) -> Outcome<A>
-    ensures { AsksStore N.name_of W.taken namer question.entry store.entry sink.old sink.new result }
+    ensures { AsksStore N.name_of W.taken namer question.entry store.items sink.old sink.new result }
 {
     match open(alloc, namer, store, state) {
         Ok(repo) => outcome_of(print_answer(alloc, &repo, question, sink)),

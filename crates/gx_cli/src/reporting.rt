@@ -5,7 +5,7 @@ ghost use Rattle.gx_cli.specs.Explained.{ExplainsOpened, ExplainsStore, KeepsTol
 ghost use Rattle.gx_cli.specs.Reporting.{Reports, ReportsStore, ReportsStored};
 
 use crate::CliFault;
-use crate::opening::{StoreBytes, open};
+use crate::opening::open;
 use crate::storing::import_opened;
 use gx_import::{Explanation, Report};
 use gx_model::Features;
@@ -34,7 +34,7 @@ pub fn import_store_reporting<N: Namer + Drop, R: Source + Drop, W: Sink, A: All
     ensures explained { ExplainsStore N.name_of namer features store.items (R.coming source) result.1 told.new }
     ensures reported { ReportsStore N.name_of namer features store.items (R.coming source) (W.taken sink.old) (W.taken sink.new) result }
 {
-    match open(alloc, namer, StoreBytes::Owned(store), state) {
+    match open(alloc, namer, store, state) {
         Ok(repo) => report_opened(alloc, repo, source, sink, features, told),
         Err(fault) => {
             *told = Explanation::none();

@@ -3,9 +3,9 @@
 ghost use Rattle.std.specs.Prelude.{◌≡◌, Result, ℕ};
 ghost use Rattle.gx_blobs.specs.Naming.{NamesBlobs};
 ghost use Rattle.gx_blobs.specs.declared.blob_names.BlobsFault.{BlobsFault};
-ghost use Rattle.gx_cli.specs.Opening.{bytes_of};
 ghost use Rattle.gx_cli.specs.Again.{ServesExported};
-ghost use Rattle.gx_cli.specs.Serving.{IsOutcome, IsRefused, Serves, blobs_answer, features_of};
+ghost use Rattle.std.specs.Prelude.{◌≡◌, Some};
+ghost use Rattle.gx_cli.specs.Serving.{IsOutcome, IsRefused, Serves, blobs_answer, features_of, without_room};
 
 use crate::adapting::adapt_stream;
 use crate::batching::batch_stored;
@@ -16,10 +16,10 @@ use crate::exporting_range::export_range_stored;
 use crate::importing::{import_stored, init};
 use crate::log::log_stored;
 use crate::names::names_stored;
-use crate::opening::StoreBytes;
 use crate::placing::print_place;
 use crate::questions::{Question, print_stored};
 use crate::{CliFault, Line, blobs, find_fault, try_revision};
+use gx_file::FileFault;
 use gx_import::Explanation;
 use gx_model::Features;
 use gx_object::Namer;
@@ -47,8 +47,8 @@ pub struct Outcome<A: Allocator> {
 ///
 /// Importing what was exported, in any form, makes the repository again, as far as its refs reach: the same refs and object names.
 ///
-/// Cost: that of reading the store's text, where one is read; for `import` also that of the import and the next text, and for
-/// `export` that of the export.
+/// Cost: that of a copy of the store's text, and of reading it, where one is read; for `import` also that of the import
+/// and the next text, and for `export` that of the export.
 pub fn serve<N: Namer + Drop, R: Source + Drop, W: Sink, A: Allocator + Copy>(
     alloc: A,
     namer: N,
@@ -61,15 +61,17 @@ pub fn serve<N: Namer + Drop, R: Source + Drop, W: Sink, A: Allocator + Copy>(
     ensures served { Serves (N.name_of namer) line.now store.now (R.coming source) (W.taken sink.old) (W.taken sink.new) result }
     ensures again { ServesExported (N.name_of namer) line.now store.now (R.coming source) result }
 {
-    let store = StoreBytes::Borrowed(store);
-    serve_bytes(alloc, namer, line, store, source, sink, state)
+    match without_room(line) {
+        Some(fault) => serve_copy(alloc, namer, line, store, fault, source, sink, state),
+        None => serve_owned(alloc, namer, line, Vec::new(alloc), source, sink, state),
+    }
 }
 
 /// Does what [`serve`] does, with a store's text that it is given: what is read of it shares it, and no body is copied.
 ///
 /// The text is let go with the command, however that ends. Where there is no next text, the store's own stays as it was.
 ///
-/// Cost: that of `serve`. Memory: the text, which stands in place of copies of its bodies.
+/// Cost: that of `serve`, but for the copy. Memory: the text, for as long as it is read.
 pub fn serve_owned<N: Namer + Drop, R: Source + Drop, W: Sink, A: Allocator + Copy>(
     alloc: A,
     namer: N,
@@ -81,23 +83,6 @@ pub fn serve_owned<N: Namer + Drop, R: Source + Drop, W: Sink, A: Allocator + Co
 ) -> Outcome<A>
     ensures served { Serves (N.name_of namer) line.now store.items (R.coming source) (W.taken sink.old) (W.taken sink.new) result }
     ensures again { ServesExported (N.name_of namer) line.now store.items (R.coming source) result }
-{
-    let store = StoreBytes::Owned(store);
-    serve_bytes(alloc, namer, line, store, source, sink, state)
-}
-
-/// Does what [`serve`] does, with bytes that are borrowed or owned.
-fn serve_bytes<N: Namer + Drop, R: Source + Drop, W: Sink, A: Allocator + Copy>(
-    alloc: A,
-    namer: N,
-    line: &Line<'_>,
-    store: StoreBytes<'_, A>,
-    source: R,
-    sink: &mut W,
-    state: RandomState,
-) -> Outcome<A>
-    ensures served { Serves (N.name_of namer) line.now (bytes_of store.entry) (R.coming source) (W.taken sink.old) (W.taken sink.new) result }
-    ensures again { ServesExported (N.name_of namer) line.now (bytes_of store.entry) (R.coming source) result }
 {
     match line {
         Line::Blobs => outcome_of(blobs_alone(alloc, namer, source, sink, state)),
@@ -193,6 +178,44 @@ fn serve_bytes<N: Namer + Drop, R: Source + Drop, W: Sink, A: Allocator + Copy>(
         Line::RevParse { file: _, revisions } => {
             names_stored(alloc, namer, revisions.as_slice(), store, sink, state)
         }
+    }
+}
+
+/// Does what [`serve`] does with a command that reads a store's text, and is refused for this where there is no memory for
+/// a copy of it.
+fn serve_copy<N: Namer + Drop, R: Source + Drop, W: Sink, A: Allocator + Copy>(
+    alloc: A,
+    namer: N,
+    line: &Line<'_>,
+    store: &[u8],
+    fault: CliFault,
+    source: R,
+    sink: &mut W,
+    state: RandomState,
+) -> Outcome<A>
+    requires room { without_room line.now ≡ Some fault }
+    ensures served { Serves (N.name_of namer) line.now store.now (R.coming source) (W.taken sink.old) (W.taken sink.new) result }
+    ensures again { ServesExported (N.name_of namer) line.now store.now (R.coming source) result }
+{
+    match Vec::from_slice(alloc, store) {
+        Ok(copy) => serve_owned(alloc, namer, line, copy, source, sink, state),
+        Err(_) => refused(fault),
+    }
+}
+
+/// Why a command is refused where there is no memory for its store's text; none where it has no use for one.
+fn without_room(line: &Line<'_>) -> Option<CliFault>
+    ensures { result ≡ without_room line.now }
+{
+    match line {
+        Line::Blobs
+        | Line::Try { .. }
+        | Line::Adapt { .. }
+        | Line::Where(_)
+        | Line::WhereFault { .. }
+        | Line::Init { .. } => None,
+        Line::Batch { .. } => Some(CliFault::OutOfMemory),
+        _ => Some(CliFault::Store(FileFault::OutOfMemory)),
     }
 }
 

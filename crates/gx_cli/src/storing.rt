@@ -11,7 +11,7 @@ ghost use Rattle.gx_cli.specs.declared.fault.CliFault.TheVariants.{WriteFailed};
 
 use crate::CliFault;
 use crate::forms::forms_are_imported;
-use crate::opening::{StoreBytes, open};
+use crate::opening::open;
 use gx_file::write_to;
 use gx_import::{Explanation, Report, import_explained};
 use gx_model::Features;
@@ -43,7 +43,7 @@ pub fn import_store<N: Namer + Drop, R: Source + Drop, W: Sink, A: Allocator + C
     ensures explained { ExplainsStore N.name_of namer features store.items (R.coming source) result.1 told.new }
     ensures again { ImportsStoredAgain N.name_of namer features (store_of (N.name_of namer) store.items) (R.coming source) result }
 {
-    match open(alloc, namer, StoreBytes::Owned(store), state) {
+    match open(alloc, namer, store, state) {
         Ok(repo) => import_opened(alloc, repo, source, sink, features, told),
         Err(fault) => {
             *told = Explanation::none();

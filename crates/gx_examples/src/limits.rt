@@ -85,16 +85,16 @@ fn failed_device_is_no_end(rt: HostRuntime) -> Result<(), Fail> {
     try_all(rt.alloc(), script, Task::Stop(Stop::Cut), state)
 }
 
-/// Three and four bodies are copied of texts that are lent, and none of one that is given, of which the owners are counted.
+/// A text that is lent is copied once, whatever it holds, and one that is given isn't.
 #[test]
 fn each_refused_growth_of_a_command_is_out_of_memory(rt: HostRuntime) -> Result<(), Fail> {
     let state = RandomState::new(&rt)?;
     try_all(rt.alloc(), COMMANDS, Task::Growths, state)?;
     try_all(rt.alloc(), ROUGH_LINES, Task::Growths, state)?;
     let script = "$ refs store %% ref of first %% root";
-    try_all(rt.alloc(), script, Task::Copies(2), state)?;
+    try_all(rt.alloc(), script, Task::Copies(1), state)?;
     let script = "$ refs store %% refs of version %% version";
-    try_all(rt.alloc(), script, Task::Copies(3), state)
+    try_all(rt.alloc(), script, Task::Copies(1), state)
 }
 
 /// Where a command stops.

@@ -1,6 +1,5 @@
 use Rattle.std.proofs.Common.{inr}
 use Rattle.gx_model.specs.Stores.StoreReading.{store_of}
-use Rattle.gx_cli.specs.Opening.{bytes_of}
 use Rattle.gx_cli.specs.Serving.{LogsOf}
 use Rattle.gx_text.specs.Lent.{lent_texts}
 use Rattle.gx_cli.proofs.ReadStores.{of_read}
@@ -8,6 +7,6 @@ use Rattle.gx_cli.proofs.log.log_stored.Goals as goal
 
 pub returns-in-Ok : goal.returns-in-Ok
 returns-in-Ok g c =
-    of_read c.args.namer c.in-Ok.repo (store_of (g.N.Namer.name_of c.args.namer) (bytes_of c.args.store))
+    of_read c.args.namer c.in-Ok.repo (store_of (g.N.Namer.name_of c.args.namer) c.args.store.items)
     (λ namer stored. LogsOf (g.N.Namer.name_of namer) c.args.options stored (lent_texts c.args.words.now) (g.R.Source.coming c.args.source) (g.W.Sink.taken c.args.sink.now) (g.W.Sink.taken c.log_opened.new.sink) c.outcome_of.result)
     c.in-Ok.ensures.namer c.in-Ok.ensures.store (inr (c.log_opened.result, c.log_opened.ensures, c.outcome_of.ensures))

@@ -1,11 +1,10 @@
 use Rattle.gx_model.specs.Stores.StoreReading.{store_of}
 use Rattle.gx_cli.specs.Collecting.{CollectsStored}
-use Rattle.gx_cli.specs.Opening.{bytes_of}
 use Rattle.gx_cli.proofs.ReadStores.{of_read}
-use Rattle.gx_cli.proofs.collecting.collect.Goals as goal
+use Rattle.gx_cli.proofs.collecting.collect_store.Goals as goal
 
 pub returns-in-Ok : goal.returns-in-Ok
 returns-in-Ok g c =
-    of_read c.args.namer c.in-Ok.repo (store_of (g.N.Namer.name_of c.args.namer) (bytes_of c.args.store))
+    of_read c.args.namer c.in-Ok.repo (store_of (g.N.Namer.name_of c.args.namer) c.args.store.items)
     (λ namer stored. CollectsStored g.N.Namer.name_of namer stored c.collect_opened.result)
     c.in-Ok.ensures.namer c.in-Ok.ensures.store c.collect_opened.ensures

@@ -2,7 +2,6 @@
 //! What is read is a sound repository, and its text is the one that was read.
 #![tactic(auto)]
 
-mod bodies;
 mod lines;
 mod reading;
 mod records;

@@ -6,36 +6,35 @@ ghost use Rattle.gx_model.specs.Texts.{same_bytes};
 ghost use Rattle.gx_model.specs.Stores.StoreReading.{kind_words, length_field, record_line, stored_body};
 ghost use Rattle.gx_file.specs.Faults.{Reads};
 ghost use Rattle.gx_model.specs.Faults.{NeedsNoMemory};
-ghost use Rattle.gx_file.specs.Reading.{AddsStated, ChecksName, ReadsRecord, ReadsRecords};
-ghost use Rattle.gx_file.specs.TextEnds.{IsEndOfText};
+ghost use Rattle.gx_file.specs.Reading.{AddsBody, AddsStated, ChecksName, ReadsRecord, ReadsRecords};
+ghost use Rattle.gx_file.specs.TextEnds.{EndsWith};
 ghost use Rattle.gx_file.specs.Texts.{shown_heading, shown_length};
 ghost use Rattle.gx_text.specs.Lent.{lent_pair};
 
 use crate::FileFault;
-use crate::bodies::Bodies;
 use crate::lines::{read_line, read_number};
 use gx_model::Version;
 use gx_object::{Kind, Name, Namer};
-use gx_repo::{AddFault, Repo};
+use gx_repo::{AddFault, Body, Repo, Text, TextRange};
 use gx_text::cut;
 use std::alloc::Allocator;
 
 /// Adds the records that come next, so many of them, and answers what follows them.
 pub(crate) fn read_records<'a, N: Namer, A: Allocator + Copy>(
     repo: &mut Repo<N, A>,
-    bodies: &Bodies<'_, A>,
+    whole: &Text<A>,
     version: Version,
     count: u64,
     text: &'a [u8],
 ) -> Result<&'a [u8], FileFault>
-    requires left { IsEndOfText bodies.now text.now }
+    requires left { EndsWith whole.now text.now }
     ensures namer { repo.new.0 ≡ repo.old.0 }
     ensures refs { repo.new.1.refs ≡ repo.old.1.refs }
     ensures records { ReadsRecords N.name_of repo.old repo.new version count text.now result }
 {
     let mut rest = text;
     for _ in 0..count {
-        rest = read_record(repo, bodies, version, rest)?;
+        rest = read_record(repo, whole, version, rest)?;
     }
     Ok(rest)
 }
@@ -43,22 +42,22 @@ pub(crate) fn read_records<'a, N: Namer, A: Allocator + Copy>(
 /// Adds the record that comes next, and answers what follows it.
 fn read_record<'a, N: Namer, A: Allocator + Copy>(
     repo: &mut Repo<N, A>,
-    bodies: &Bodies<'_, A>,
+    whole: &Text<A>,
     version: Version,
     text: &'a [u8],
 ) -> Result<&'a [u8], FileFault>
-    requires left { IsEndOfText bodies.now text.now }
+    requires left { EndsWith whole.now text.now }
     ensures namer { repo.new.0 ≡ repo.old.0 }
     ensures refs { repo.new.1.refs ≡ repo.old.1.refs }
     ensures record { ReadsRecord N.name_of repo.old repo.new version text.now result }
-    ensures left { IfOk result (λ rest. IsEndOfText bodies.now rest.now) }
+    ensures left { IfOk result (λ rest. EndsWith whole.now rest.now) }
 {
     let (line, rest) = read_line(text)?;
     let Some((kind, (length, stated))) = record_line(version, line) else {
         return Err(FileFault::BadRecord);
     };
     let (body, rest) = read_body(length, rest)?;
-    add(repo, bodies, stated, kind, body, rest)?;
+    add(repo, whole, stated, kind, body, rest)?;
     Ok(rest)
 }
 
@@ -68,24 +67,44 @@ fn read_record<'a, N: Namer, A: Allocator + Copy>(
 /// Adding a record makes its name. So only one that is refused is named here again, to tell which of its faults is first.
 fn add<N: Namer, A: Allocator + Copy>(
     repo: &mut Repo<N, A>,
-    bodies: &Bodies<'_, A>,
+    whole: &Text<A>,
     stated: Option<Name>,
     kind: Kind,
     body: &[u8],
     rest: &[u8],
 ) -> Result<(), FileFault>
-    requires left { IsEndOfText bodies.now (body.now ++ 10 ∷ rest.now) }
+    requires left { EndsWith whole.now (body.now ++ 10 ∷ rest.now) }
     ensures namer { repo.new.0 ≡ repo.old.0 }
     ensures refs { repo.new.1.refs ≡ repo.old.1.refs }
     ensures record { AddsStated N.name_of repo.old repo.new stated kind body.now result }
 {
-    match bodies.add_record(repo, kind, body, rest) {
+    match add_body(repo, whole, kind, body, rest) {
         Ok(name) => check_name(stated, &name),
         Err(AddFault::OutOfMemory) => Err(FileFault::OutOfMemory),
         Err(fault) => {
             check_name(stated, &repo.store().name(kind, body))?;
             Err(FileFault::from(fault))
         }
+    }
+}
+
+/// Adds a record of which nothing is known. Its body stands in the text, in front of an LF and what is left of it.
+fn add_body<N: Namer, A: Allocator + Copy>(
+    repo: &mut Repo<N, A>,
+    whole: &Text<A>,
+    kind: Kind,
+    body: &[u8],
+    rest: &[u8],
+) -> Result<Name, AddFault>
+    requires left { EndsWith whole.now (body.now ++ 10 ∷ rest.now) }
+    ensures namer { repo.new.0 ≡ repo.old.0 }
+    ensures refs { repo.new.1.refs ≡ repo.old.1.refs }
+    ensures adds { AddsBody N.name_of repo.old repo.new kind body.now result }
+{
+    let end = whole.as_slice().len() - rest.len() - 1;
+    match TextRange::new(whole, end - body.len(), end) {
+        Ok(range) => repo.add_body(kind, Body::Within(range)),
+        Err(_) => Err(AddFault::OutOfMemory),
     }
 }
 

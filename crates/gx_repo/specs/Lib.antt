@@ -8,7 +8,6 @@ pub mod Refs
 pub mod Rooms
 pub mod Places
 pub mod Records
-pub mod GivenBytes
 pub mod Checking
 pub mod Earlier
 pub mod FileFaults

@@ -6,7 +6,6 @@ mod checking;
 mod dropping;
 mod earlier;
 mod fault;
-mod given;
 mod pruning;
 mod publishing;
 mod ref_list;
@@ -16,7 +15,7 @@ mod reporting;
 mod rooms;
 
 pub use fault::{AddFault, DropFault, OutOfMemory, PublishFault};
-pub use gx_store::{StoreFault, Text};
+pub use gx_store::{Body, StoreFault, Text, TextRange};
 pub use pruning::Pruned;
 pub use publishing::RefChange;
 pub use ref_list::RefList;

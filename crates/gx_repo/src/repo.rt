@@ -1,7 +1,6 @@
 //! Repositories: a store of objects, and refs that hold some of them.
-ghost use Rattle.std.specs.Prelude.{◌≡◌, ◌≤◌, [], length, map, take, Some, None, IsTrue, IfOk, IfErr, IsOkAnd, OnOk, OnErr};
+ghost use Rattle.std.specs.Prelude.{◌≡◌, [], map, take, Some, None, IsTrue, IfOk, IfErr, IsOkAnd, OnOk, OnErr};
 ghost use Rattle.std.specs.FinMap.Entries.{is_sorted};
-ghost use Rattle.std.specs.List.{slice_range};
 ghost use Rattle.gx_model.specs.declared.objects.Kind.TheVariants as kinds;
 ghost use Rattle.gx_model.specs.Texts.{byte_cmp};
 ghost use Rattle.gx_model.specs.Revisions.Denotation.{ref_names};
@@ -14,12 +13,12 @@ ghost use Rattle.gx_model.specs.Laws.RepositoryLaws.{with_records};
 ghost use Rattle.gx_model.specs.Records.Sound.{Holds, IsLinked, IsNamedMap, IsSound, Keeps};
 ghost use Rattle.gx_model.specs.Histories.Values.{blob_value, is_optional_encoding};
 ghost use Rattle.gx_object.specs.Parts.{bytes_if, commit_parts, tag_parts};
+ghost use Rattle.gx_store.specs.Bodies.{bytes_of};
 ghost use Rattle.gx_tree.specs.Named.{IsAtHome};
 ghost use Rattle.gx_tree.specs.StoreFaults.{tree_fault};
 ghost use Rattle.gx_repo.specs.Additions.{Adds, IsWriteFault, commit_record, tag_record, value_among};
 ghost use Rattle.gx_repo.specs.Publishing.{IsAgainstChange, IsAgainstFirst, fault_of};
 ghost use Rattle.gx_model.specs.Records.Publishing.{change_fault, changes_fault, published};
-ghost use Rattle.gx_repo.specs.GivenBytes.{IsInText, bytes_given};
 ghost use Rattle.gx_repo.specs.Refs.{FindsFirst, FindsObject, HasTagParts, TellsOwnRef, shown_update, shown_ref};
 ghost use Rattle.gx_repo.specs.Rooms.{room_below};
 ghost use Rattle.gx_repo.specs.Calls.{AddsAnew, AddsObject, AddsTree, GainsObject, GainsTree, GainsValue, HasShortPathsBelow, NamesValue, commit_given, tag_given, tree_given};
@@ -29,7 +28,6 @@ ghost use Rattle.gx_repo.specs.Checking.{MayRefuse};
 use crate::checking::entered_room;
 use crate::earlier::Hints;
 use crate::fault::{AddFault, OutOfMemory, PublishFault};
-use crate::given::Given;
 use crate::publishing::{RefChange, set_refs};
 use crate::refs::{Ref, Refs, find_by_names, find_near};
 use crate::rooms::enter_room;
@@ -38,10 +36,10 @@ use gx_model::repository_laws::{
 };
 use gx_model::store_laws::records_are_taken;
 use gx_object::{CommitParts, Kind, Name, Namer, TagParts, decode_tag, encode_commit, encode_tag};
-use gx_store::{Store, StoreFault, Text};
+use gx_store::{Body, Store, StoreFault};
 use gx_text::is_ref_name;
 use gx_tree::{PathTree, TreeFault};
-use std::alloc::Allocator;
+use std::alloc::{AllocError, Allocator};
 use std::hash::RandomState;
 use std::marker::Model;
 
@@ -150,7 +148,7 @@ impl<N: Namer, A: Allocator + Copy> Repo<N, A> {
     /// Adds a blob, and answers its name. One that is held already is not added again.
     ///
     /// NameHeld comes only where the name is held for another object; after a fault the repository is as it was.
-    /// Cost: that of `Store::put`. Source: gitglossary(7), "blob object".
+    /// Cost: that of `add_blob_owned`, and a copy of the bytes. Source: gitglossary(7), "blob object".
     pub fn add_blob(&mut self, body: &[u8]) -> Result<Name, StoreFault>
         ensures namer { self.new.0 ≡ self.old.0 }
         ensures adds { AddsObject N.name_of self.old self.new kinds.Blob body.now result }
@@ -160,13 +158,16 @@ impl<N: Namer, A: Allocator + Copy> Repo<N, A> {
         ensures held { IfOk result (λ name. Holds self.new.1.records kinds.Blob name.bytes) }
         ensures keeps { Keeps self.old.1.records self.new.1.records }
     {
-        self.add(Kind::Blob, &Given::Copied(body), 0)
+        let Ok(copy) = Vec::from_slice(self.alloc, body) else {
+            return Err(StoreFault::OutOfMemory);
+        };
+        self.add_blob_owned(copy)
     }
 
     /// Does what `add_blob` does, but takes no copy of the bytes: the repository keeps these, or drops them where the blob
     /// is held already or isn't added.
     ///
-    /// The errors are those of `add_blob`. Cost: that of `Store::put_owned`. Source: gitglossary(7), "blob object".
+    /// The errors are those of `add_blob`. Cost: that of `Store::put_body`. Source: gitglossary(7), "blob object".
     pub fn add_blob_owned(&mut self, body: Vec<u8, A>) -> Result<Name, StoreFault>
         ensures namer { self.new.0 ≡ self.old.0 }
         ensures adds { AddsObject N.name_of self.old self.new kinds.Blob body.items result }
@@ -176,10 +177,7 @@ impl<N: Namer, A: Allocator + Copy> Repo<N, A> {
         ensures held { IfOk result (λ name. Holds self.new.1.records kinds.Blob name.bytes) }
         ensures keeps { Keeps self.old.1.records self.new.1.records }
     {
-        links_tell_values();
-        puts_add_values();
-        let name = self.store.put_owned(Kind::Blob, body)?;
-        Ok(name)
+        self.add(Kind::Blob, Body::Own(body), 0)
     }
 
     /// Adds the canonical trees of a tree's files, those below first, and answers the name of the root's.
@@ -248,7 +246,7 @@ impl<N: Namer, A: Allocator + Copy> Repo<N, A> {
     /// Adds a commit whose tree and parents are held, and answers its name. One that is held already is not added again.
     ///
     /// NameHeld comes only where the name is held for another object; after a fault the repository is as it was.
-    /// Cost: that of `Store::put`. Source: gitglossary(7), "commit object".
+    /// Cost: that of `Store::put_body`, and a copy of the body. Source: gitglossary(7), "commit object".
     pub fn add_commit(&mut self, parts: &CommitParts<'_>) -> Result<Name, StoreFault>
         requires encoding { IsTrue (is_optional_encoding (commit_parts parts.now).text.encoding) }
         requires tree { Holds self.now.1.records kinds.Tree (commit_parts parts.now).tree }
@@ -264,13 +262,16 @@ impl<N: Namer, A: Allocator + Copy> Repo<N, A> {
         let Ok(body) = encode_commit(self.alloc, parts) else {
             return Err(StoreFault::OutOfMemory);
         };
-        self.add(Kind::Commit, &Given::Copied(&body), 0)
+        let Ok(copy) = copied(self.alloc, &body) else {
+            return Err(StoreFault::OutOfMemory);
+        };
+        self.add(Kind::Commit, copy, 0)
     }
 
     /// Adds a tag whose commit is held, and answers its name. One that is held already is not added again.
     ///
     /// NameHeld comes only where the name is held for another object; after a fault the repository is as it was.
-    /// Cost: that of `Store::put`. Source: gitglossary(7), "tag object".
+    /// Cost: that of `Store::put_body`, and a copy of the body. Source: gitglossary(7), "tag object".
     pub fn add_tag(&mut self, parts: &TagParts<'_>) -> Result<Name, StoreFault>
         requires name { IsTrue (is_tag_name (tag_parts parts.now).name) }
         requires object { Holds self.now.1.records kinds.Commit (tag_parts parts.now).object }
@@ -285,48 +286,56 @@ impl<N: Namer, A: Allocator + Copy> Repo<N, A> {
         let Ok(body) = encode_tag(self.alloc, parts) else {
             return Err(StoreFault::OutOfMemory);
         };
-        self.add(Kind::Tag, &Given::Copied(&body), 0)
+        let Ok(copy) = copied(self.alloc, &body) else {
+            return Err(StoreFault::OutOfMemory);
+        };
+        self.add(Kind::Tag, copy, 0)
     }
 
     /// Adds a record of which nothing is known, and answers its name.
     ///
-    /// What it has against it is answered in this order. `BadObject`: the body isn't a canonical one of its kind.
-    /// `Dangling`: a link isn't held, or is held as another kind. `BadObject`: an entry names a tree without entries, or a
-    /// path below the tree has more than 4,095 bytes. `DuplicateObject`: the name is held, whatever its bytes.
-    /// `OutOfMemory`: a growth was refused. After a fault the repository is as it was.
-    /// Cost: that of `Store::put`, and a look-up for each link, but for a file's that stands alike in the tree beside which a
-    /// new one is looked at: one that was added here, with the same first or the same last entry, and not much over twice as
-    /// long. Each entry of both is looked at once, and so are those of the trees that were added since the last such call.
-    /// Source: Pro Git, "Git Objects".
+    /// The errors are those of `add_body`. Cost: that of it, and a copy of the bytes. Source: Pro Git, "Git Objects".
     pub fn add_record(&mut self, kind: Kind, body: &[u8]) -> Result<Name, AddFault>
         ensures namer { self.new.0 ≡ self.old.0 }
         ensures adds { AddsAnew N.name_of self.old self.new kind body.now result }
         ensures refs { self.new.1.refs ≡ self.old.1.refs }
         ensures history { GainsObject self.old self.new kind body.now result }
     {
-        self.add_given(kind, &Given::Copied(body))
+        let Ok(copy) = Vec::from_slice(self.alloc, body) else {
+            return Err(AddFault::OutOfMemory);
+        };
+        self.add_body(kind, Body::Own(copy))
     }
 
-    /// Does what `add_record` does with the bytes of a text from one place up to another, but takes no copy of them: the
-    /// repository shares the text.
+    /// Adds a record of which nothing is known, and answers its name. The repository keeps the body, and no copy of it; or
+    /// drops it where it isn't added.
     ///
-    /// The errors are those of `add_record`. Cost: that of `Store::put_within`, and otherwise that of `add_record`. Source:
-    /// Pro Git, "Git Objects".
-    pub fn add_record_within(
-        &mut self,
-        kind: Kind,
-        text: &Text<A>,
-        start: usize,
-        end: usize,
-    ) -> Result<Name, AddFault>
-        requires ordered { start ≤ end }
-        requires within { end ≤ length text.now }
+    /// What it has against it is answered in this order. `BadObject`: the body isn't a canonical one of its kind.
+    /// `Dangling`: a link isn't held, or is held as another kind. `BadObject`: an entry names a tree without entries, or
+    /// a path below the tree has more than 4,095 bytes. `DuplicateObject`: the name is held, whatever its bytes.
+    /// `OutOfMemory`: a growth was refused. After a fault the repository is as it was.
+    /// Cost: that of `Store::put_body`, and a look-up for each link, but for a file's that stands alike in the tree
+    /// beside which a new one is looked at: one that was added here, with the same first or the same last entry, and not
+    /// much over twice as long. Each entry of both is looked at once, and so are those of the trees that were added since
+    /// the last such call. Source: Pro Git, "Git Objects".
+    pub fn add_body(&mut self, kind: Kind, body: Body<A>) -> Result<Name, AddFault>
         ensures namer { self.new.0 ≡ self.old.0 }
-        ensures adds { AddsAnew N.name_of self.old self.new kind (slice_range text.now start end) result }
+        ensures adds { AddsAnew N.name_of self.old self.new kind (bytes_of body) result }
         ensures refs { self.new.1.refs ≡ self.old.1.refs }
-        ensures history { GainsObject self.old self.new kind (slice_range text.now start end) result }
+        ensures history { GainsObject self.old self.new kind (bytes_of body) result }
     {
-        self.add_given(kind, &Given::Within(text, start, end))
+        records_are_taken();
+        let room = self.room_of(kind, body.as_slice())?;
+        let held = self.store.len();
+        let name = match self.add(kind, body, room) {
+            Ok(name) => name,
+            Err(StoreFault::NameHeld) => return Err(AddFault::DuplicateObject),
+            Err(StoreFault::OutOfMemory) => return Err(AddFault::OutOfMemory),
+        };
+        if self.store.len() == held {
+            return Err(AddFault::DuplicateObject);
+        }
+        Ok(name)
     }
 
     /// Sets all of these refs, or none. A later change of one name wins, and refs that are not named stay.
@@ -362,28 +371,6 @@ impl<N: Namer, A: Allocator + Copy> Repo<N, A> {
         self.rooms.truncate(len);
     }
 
-    /// Adds a record of which nothing is known.
-    fn add_given(&mut self, kind: Kind, given: &Given<'_, A>) -> Result<Name, AddFault>
-        requires in_text { IsInText given.now }
-        ensures namer { self.new.0 ≡ self.old.0 }
-        ensures adds { AddsAnew N.name_of self.old self.new kind (bytes_given given.now) result }
-        ensures refs { self.new.1.refs ≡ self.old.1.refs }
-        ensures history { GainsObject self.old self.new kind (bytes_given given.now) result }
-    {
-        records_are_taken();
-        let room = self.room_of(kind, given.as_slice())?;
-        let held = self.store.len();
-        let name = match self.add(kind, given, room) {
-            Ok(name) => name,
-            Err(StoreFault::NameHeld) => return Err(AddFault::DuplicateObject),
-            Err(StoreFault::OutOfMemory) => return Err(AddFault::OutOfMemory),
-        };
-        if self.store.len() == held {
-            return Err(AddFault::DuplicateObject);
-        }
-        Ok(name)
-    }
-
     /// The room of what is below an object, or what its body has against it. The rooms of all records are entered before,
     /// and the place at which a tree is to stand behind.
     fn room_of(&mut self, kind: Kind, body: &[u8]) -> Result<usize, AddFault>
@@ -402,23 +389,22 @@ impl<N: Namer, A: Allocator + Copy> Repo<N, A> {
     }
 
     /// Puts an object whose links are held, with the room of what is below it where all before it have theirs.
-    fn add(&mut self, kind: Kind, given: &Given<'_, A>, room: usize) -> Result<Name, StoreFault>
-        requires in_text { IsInText given.now }
-        requires linked { IsLinked self.now.1.records kind (bytes_given given.now) }
-        requires short { HasShortPathsBelow N.name_of self.now kind (bytes_given given.now) }
-        requires room { room ≡ room_below self.now.1.records kind (bytes_given given.now) }
+    fn add(&mut self, kind: Kind, body: Body<A>, room: usize) -> Result<Name, StoreFault>
+        requires linked { IsLinked self.now.1.records kind (bytes_of body) }
+        requires short { HasShortPathsBelow N.name_of self.now kind (bytes_of body) }
+        requires room { room ≡ room_below self.now.1.records kind (bytes_of body) }
         ensures namer { self.new.0 ≡ self.old.0 }
-        ensures adds { AddsObject N.name_of self.old self.new kind (bytes_given given.now) result }
+        ensures adds { AddsObject N.name_of self.old self.new kind (bytes_of body) result }
         ensures refs { self.new.1.refs ≡ self.old.1.refs }
-        ensures history { GainsObject self.old self.new kind (bytes_given given.now) result }
-        ensures value { NamesValue self.old (value_among self.old.1.records kind (bytes_given given.now)) result }
+        ensures history { GainsObject self.old self.new kind (bytes_of body) result }
+        ensures value { NamesValue self.old (value_among self.old.1.records kind (bytes_of body)) result }
         ensures held { IfOk result (λ name. Holds self.new.1.records kind name.bytes) }
         ensures keeps { Keeps self.old.1.records self.new.1.records }
     {
         links_tell_values();
         puts_add_values();
         let held = self.store.len();
-        let name = given.put(&mut self.store, kind)?;
+        let name = self.store.put_body(kind, body)?;
         let Ok(()) = enter_room(&self.store, &mut self.rooms, held, room) else {
             self.store.truncate(held);
             return Err(StoreFault::OutOfMemory);
@@ -454,6 +440,14 @@ impl<N: Namer, A: Allocator + Copy> Repo<N, A> {
             Err(PublishFault::WrongKind)
         }
     }
+}
+
+/// A body of a copy of these bytes, which has no room behind them.
+fn copied<A: Allocator + Copy>(alloc: A, bytes: &[u8]) -> Result<Body<A>, AllocError>
+    ensures { IfOk result (λ body. bytes_of body ≡ bytes.now) }
+{
+    let copy = Vec::from_slice(alloc, bytes)?;
+    Ok(Body::Own(copy))
 }
 
 /// The commit that a tag's body names.

@@ -2,7 +2,7 @@
 
 use gx_devices::{Refusing, ShortNamer};
 use gx_object::{Kind, Name};
-use gx_store::{Prefix, Store, StoreFault, Text};
+use gx_store::{Body, Prefix, Store, StoreFault, Text, TextRange};
 use std::alloc::{AllocError, Allocator, Global};
 use std::hash::RandomState;
 use std::test::Fail;
@@ -120,7 +120,7 @@ fn give(
     body: &[u8],
 ) -> Result<Name, StoreFault> {
     match Vec::from_slice(alloc, body) {
-        Ok(bytes) => store.put_owned(kind, bytes),
+        Ok(bytes) => store.put_body(kind, Body::Own(bytes)),
         Err(_) => Err(StoreFault::OutOfMemory),
     }
 }
@@ -132,10 +132,12 @@ fn share<A: Allocator + Copy>(
     text: Text<A>,
     (start, end): (usize, usize),
 ) -> Result<Name, StoreFault> {
-    if start <= end && end <= text.as_slice().len() {
-        store.put_within(kind, &text, start, end)
-    } else {
-        Err(StoreFault::OutOfMemory)
+    if start > end || end > text.as_slice().len() {
+        return Err(StoreFault::OutOfMemory);
+    }
+    match TextRange::new(&text, start, end) {
+        Ok(range) => store.put_body(kind, Body::Within(range)),
+        Err(_) => Err(StoreFault::OutOfMemory),
     }
 }
 

@@ -1,19 +1,23 @@
 //! The bytes of an object, which are its own or stand in a text that others share.
+
 ghost use Rattle.std.specs.Prelude.{◌≡◌};
 ghost use Rattle.gx_store.specs.Bodies.{bytes_of};
 
-use crate::text::Range;
+use crate::TextRange;
 use std::alloc::Allocator;
 
-/// An object's body: bytes of its own, or a range of a text.
+/// An object's body.
 #[derive(Drop)]
-pub(crate) enum Body<A: Allocator> {
+pub enum Body<A: Allocator> {
+    /// Bytes of its own.
     Own(Vec<u8, A>),
-    Within(Range<A>),
+    /// Bytes of a text, which stay there.
+    Within(TextRange<A>),
 }
 
 impl<A: Allocator> Body<A> {
-    pub(crate) fn as_slice(&self) -> &[u8]
+    /// Its bytes. Takes no memory.
+    pub fn as_slice(&self) -> &[u8]
         ensures { result.now ≡ bytes_of self.now }
     {
         match self {

@@ -9,7 +9,8 @@ mod prefix;
 mod store;
 mod text;
 
+pub use body::Body;
 pub use fault::StoreFault;
 pub use prefix::Prefix;
 pub use store::Store;
-pub use text::Text;
+pub use text::{Text, TextRange};

@@ -1,7 +1,6 @@
 //! The records of a repository, by their names and by their places.
 
-ghost use Rattle.std.specs.Prelude.{◌≡◌, ◌≤◌, ◌↔◌, length, [], drop, map, slice_get, take, None, IsTrue};
-ghost use Rattle.std.specs.List.{slice_range};
+ghost use Rattle.std.specs.Prelude.{◌≡◌, ◌↔◌, length, [], drop, map, slice_get, take, None, IsTrue};
 ghost use Rattle.std.specs.Option.{option_map};
 ghost use Rattle.gx_model.specs.Records.Growth.{record_named};
 ghost use Rattle.gx_model.specs.Records.Lookups.{records_begun_by};
@@ -11,11 +10,9 @@ ghost use Rattle.gx_store.specs.Marked.{first_mark, marked};
 ghost use Rattle.gx_store.specs.Prefixes.{prefix_of};
 ghost use Rattle.gx_store.specs.Objects.{shown_stored};
 
-use crate::body::Body;
 use crate::fronts::Fronts;
 use crate::prefix::names_begun_by;
-use crate::text::Range;
-use crate::{Prefix, StoreFault, Text};
+use crate::{Body, Prefix, StoreFault};
 use gx_object::{Kind, Name, Namer};
 use indexmap::IndexMap;
 use std::alloc::Allocator;
@@ -105,48 +102,20 @@ impl<N: Namer, A: Allocator + Copy> Store<N, A> {
         self.insert(name, Object { kind, body })
     }
 
-    /// Does what `put` does, but takes no copy of the bytes: it keeps these, or drops them where the object is held
-    /// already or isn't put.
+    /// Does what `put` does, but keeps this body in place of a copy. It is dropped where the object is held already or
+    /// isn't put.
     ///
     /// The errors are those of `put`. Cost: that of `put`, but for the copy.
-    pub fn put_owned(&mut self, kind: Kind, body: Vec<u8, A>) -> Result<Name, StoreFault>
+    pub fn put_body(&mut self, kind: Kind, body: Body<A>) -> Result<Name, StoreFault>
         ensures namer { self.new.0 ≡ self.old.0 }
-        ensures puts { PutsObject N.name_of self.old self.new kind body.items result }
+        ensures puts { PutsObject N.name_of self.old self.new kind (bytes_of body) result }
     {
         let name = self.namer.name(kind, body.as_slice());
         if self.is_held(&name, kind, body.as_slice())? {
             return Ok(name);
         }
-        let body = Body::Own(body);
-        self.insert(name, Object { kind, body })
-    }
-
-    /// Does what `put` does with the bytes of a text from one place up to another, but takes no copy of them: it shares
-    /// the text. Where the object is held already or isn't put, the text has no owner more than before.
-    ///
-    /// The errors are those of `put`. Cost: that of `put`, but for the copy.
-    pub fn put_within(
-        &mut self,
-        kind: Kind,
-        text: &Text<A>,
-        start: usize,
-        end: usize,
-    ) -> Result<Name, StoreFault>
-        requires ordered { start ≤ end }
-        requires within { end ≤ length text.now }
-        ensures namer { self.new.0 ≡ self.old.0 }
-        ensures puts { PutsObject N.name_of self.old self.new kind (slice_range text.now start end) result }
-    {
-        let body = &text.as_slice()[start..end];
-        let name = self.namer.name(kind, body);
-        if self.is_held(&name, kind, body)? {
-            return Ok(name);
-        }
-        let Ok(text) = text.shared() else {
-            return Err(StoreFault::OutOfMemory);
-        };
-        let body = Body::Within(Range::new(text, start, end));
-        self.insert(name, Object { kind, body })
+        let object = Object { kind, body };
+        self.insert(name, object)
     }
 
     /// The kind and the body of the object with this name. Cost: constant, as expected of hashes. Takes no memory.

@@ -40,8 +40,8 @@ impl<A: Allocator> Text<A> {
         self.bytes.as_slice()
     }
 
-    /// The same text once more, which is refused only where the count of its owners is full. Takes no memory.
-    pub fn shared(&self) -> Result<Text<A>, AllocError>
+    /// The same text once more, which is refused only where the count of its owners is full.
+    fn shared(&self) -> Result<Text<A>, AllocError>
         ensures { IfOk result (λ text. text ≡ self.now) }
     {
         let bytes = self.bytes.clone()?;
@@ -49,17 +49,17 @@ impl<A: Allocator> Text<A> {
     }
 }
 
-/// The bytes of a text from one place up to another.
+/// The bytes of a text from one place up to another. The text stays for as long as this does.
 ///
 /// It is seen as these bytes.
 #[derive(Drop)]
-pub(crate) struct Range<A: Allocator> {
+pub struct TextRange<A: Allocator> {
     text: Text<A>,
     start: usize,
     end: usize,
 }
 
-impl<A: Allocator> Model for Range<A> {
+impl<A: Allocator> Model for TextRange<A> {
     ghost use Rattle.std.specs.Prelude.{◌≤◌, length};
     ghost use Rattle.std.specs.List.{slice_range};
     ghost use Rattle.gx_model.specs.Texts.{Bytes};
@@ -71,16 +71,22 @@ impl<A: Allocator> Model for Range<A> {
     ghost invariant = { λ r. (r.start ≤ r.end) × (r.end ≤ length r.text) };
 }
 
-impl<A: Allocator> Range<A> {
-    pub(crate) fn new(text: Text<A>, start: usize, end: usize) -> Range<A>
+impl<A: Allocator> TextRange<A> {
+    /// The bytes from `start` up to `end`, of which no copy is made. It is refused only where the count of the text's
+    /// owners is full.
+    ///
+    /// Cost: constant. Takes no memory.
+    pub fn new(text: &Text<A>, start: usize, end: usize) -> Result<TextRange<A>, AllocError>
         requires ordered { start ≤ end }
-        requires within { end ≤ length text }
-        ensures { result ≡ slice_range text start end }
+        requires within { end ≤ length text.now }
+        ensures { IfOk result (λ range. range ≡ slice_range text.now start end) }
     {
-        Range { text, start, end }
+        let text = text.shared()?;
+        Ok(TextRange { text, start, end })
     }
 
-    pub(crate) fn as_slice(&self) -> &[u8]
+    /// Its bytes. Takes no memory.
+    pub fn as_slice(&self) -> &[u8]
         ensures { result.now ≡ self.now }
     {
         &self.text.as_slice()[self.start..self.end]

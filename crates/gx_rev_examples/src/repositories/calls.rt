@@ -10,7 +10,7 @@ ghost use Rattle.gx_repo.specs.Objects.{HoldsEach};
 use super::call::{Answer, Call, added, published, recorded};
 use crate::trees::desk::Heap;
 use gx_object::{CommitParts, Kind, Mode, Name, Namer, TagParts};
-use gx_repo::{RefChange, Repo, StoreFault, Text};
+use gx_repo::{Body, RefChange, Repo, StoreFault, Text, TextRange};
 use gx_text::{Ident, TreePath};
 use gx_tree::{PathTree, records_keep_home};
 use std::alloc::{AllocError, Allocator};
@@ -47,7 +47,10 @@ fn add_range<'a, N: Namer>(
     requires within { end ≤ length text.now }
     ensures keeps { Keeps repo.old.1.records repo.new.1.records }
 {
-    recorded(repo.add_record_within(kind, text, start, end))
+    match TextRange::new(text, start, end) {
+        Ok(range) => recorded(repo.add_body(kind, Body::Within(range))),
+        Err(_) => Answer::OutOfMemory,
+    }
 }
 
 /// Adds a record within a text of these bytes, of which the repository is the last owner, where the text has these

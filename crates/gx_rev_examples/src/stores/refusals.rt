@@ -33,7 +33,7 @@ fn tree_bytes(heap: &Refusing<Global>, way: Way) -> Result<Bytes<'_>, AllocError
 fn put<'a>(store: &mut RefusingStore<'a>, bytes: Bytes<'a>) -> Result<Name, StoreFault> {
     match bytes {
         Bytes::Copied(bytes) => store.put(Kind::Tree, &bytes),
-        Bytes::Given(bytes) => store.put_owned(Kind::Tree, bytes),
+        Bytes::Given(bytes) => store.put_body(Kind::Tree, Body::Own(bytes)),
         Bytes::Shared(text) => share(store, Kind::Tree, text, (1, 18)),
     }
 }

@@ -12,7 +12,6 @@ ghost use Rattle.gx_cli.specs.Batching.{SendsLog, SendsNames, SendsPrinted};
 mod asked;
 mod replies;
 
-use crate::growing::Growing;
 use crate::questions::{Question, print_answer};
 use crate::words::words_in;
 use crate::{CliFault, LogFormat, LogOptions};
@@ -21,7 +20,7 @@ use gx_batch::{Answerer, BatchFault, Format, answer_revision};
 use gx_object::Namer;
 use gx_repo::Repo;
 use gx_rev::RevFault;
-use gx_text::Sink;
+use gx_text::{Growing, Sink};
 use replies::{refuse, reply};
 use std::alloc::Allocator;
 

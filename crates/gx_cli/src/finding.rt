@@ -4,12 +4,11 @@ ghost use Rattle.gx_cli.specs.Explained.{ExplainsTry};
 ghost use Rattle.gx_cli.specs.Trying.{FindsFault};
 
 use crate::CliFault;
-use crate::growing::Growing;
 use crate::trying::import_alone;
 use gx_import::Explanation;
 use gx_model::Features;
 use gx_object::Namer;
-use gx_text::Source;
+use gx_text::{Growing, Source};
 use std::alloc::Allocator;
 use std::hash::RandomState;
 

@@ -16,7 +16,6 @@ mod fault;
 mod finding;
 mod forms;
 mod gathering;
-mod growing;
 mod importing;
 mod lines;
 mod listing;

@@ -10,7 +10,6 @@ ghost use Rattle.gx_cli.specs.Headline.{ComesBackOr, ExportsAgain, GivesText, Im
 
 use crate::exporting::export_as;
 use crate::forms::forms_are_imported;
-use crate::growing::Growing;
 use crate::trying::look_in;
 use crate::{CliFault, ExportForm};
 use gx_export::ExportFault;
@@ -19,7 +18,7 @@ use gx_model::gitlink_laws::replays_keep_none;
 use gx_object::{Mode, Namer};
 use gx_repo::Repo;
 use gx_rev::Revision;
-use gx_text::{Bytes, Sink, Source, TreePath};
+use gx_text::{Bytes, Growing, Sink, Source, TreePath};
 use std::alloc::Allocator;
 use std::hash::RandomState;
 

@@ -20,7 +20,7 @@ pub use device::{Failed, Sink, Source, send};
 pub use digits::are_hex_digits;
 pub use fault::TextFault;
 pub use ident::Ident;
-pub use memory::{Bytes, Held};
+pub use memory::{Bytes, Growing, Held};
 pub use number::decimal;
 pub use outside::{FromRead, IntoWrite};
 pub use path::{MOST_BYTES, TreePath};

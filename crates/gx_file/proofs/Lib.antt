@@ -5,7 +5,6 @@ pub mod StatedNames
 pub mod CountedRecords
 pub mod GatheredRefs
 pub mod SetRefs
-pub mod StoredTexts
 pub mod StoreTexts
 pub mod SentTexts
 pub mod SentStores

@@ -1,5 +1,5 @@
 -- What a sink took of texts that were sent one after the other, and the whole that they make.
-use Rattle.std.proofs.Common.{◌≡◌, ℕ, zero, suc, ◌<◌, ◌≤◌, ◌+◌, sym, ap, subst, arith, List, [], ◌∷◌, ◌++◌, drop, length, append_assoc, append-nil, Option, None, Some, Result, Ok, Err}
+use Rattle.std.proofs.Common.{◌≡◌, ℕ, zero, suc, ◌<◌, ◌≤◌, ◌+◌, sym, ap, subst, ◌∙◌, arith, false, List, [], ◌∷◌, ◌++◌, drop, length, append_assoc, append-nil, Option, None, Some, Result, Ok, Err}
 use Rattle.std.specs.Prelude.{IfOk}
 use Rattle.std.specs.Fmt.{decimal}
 use Rattle.std.specs.List.{AllByRecursion, flat_map, slice_get}
@@ -12,6 +12,13 @@ use Rattle.gx_model.specs.Texts.Sinks.{Taken, Took}
 use Rattle.gx_model.proofs.Texts.SentTexts.{IsLeft, left_fails, none_left, took_both}
 use Rattle.gx_text.specs.declared.device.Failed.{Failed}
 use Rattle.gx_file.specs.Sending.{Sent}
+
+-- what a sink holds that took nothing before
+pub held_whole : (was now : Taken) (text bytes : Bytes) → was ≡ record { bytes = []; failed = false } → bytes ≡ now.bytes → Took (Some was) (Some now) text → bytes ≡ text
+held_whole was now text bytes empty held took =
+    let sent = subst (λ w. Took (Some w) (Some now) text) empty took in
+    let same : now ≡ record { bytes = text; failed = false } = cc sent in
+    held ∙ ap (λ (t : Taken). t.bytes) same
 
 -- the last text, and what came of the whole
 pub last_left : (whole : Bytes) (was mid now : Option Taken) (text : Bytes) (answer : Result (Unit {0}) Failed) → IsLeft whole was mid text → Sent text mid now answer → Sent whole was now answer

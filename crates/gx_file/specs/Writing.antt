@@ -18,13 +18,6 @@ use Rattle.gx_file.specs.Sending.{Sent}
 abbrev pub record_called : Name → Kind → Bytes → Bytes
 record_called name kind body = stored_record Two (record { name = name.bytes; kind = kind; body = body })
 
--- a text, and behind it the number of the records and the records
-abbrev pub with_all_records : Bytes → Records → Bytes
-with_all_records text repository = text ++ line (codes "objects") (decimal (length repository.records)) ++ flat_map (stored_record Two) repository.records
-
--- a text, and behind it the number of the refs and the refs
-abbrev pub with_all_refs : Bytes → Records → Bytes
-with_all_refs text repository = text ++ line (codes "refs") (decimal (length repository.refs)) ++ flat_map stored_ref repository.refs
 
 -- a sink by what it took
 module _ {W : Type 0} (taken : W → Option Taken) where

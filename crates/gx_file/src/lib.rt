@@ -7,10 +7,8 @@ mod reading;
 mod records;
 mod refs;
 mod sending;
-mod writing;
 
 pub use gx_model::FileFault;
 pub use gx_repo::{OutOfMemory, Text};
 pub use reading::{read, read_text};
-pub use sending::write_to;
-pub use writing::write;
+pub use sending::{write, write_to};

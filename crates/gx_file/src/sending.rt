@@ -1,5 +1,5 @@
-//! Sending a store text to a sink. Source: this project's own format.
-ghost use Rattle.std.specs.Prelude.{◌<◌, ◌^◌, length, IfOk};
+//! Writing a store text, to memory or to another sink. Source: this project's own format.
+ghost use Rattle.std.specs.Prelude.{◌≡◌, ◌<◌, ◌^◌, length, IfOk};
 ghost use Rattle.std.specs.Fmt.{decimal};
 ghost use Rattle.gx_model.specs.Objects.{line};
 ghost use Rattle.gx_model.specs.declared.store_versions.Version.TheVariants.{Two};
@@ -10,11 +10,28 @@ ghost use Rattle.gx_file.specs.Writing.{SendsBody, SendsParts, SendsRecord, Send
 
 use gx_object::{Kind, Name, Namer};
 use gx_repo::Repo;
-use gx_text::{Failed, Sink, send};
+use gx_text::{Failed, Growing, Sink, send};
 use itoa::Buffer;
-use std::alloc::Allocator;
+use std::alloc::{AllocError, Allocator};
 
-/// Sends the text of a repository that [`write`](crate::write) makes. Each body goes out from where the repository has it.
+/// The text of a repository, of version 2: its records in their order, and its refs in the byte order of their names.
+///
+/// Cost: the text's length. Memory: the text.
+pub fn write<N: Namer, A: Allocator + Copy>(
+    alloc: A,
+    repo: &Repo<N, A>,
+) -> Result<Vec<u8, A>, AllocError>
+    ensures text { IfOk result (λ text. text.items ≡ store_text Two repo.now.1) }
+    ensures read { IfOk result (λ text. IsReadAs N.name_of text.items repo.now) }
+{
+    let mut sink = Growing::new(alloc);
+    match write_to(repo, &mut sink) {
+        Ok(()) => Ok(sink.into_bytes()),
+        Err(_) => Err(AllocError),
+    }
+}
+
+/// Sends the text of a repository that [`write`] makes. Each body goes out from where the repository has it.
 ///
 /// `Failed` where the sink fails. What it took is a front of the text.
 /// Cost: the text's length, and some pushes for each record and ref. Takes no memory.

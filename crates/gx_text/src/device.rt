@@ -4,6 +4,9 @@ ghost use Rattle.std.specs.Prelude.{◌≡◌, ◌<◌, ◌≤◌, length, Optio
 ghost use Rattle.gx_model.specs.Texts.Sinks.{Taken, Sends};
 ghost use Rattle.gx_text.specs.Devices.{Coming, Pulls, Pushes};
 
+/// How many bytes a pull asks for, where nothing else is wanted.
+pub const PIECE: usize = 0x1_0000;
+
 /// A device didn't do what it was asked.
 #[derive(Clone, Copy, Debug, PartialEq, Eq, Drop)]
 pub struct Failed;

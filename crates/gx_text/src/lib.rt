@@ -16,12 +16,13 @@ mod quoted;
 mod ref_name;
 
 pub use cuts::cut;
-pub use device::{Failed, Sink, Source, send};
+pub use device::{Failed, PIECE, Sink, Source, send};
 pub use digits::are_hex_digits;
 pub use fault::TextFault;
 pub use ident::Ident;
 pub use memory::{Bytes, Growing, Held};
-pub use number::decimal;
+pub use number::{decimal, mark_number};
 pub use outside::{FromRead, IntoWrite};
 pub use path::{MOST_BYTES, TreePath};
+pub use quoted::after_quoted;
 pub use ref_name::is_ref_name;

@@ -1,6 +1,8 @@
 //! Numbers in decimal.
 
 ghost use Rattle.std.specs.Prelude.{◌≡◌};
+ghost use Rattle.std.specs.Result.{result_ok};
+ghost use Rattle.gx_model.specs.Streams.Grammar.{mark_number};
 ghost use Rattle.gx_model.specs.Texts.Numbers.{decimal_of};
 
 use std::str;
@@ -15,4 +17,13 @@ pub fn decimal(bytes: &[u8]) -> Option<u64>
         return None;
     }
     str::from_utf8(bytes).ok()?.parse().ok()
+}
+
+/// The number that a mark's digits write, which is from 1.
+///
+/// Cost: the length. Takes no memory. Source: git-fast-import(1), "mark".
+pub fn mark_number(digits: &[u8]) -> Option<u64>
+    ensures { result ≡ result_ok (mark_number digits.now) }
+{
+    decimal(digits).filter(|number| *number != 0)
 }

@@ -3,7 +3,7 @@
 ghost use Rattle.std.specs.Prelude.{ℕ, ◌≡◌, ◌<◌, ◌≤◌, ◌-◌, length, drop, IfOk};
 ghost use Rattle.std.specs.Option.{option_map};
 ghost use Rattle.gx_model.specs.Texts.Paths.{named, octal_of, escape_at, char_at, unquote_within, unquote};
-ghost use Rattle.gx_text.specs.Quoting.{GivesUnquoted};
+ghost use Rattle.gx_text.specs.Quoting.{GivesUnquoted, after_quoted};
 
 use crate::fault::TextFault;
 use std::alloc::Allocator;
@@ -41,6 +41,33 @@ fn unquoted_body<A: Allocator + Copy>(
         rest = after;
     }
     Err(TextFault::BadPath)
+}
+
+/// What follows the quoted text at the front.
+///
+/// Cost: the number of its bytes. Takes no memory. Source: git-fast-import(1), "filemodify", on C-style quoting.
+pub fn after_quoted(bytes: &[u8]) -> Option<&[u8]>
+    ensures { option_map (λ rest. rest.now) result ≡ after_quoted bytes.now }
+{
+    match bytes.split_first() {
+        Some((b'"', body)) => after_body(body),
+        _ => None,
+    }
+}
+
+// What follows the closing quote.
+fn after_body(body: &[u8]) -> Option<&[u8]>
+    ensures { option_map (λ rest. rest.now) result ≡ option_map (λ p. p.1) (unquote_within (length body.now) body.now) }
+{
+    let mut rest = body;
+    for _turn in 0..body.len() {
+        let (byte, after) = next_char(rest)?;
+        let Some(_byte) = byte else {
+            return Some(after);
+        };
+        rest = after;
+    }
+    None
 }
 
 // The byte at the front of a quoted text, or none at its closing quote, and what follows.

@@ -51,7 +51,7 @@ pub struct Encoding<A: Allocator> {
 #[derive(Clone, Copy)]
 pub struct Digits {
     pub digits: [u8; 40],
-    pub ghost proper: { IsTrue (is_name digits) },
+    pub ghost proper: { IsTrue (is_any_name_text digits) },
     pub ghost some: { is_null digits ≡ false },
 }
 

@@ -2,6 +2,7 @@
 
 ghost use Rattle.std.specs.Prelude.{◌≡◌, ◌↔◌, length, [], drop, map, slice_get, take, None, IsTrue};
 ghost use Rattle.std.specs.Option.{option_map};
+ghost use Rattle.gx_model.specs.Histories.{object_of};
 ghost use Rattle.gx_model.specs.Records.Growth.{record_named};
 ghost use Rattle.gx_model.specs.Records.Lookups.{records_begun_by};
 ghost use Rattle.gx_store.specs.Stores.{AreHeld, IsFound, Puts, PutsObject, place_named, record_under, shown_object, shown_record};

@@ -11,6 +11,7 @@ ghost use Rattle.gx_model.specs.Records.RecordFaults.{content_fault};
 ghost use Rattle.gx_model.specs.Texts.RefNames.{is_tag_name};
 ghost use Rattle.gx_model.specs.Laws.RepositoryLaws.{with_records};
 ghost use Rattle.gx_model.specs.Records.Sound.{Holds, IsLinked, IsNamedMap, IsSound, Keeps};
+ghost use Rattle.gx_model.specs.Faults.{Gives};
 ghost use Rattle.gx_model.specs.Histories.Values.{blob_value, is_optional_encoding};
 ghost use Rattle.gx_object.specs.Parts.{bytes_if, commit_parts, tag_parts};
 ghost use Rattle.gx_store.specs.Bodies.{bytes_of};
@@ -59,7 +60,6 @@ pub struct Repo<N: Namer, A: Allocator> {
 impl<N: Namer, A: Allocator> Model for Repo<N, A> {
     ghost use Rattle.gx_model.specs.Histories.{Records};
     ghost use Rattle.gx_repo.specs.Repositories.{IsRepository, held_in};
-    ghost use Rattle.gx_model.specs.Faults.{Gives};
 
     ghost Value = { N × Records };
 
@@ -397,7 +397,7 @@ impl<N: Namer, A: Allocator + Copy> Repo<N, A> {
         ensures adds { AddsObject N.name_of self.old self.new kind (bytes_of body) result }
         ensures refs { self.new.1.refs ≡ self.old.1.refs }
         ensures history { GainsObject self.old self.new kind (bytes_of body) result }
-        ensures value { NamesValue self.old (value_among self.old.1.records kind (bytes_of body)) result }
+        ensures value { NamesValue N.name_of self.old (value_among self.old.1.records kind (bytes_of body)) result }
         ensures held { IfOk result (λ name. Holds self.new.1.records kind name.bytes) }
         ensures keeps { Keeps self.old.1.records self.new.1.records }
     {

@@ -23,7 +23,8 @@ use Rattle.gx_model.proofs.Streams.SpelledItems.{AreItems, items_append}
 use Rattle.gx_model.specs.Texts.Paths.{unquote}
 use Rattle.gx_text.specs.Devices.{Coming}
 use Rattle.gx_stream.specs.Heard.{heard_upto, heard, items_from}
-use Rattle.gx_adapt.specs.Paths.{escaped, quoted, after_quoted, is_open, anew, source_before, source_of}
+use Rattle.gx_text.specs.Quoting.{after_quoted}
+use Rattle.gx_adapt.specs.Paths.{escaped, quoted, is_open, anew, source_before, source_of}
 use Rattle.gx_adapt.specs.Lines.{Lot, kept, deletion, marks, feature, signature, spaced, requoted, begins, is_ident_word, is_move_word, ident_lot, path_lot, dataref_lot, mode_lot, modify_lot, paths_lot, move_lot, word_lot, words_lot, lot_of, lines_for, items_for, is_of_marks, is_feature, is_signature_line, is_reset, is_signature, is_null_from}
 use Rattle.gx_adapt.specs.Streams.{behind_of, placed_from, items_in, items_at, adapted}
 use Rattle.gx_adapt.specs.Laws.{IsReadAdapted}

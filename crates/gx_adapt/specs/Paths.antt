@@ -1,10 +1,10 @@
 -- Paths that begin with a quote. One that isn't a quoted text is the name itself, as git takes it.
 -- Source: git-fast-import(1), "filemodify", on paths and on quoted paths.
-use Rattle.std.specs.Prelude.{ℕ, ◌-◌, Bool, false, not, ◌&&◌, ◌||◌, ◌==◌, [], ◌∷◌, ◌++◌, length, take, Option, Some, None, is_none, if◌then◌else◌}
-use Rattle.std.specs.Option.{option_map}
+use Rattle.std.specs.Prelude.{ℕ, ◌-◌, Bool, false, not, ◌&&◌, ◌||◌, ◌==◌, [], ◌∷◌, ◌++◌, length, take, Option, Some, None, if◌then◌else◌}
 use Rattle.std.specs.List.{flat_map}
 use Rattle.gx_model.specs.Texts.{Bytes, cut_at}
-use Rattle.gx_model.specs.Texts.Paths.{char_at, is_quoted, unquote, unquote_within}
+use Rattle.gx_model.specs.Texts.Paths.{is_quoted}
+use Rattle.gx_text.specs.Quoting.{after_quoted}
 
 -- a byte between quotes: a quote or a backslash has a backslash before it
 abbrev pub escaped : ℕ → Bytes
@@ -13,18 +13,6 @@ escaped b = if b == 34 || b == 92 then 92 ∷ b ∷ [] else b ∷ []
 -- a text between quotes
 abbrev pub quoted : Bytes → Bytes
 quoted text = 34 ∷ flat_map escaped text ++ 34 ∷ []
-
--- what follows the quoted text that stands at the front, where one does
-abbrev pub after_quoted : Bytes → Option Bytes
-after_quoted bs = option_map (λ p. p.1) (unquote bs)
-
--- what follows the closing quote that is found within n bytes
-abbrev pub rest_within : ℕ → Bytes → Option Bytes
-rest_within n bs = option_map (λ p. p.1) (unquote_within n bs)
-
--- whether a quote closes, or a byte is read, and what follows
-abbrev pub seen_char : Bytes → Option (Bool × Bytes)
-seen_char bs = option_map {U = Bool × Bytes} (λ c. (is_none c.0, c.1)) (char_at bs)
 
 -- something is there, and nothing follows it
 abbrev pub ends : Option Bytes → Bool

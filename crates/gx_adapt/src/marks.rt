@@ -8,7 +8,7 @@ ghost use Rattle.gx_adapt.specs.Marks.{command_begun, is_blob_or_tag, is_tag, ma
 ghost use Rattle.gx_adapt.specs.Adapting.{Passes, SetsMark, StandsBehind, names_held};
 
 use crate::lot::is_reset_line;
-use gx_text::{cut, decimal};
+use gx_text::{cut, mark_number};
 use std::alloc::{AllocError, Allocator};
 use std::collections::BTreeSet;
 
@@ -124,13 +124,13 @@ fn mark_behind(word: &[u8], line: &[u8]) -> Option<u64>
     }
 }
 
-/// A colon and a mark's number, which is from 1.
+/// A colon and a mark's number.
 #[tactic(auto, unfolding(gx_model::specs::Streams::Grammar::mark_of))]
 fn mark_of(text: &[u8]) -> Option<u64>
     ensures { result ≡ result_ok (mark_of text.now) }
 {
     match text.split_first() {
-        Some((b':', digits)) => decimal(digits).filter(|number| *number != 0),
+        Some((b':', digits)) => mark_number(digits),
         _ => None,
     }
 }

@@ -1,5 +1,4 @@
 pub mod Answering
-pub mod Arrivals
 pub mod CutLines
 pub mod Endings
 pub mod LeftOutCrs

@@ -4,11 +4,12 @@ use Rattle.std.proofs.lemmas.Bool.Decides.{nat_tests}
 use Rattle.gx_model.specs.Texts.{Bytes, lacks}
 use Rattle.gx_text.specs.Devices.{Coming}
 use Rattle.gx_batch.specs.Lines.{byte_of, lines_from, lines_of, single_ended, trimmed}
-use Rattle.gx_batch.specs.Reading.{Passes, Reads, TakesPart, behind, shown_coming, shown_most}
+use Rattle.gx_batch.specs.Reading.{Reads, TakesPart, shown_most}
+use Rattle.gx_stream.specs.Pulled.{Passes, behind, shown_coming}
 use Rattle.gx_batch.specs.declared.ending.LineEnding.{LineEnding}
 use Rattle.gx_batch.specs.declared.fault.BatchFault.TheVariants.{ReadFailed}
-use Rattle.gx_batch.specs.declared.lines.State.{State}
-use Rattle.gx_batch.specs.declared.lines.State.TheVariants.{Open, Ended, Failed}
+use Rattle.gx_stream.specs.declared.pulls.SourceState.{SourceState}
+use Rattle.gx_stream.specs.declared.pulls.SourceState.TheVariants.{Open, Ended, Failed}
 use Rattle.gx_batch.proofs.CutLines.{lacks_both, line_cut, line_first, line_last, no_lines}
 use Rattle.gx_batch.proofs.Endings.{ended_first, ended_kept, ended_none, trimmed_lacks}
 
@@ -25,7 +26,7 @@ some_same : (c d : Coming) → Some c ≡ Some d → c ≡ d
 some_same c d e = cc
 
 -- bytes at the front are passed
-pub passes_front : (state : State) (room : ℕ) (coming : Option Coming) (front rest : Bytes) → Passes front (shown_coming state room coming (front ++ rest)) (shown_coming state room coming rest)
+pub passes_front : (state : SourceState) (room : ℕ) (coming : Option Coming) (front rest : Bytes) → Passes front (shown_coming state room coming (front ++ rest)) (shown_coming state room coming rest)
 passes_front Open room None front rest = tt
 passes_front Open room (Some c) front rest = (_, refl, behind_both front rest _)
 passes_front Ended room coming front rest = (_, refl, refl)
@@ -104,14 +105,14 @@ reads_failure ending room coming line (Some c) h p =
 -- ---- what one part changes
 
 -- the bound falls by the bytes that are passed
-most_less : (state : State) (room : ℕ) (front rest : Bytes) → shown_most state room (front ++ rest) ≡ length front + shown_most state room rest
+most_less : (state : SourceState) (room : ℕ) (front rest : Bytes) → shown_most state room (front ++ rest) ≡ length front + shown_most state room rest
 most_less Open room front rest = let long = length-append front rest in omega arith
 most_less Ended room front rest = length-append front rest
 most_less Failed room front rest = length-append front rest
 
 module _ (ending : LineEnding) (was coming : Option Coming) (room : ℕ) (rest left line now : Bytes) where
   -- a line came whole
-  pub whole_line : (state : State) → lacks (byte_of ending) line ≡ true → Passes line was (shown_coming state room coming rest) → TakesPart (byte_of ending) rest left line now true → Reads ending was (shown_coming state room coming left) (trimmed ending now) (Ok true)
+  pub whole_line : (state : SourceState) → lacks (byte_of ending) line ≡ true → Passes line was (shown_coming state room coming rest) → TakesPart (byte_of ending) rest left line now true → Reads ending was (shown_coming state room coming left) (trimmed ending now) (Ok true)
   whole_line state h p t =
       let front = t.0 in
       let b = byte_of ending in
@@ -122,7 +123,7 @@ module _ (ending : LineEnding) (was coming : Option Coming) (room : ℕ) (rest l
       reads_line ending now was (shown_coming state room coming left) (rw t.3 (lacks_both (byte_of ending) line front h t.1)) (subst (λ bs. Passes bs was (shown_coming state room coming left)) joined more)
 
   -- all that came is part of the line
-  pub all_passed : (state : State) → Passes line was (shown_coming state room coming rest) → TakesPart (byte_of ending) rest left line now false → Passes now was (shown_coming state room coming left)
+  pub all_passed : (state : SourceState) → Passes line was (shown_coming state room coming rest) → TakesPart (byte_of ending) rest left line now false → Passes now was (shown_coming state room coming left)
   all_passed state p t =
       let parts : rest ≡ rest ++ left = sym (append-nil rest) ∙ ap (λ bs. rest ++ bs) (sym t.1) in
       let more = passes_both line rest was (shown_coming state room coming (rest ++ left)) (shown_coming state room coming left) (subst (λ bs. Passes line was (shown_coming state room coming bs)) parts p) (passes_front state room coming rest left) in
@@ -132,7 +133,7 @@ module _ (ending : LineEnding) (was coming : Option Coming) (room : ℕ) (rest l
   still_lacks h t = rw t.2 (lacks_both (byte_of ending) line rest h t.0)
 
   -- the bound and the line's length change alike
-  pub same_most : (state : State) → TakesPart (byte_of ending) rest left line now false → length now + shown_most state room left ≡ length line + shown_most state room rest
+  pub same_most : (state : SourceState) → TakesPart (byte_of ending) rest left line now false → length now + shown_most state room left ≡ length line + shown_most state room rest
   same_most state t =
       let parts : rest ≡ rest ++ left = sym (append-nil rest) ∙ ap (λ bs. rest ++ bs) (sym t.1) in
       let less = most_less state room rest left in
@@ -142,17 +143,17 @@ module _ (ending : LineEnding) (was coming : Option Coming) (room : ℕ) (rest l
       omega arith
 
   -- all passed, and the source ended
-  pub ends_so : (state : State) (answer : Bool) → state ≡ Ended → lacks (byte_of ending) line ≡ true → Passes line was (shown_coming state room coming rest) → TakesPart (byte_of ending) rest left line now false → (answer ≡ true → 0 < length now) → (answer ≡ false → now ≡ []) → Reads ending was (shown_coming state room coming left) now (Ok answer)
+  pub ends_so : (state : SourceState) (answer : Bool) → state ≡ Ended → lacks (byte_of ending) line ≡ true → Passes line was (shown_coming state room coming rest) → TakesPart (byte_of ending) rest left line now false → (answer ≡ true → 0 < length now) → (answer ≡ false → now ≡ []) → Reads ending was (shown_coming state room coming left) now (Ok answer)
   ends_so state answer s h p t some none =
       let passed = all_passed state p t in
-      let here = subst (λ (st : State). Passes now was (shown_coming st room coming left)) s passed in
+      let here = subst (λ (st : SourceState). Passes now was (shown_coming st room coming left)) s passed in
       let read = reads_end ending room coming now was answer (still_lacks h t) (subst (λ bs. Passes now was (shown_coming Ended room coming bs)) t.1 here) some none in
-      subst (λ (st : State). Reads ending was (shown_coming st room coming left) now (Ok answer)) (sym s) (subst (λ bs. Reads ending was (shown_coming Ended room coming bs) now (Ok answer)) (sym t.1) read)
+      subst (λ (st : SourceState). Reads ending was (shown_coming st room coming left) now (Ok answer)) (sym s) (subst (λ bs. Reads ending was (shown_coming Ended room coming bs) now (Ok answer)) (sym t.1) read)
 
   -- all passed, and the source failed
-  pub fails_so : (state : State) → state ≡ Failed → lacks (byte_of ending) line ≡ true → Passes line was (shown_coming state room coming rest) → TakesPart (byte_of ending) rest left line now false → Reads ending was (shown_coming state room coming left) now (Err ReadFailed)
+  pub fails_so : (state : SourceState) → state ≡ Failed → lacks (byte_of ending) line ≡ true → Passes line was (shown_coming state room coming rest) → TakesPart (byte_of ending) rest left line now false → Reads ending was (shown_coming state room coming left) now (Err ReadFailed)
   fails_so state s h p t =
       let passed = all_passed state p t in
-      let here = subst (λ (st : State). Passes now was (shown_coming st room coming left)) s passed in
+      let here = subst (λ (st : SourceState). Passes now was (shown_coming st room coming left)) s passed in
       let read = reads_failure ending room coming now was (still_lacks h t) (subst (λ bs. Passes now was (shown_coming Failed room coming bs)) t.1 here) in
-      subst (λ (st : State). Reads ending was (shown_coming st room coming left) now (Err ReadFailed)) (sym s) (subst (λ bs. Reads ending was (shown_coming Failed room coming bs) now (Err ReadFailed)) (sym t.1) read)
+      subst (λ (st : SourceState). Reads ending was (shown_coming st room coming left) now (Err ReadFailed)) (sym s) (subst (λ bs. Reads ending was (shown_coming Failed room coming bs) now (Err ReadFailed)) (sym t.1) read)

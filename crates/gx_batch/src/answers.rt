@@ -1,25 +1,24 @@
 //! What is answered to a line.
 
-ghost use Rattle.std.specs.Prelude.{◌≡◌, ◌∷◌, ◌++◌, [], IfErr, IfOk};
-ghost use Rattle.gx_model.specs.Objects.{line};
-ghost use Rattle.gx_rev.specs.Answers.{IsNamed};
-ghost use Rattle.gx_rev.specs.Calls.{DenotesText};
+ghost use Rattle.std.specs.Prelude.{◌≡◌, IfOk};
+ghost use Rattle.gx_model.specs.Faults.{Gives};
+ghost use Rattle.gx_model.specs.Records.HistoryOf.{history_of};
+ghost use Rattle.gx_rev.specs.Answers.{IsNamed, shown_by};
+ghost use Rattle.gx_rev.specs.Objects.{value_at};
+ghost use Rattle.gx_rev.specs.RevFaults.{fault_of};
 ghost use Rattle.gx_rev.specs.Views.{borrowed};
 ghost use Rattle.gx_rev.specs.declared.shown.Shown.TheVariants.{Object};
-ghost use Rattle.gx_batch.specs.Answers.{directory_of};
+ghost use Rattle.gx_batch.specs.Answers.{asked_for, directory_of, object_text};
 ghost use Rattle.gx_batch.specs.Batches.{Sent};
-ghost use Rattle.gx_batch.specs.Calls.{GivesAsked, SendsAnswer, SendsObject};
-ghost use Rattle.gx_batch.specs.declared.fault.BatchFault.TheVariants.{WriteFailed};
+ghost use Rattle.gx_batch.specs.Calls.{SendsAnswer};
 
+use crate::replies::{put, put_behind, refuse};
 use crate::{BatchFault, Format};
 use gx_object::{Kind, Name, Namer};
 use gx_repo::Repo;
 use gx_rev::{RevFault, Revision, Shown, body_of};
-use gx_text::{Sink, cut, send};
+use gx_text::{Sink, cut};
 use std::alloc::Allocator;
-
-/// An object of fewer bytes goes out at once with its line.
-const SMALL: usize = 0x1_0000;
 
 /// Sends what is answered to a revision: the line of its object in a format, and unless `check` is asked for the object's bytes
 /// and an LF. Where it gives no object, it is answered itself, and behind it `missing`, or `ambiguous` where it abbreviates the
@@ -44,10 +43,10 @@ pub fn answer_revision<N: Namer, W: Sink, A: Allocator + Copy>(
         Ok(Shown::Object(kind, name)) => {
             answer_object(repo, check, format, kind, &name, buffer, sink)
         }
-        Ok(Shown::Submodule(_)) => answer_refusal(asked, b"missing", buffer, sink),
+        Ok(Shown::Submodule(_)) => refuse(asked, b"missing", buffer, sink),
         Err(RevFault::OutOfMemory) => Err(BatchFault::OutOfMemory),
-        Err(RevFault::Ambiguous) => answer_refusal(asked, b"ambiguous", buffer, sink),
-        Err(_) => answer_refusal(asked, b"missing", buffer, sink),
+        Err(RevFault::Ambiguous) => refuse(asked, b"ambiguous", buffer, sink),
+        Err(_) => refuse(asked, b"missing", buffer, sink),
     }
 }
 
@@ -57,13 +56,14 @@ fn eval_line<N: Namer, A: Allocator + Copy>(
     repo: &Repo<N, A>,
     asked: &[u8],
 ) -> Result<Shown, RevFault>
-    ensures shown { GivesAsked N.name_of repo.now asked.now result }
+    ensures shown { Gives fault_of (shown_by repo.now.1) result
+        (asked_for (N.name_of repo.now.0) (history_of repo.now.1) asked.now) }
     ensures named { IfOk result (IsNamed (N.name_of repo.now.0) repo.now.1) }
 {
     let Some(front) = directory_of(asked) else {
-        return eval(alloc, repo, asked);
+        return Revision::eval_text(alloc, repo, asked);
     };
-    match eval(alloc, repo, front)? {
+    match Revision::eval_text(alloc, repo, front)? {
         Shown::Object(Kind::Tree, name) => Ok(Shown::Object(Kind::Tree, name)),
         _ => Err(RevFault::WrongKind),
     }
@@ -80,36 +80,6 @@ fn directory_of(asked: &[u8]) -> Option<&[u8]>
     asked.strip_suffix(b"/")
 }
 
-/// What a text shows as a revision.
-fn eval<N: Namer, A: Allocator + Copy>(
-    alloc: A,
-    repo: &Repo<N, A>,
-    asked: &[u8],
-) -> Result<Shown, RevFault>
-    ensures shown { DenotesText N.name_of repo.now asked.now result }
-    ensures named { IfOk result (IsNamed (N.name_of repo.now.0) repo.now.1) }
-{
-    let revision = Revision::read(alloc, asked)?;
-    revision.eval(repo)
-}
-
-/// Sends a line, and behind it why it gives no object.
-fn answer_refusal<W: Sink, A: Allocator>(
-    asked: &[u8],
-    why: &[u8],
-    buffer: &mut Vec<u8, A>,
-    sink: &mut W,
-) -> Result<(), BatchFault>
-    ensures { Sent (line asked.now why.now) (W.taken sink.old) (W.taken sink.new) result }
-{
-    buffer.clear();
-    buffer.extend_from_slice(asked)?;
-    buffer.push(b' ')?;
-    buffer.extend_from_slice(why)?;
-    buffer.push(b'\n')?;
-    put(sink, buffer)
-}
-
 /// Sends the line of a held object, and where its bytes are asked for these and an LF.
 fn answer_object<N: Namer, W: Sink, A: Allocator + Copy>(
     repo: &Repo<N, A>,
@@ -121,37 +91,15 @@ fn answer_object<N: Namer, W: Sink, A: Allocator + Copy>(
     sink: &mut W,
 ) -> Result<(), BatchFault>
     requires { IsNamed (N.name_of repo.now.0) repo.now.1 (Object kind name.now) }
-    ensures { SendsObject N.name_of W.taken repo.now check format.now.parts.items name.now sink.old sink.new result }
+    ensures { Sent
+        (object_text (N.name_of repo.now.0) check format.now.parts.items (value_at repo.now.1 name.now))
+        (W.taken sink.old) (W.taken sink.new) result }
 {
     let body = body_of(repo, name);
     format.make_line(name, kind, body.len(), buffer)?;
     if check {
         put(sink, buffer)
-    } else if body.len() < SMALL {
-        buffer.extend_from_slice(body)?;
-        buffer.push(b'\n')?;
-        put(sink, buffer)
     } else {
-        put_parts(sink, buffer, body)
-    }
-}
-
-/// Sends an object's line, its bytes and an LF, one after the other.
-fn put_parts<W: Sink>(sink: &mut W, line: &[u8], body: &[u8]) -> Result<(), BatchFault>
-    ensures { Sent (line.now ++ (body.now ++ 10 ∷ [])) (W.taken sink.old) (W.taken sink.new) result }
-{
-    put(sink, line)?;
-    put(sink, body)?;
-    put(sink, b"\n")
-}
-
-/// Sends a text. Takes no memory.
-fn put<W: Sink>(sink: &mut W, text: &[u8]) -> Result<(), BatchFault>
-    ensures sent { Sent text.now (W.taken sink.old) (W.taken sink.new) result }
-    ensures memory { IfErr result (λ fault. fault ≡ WriteFailed) }
-{
-    match send(sink, text) {
-        Ok(()) => Ok(()),
-        Err(_) => Err(BatchFault::WriteFailed),
+        put_behind(body, buffer, sink)
     }
 }

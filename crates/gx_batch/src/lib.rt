@@ -11,6 +11,7 @@ mod fault;
 mod format;
 pub mod line_laws;
 mod lines;
+mod replies;
 
 pub use answerer::{Answerer, answer_lines};
 pub use answers::answer_revision;
@@ -19,3 +20,4 @@ pub use ending::LineEnding;
 pub use fault::{BatchFault, FormatFault};
 pub use format::Format;
 pub use lines::read_lines;
+pub use replies::{make_line, put_behind, refuse};

@@ -1,29 +1,19 @@
 //! The lines that a source gives.
 
-ghost use Rattle.std.specs.Prelude.{◌≡◌, ◌<◌, ◌≤◌, ◌+◌, [], length, IfOk};
+ghost use Rattle.std.specs.Prelude.{◌≡◌, ◌<◌, ◌≤◌, ◌+◌, [], length, slice_range, IfOk};
+ghost use Rattle.std.specs.Option.{option_map};
 ghost use Rattle.std.specs.Io.BufRead.{strip_last};
 ghost use Rattle.gx_batch.specs.Lines.{trimmed};
 ghost use Rattle.gx_batch.specs.Batches.{GivesLines};
-ghost use Rattle.gx_batch.specs.Reading.{Falls, IsReaderOf, IsSound, KeepsComing, Passes, ReadsLine, TakesPartOf, most, pulls_left, rest_of, shown_from};
-ghost use Rattle.gx_batch.specs.declared.lines.State.TheVariants.{Open};
+ghost use Rattle.gx_batch.specs.Reading.{Falls, IsSound, Reads, TakesPart, most, rest_of, shown_from};
+ghost use Rattle.gx_stream.specs.Heard.{heard};
+ghost use Rattle.gx_stream.specs.Pulled.{Passes, pulls_left};
+ghost use Rattle.gx_stream.specs.declared.pulls.SourceState.TheVariants.{Open};
 
 use crate::{BatchFault, LineEnding};
-use gx_text::{Failed, Source, cut};
+use gx_stream::{LIMIT, SourceState, pull_piece};
+use gx_text::{PIECE, Source, cut};
 use std::alloc::{AllocError, Allocator};
-
-/// The most bytes that are taken from a source.
-const LIMIT: usize = 0x7fff_ffff_ffff_ffff;
-
-/// How many bytes a pull asks for.
-const PIECE: usize = 0x1_0000;
-
-/// What is known of the source: more may come, or it ended, or it failed.
-#[derive(Clone, Copy, Drop)]
-pub(crate) enum State {
-    Open,
-    Ended,
-    Failed,
-}
 
 /// A reader of lines. What came and isn't read yet stands in the piece, between `at` and `end`; at most `room` bytes may
 /// still come.
@@ -34,14 +24,14 @@ pub(crate) struct LineReader<R: Source, A: Allocator> {
     at: usize,
     end: usize,
     room: usize,
-    state: State,
+    state: SourceState,
 }
 
 impl<R: Source + Drop, A: Allocator + Copy> LineReader<R, A> {
     /// A reader of all the lines of a source. Nothing is pulled yet. Memory: one piece.
     pub(crate) fn new(alloc: A, source: R) -> Result<LineReader<R, A>, AllocError>
         ensures sound { IfOk result IsSound }
-        ensures seen { IfOk result (IsReaderOf R.coming source) }
+        ensures seen { IfOk result (λ reader. shown_from R.coming reader ≡ option_map heard (R.coming source)) }
     {
         let mut piece = Vec::new(alloc);
         piece.resize(PIECE, 0)?;
@@ -51,7 +41,7 @@ impl<R: Source + Drop, A: Allocator + Copy> LineReader<R, A> {
             at: 0,
             end: 0,
             room: LIMIT,
-            state: State::Open,
+            state: SourceState::Open,
         })
     }
 
@@ -66,7 +56,7 @@ impl<R: Source + Drop, A: Allocator + Copy> LineReader<R, A> {
     ) -> Result<bool, BatchFault>
         requires { IsSound self.old }
         ensures sound { IsSound self.new }
-        ensures reads { ReadsLine R.coming ending self.old self.new line.new result }
+        ensures reads { Reads ending (shown_from R.coming self.old) (shown_from R.coming self.new) line.new.items result }
         ensures falls { Falls (most self.old) (most self.new) result }
     {
         let byte = ending.byte();
@@ -77,9 +67,9 @@ impl<R: Source + Drop, A: Allocator + Copy> LineReader<R, A> {
                 return Ok(true);
             }
             match self.state {
-                State::Open => self.pull(),
-                State::Ended => return Ok(!line.is_empty()),
-                State::Failed => return Err(BatchFault::ReadFailed),
+                SourceState::Open => self.pull(),
+                SourceState::Ended => return Ok(!line.is_empty()),
+                SourceState::Failed => return Err(BatchFault::ReadFailed),
             }
         }
     }
@@ -132,7 +122,8 @@ fn take_part<A: Allocator>(
 ) -> Result<bool, AllocError>
     requires { (at.old ≤ end) × (end ≤ length piece.now) }
     ensures within { at.new ≤ end }
-    ensures takes { IfOk result (TakesPartOf byte piece.now end at.old at.new line.old line.new) }
+    ensures takes { IfOk result (TakesPart byte
+        (slice_range piece.now at.old end) (slice_range piece.now at.new end) line.old.items line.new.items) }
 {
     let rest = &piece[*at..end];
     match cut(rest, byte) {
@@ -166,28 +157,5 @@ fn drop_cr<A: Allocator>(line: &mut Vec<u8, A>)
     let count = line.len();
     if count > 0 && line[count - 1] == b'\r' {
         line.truncate(count - 1);
-    }
-}
-
-/// Pulls one piece. Answers what is known of the source then, and how many bytes of the piece are taken.
-fn pull_piece<R: Source>(source: &mut R, piece: &mut [u8], room: &mut usize) -> (State, usize)
-    requires { 0 < length piece.old }
-    ensures within { result.1 ≤ length piece.new }
-    ensures keeps { KeepsComing R.coming source.old source.new room.old room.new piece.new result }
-    ensures room { result.1 + room.new ≤ room.old }
-    ensures fewer { pulls_left result.0 room.new < pulls_left Open room.old }
-{
-    match source.pull(piece) {
-        Err(Failed) => (State::Failed, 0),
-        Ok(0) => (State::Ended, 0),
-        Ok(count) => {
-            let taken = count.min(*room);
-            *room -= taken;
-            if taken < count {
-                (State::Failed, taken)
-            } else {
-                (State::Open, taken)
-            }
-        }
     }
 }

@@ -1,17 +1,15 @@
 -- What a source and a sink see of naming blobs. A store is seen by the names that its namer gives, and a sink by what it took before
 -- the call and after it.
-use Rattle.std.specs.Prelude.{ℕ, List, Option, Result}
+use Rattle.std.specs.Prelude.{ℕ, Option, Result}
 use Rattle.std.specs.Option.{option_map}
 use Rattle.gx_model.specs.declared.objects.Kind.{Kind}
-use Rattle.gx_model.specs.Histories.{Record}
 use Rattle.gx_model.specs.Streams.Items.{Stream}
 use Rattle.gx_model.specs.Texts.{Bytes}
 use Rattle.gx_model.specs.Texts.Sinks.{Taken}
 use Rattle.gx_text.specs.Devices.{Coming}
 use Rattle.gx_stream.specs.Heard.{items_from}
-use Rattle.gx_blobs.specs.Printing.{PrintsBlobs, PrintsOne}
+use Rattle.gx_blobs.specs.Printing.{PrintsBlobs}
 use Rattle.gx_blobs.specs.declared.blob_names.BlobsFault.{BlobsFault}
-use Rattle.gx_blobs.specs.declared.blob_names.BlobsKind.{BlobsKind}
 
 module _ {N W : Type 0} (name_of : N → Kind → Bytes → Bytes) (taken : W → Option Taken) where
   -- the names of the blobs of the items that are still to come go out
@@ -21,7 +19,3 @@ module _ {N W : Type 0} (name_of : N → Kind → Bytes → Bytes) (taken : W �
   -- the names of the blobs of a source's stream go out
   abbrev pub NamesBlobs : N → Option Coming → W → W → Result ℕ BlobsFault → Type 0
   NamesBlobs namer coming old new answer = NamesItems namer (option_map items_from coming) old new answer
-
-  -- a blob is put into a store, and its name goes out
-  abbrev pub AddsBlob : N × List Record → N × List Record → Bytes → W → W → Result (Unit {0}) BlobsKind → Type 0
-  AddsBlob before after bytes old new result = PrintsOne (name_of before.0) before.1 after.1 (taken old) (taken new) bytes result

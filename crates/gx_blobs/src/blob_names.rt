@@ -5,14 +5,14 @@ ghost use Rattle.std.specs.Option.{option_map};
 ghost use Rattle.gx_model.specs.Streams.Items.{Finished};
 ghost use Rattle.gx_model.specs.Streams.Grammar.{mark_of};
 ghost use Rattle.gx_stream.specs.Reading.{item_of};
-ghost use Rattle.gx_blobs.specs.Naming.{AddsBlob, NamesBlobs, NamesItems};
+ghost use Rattle.gx_blobs.specs.Naming.{NamesBlobs, NamesItems};
 ghost use Rattle.gx_blobs.specs.Steps.{step_of, stop_at, marked_as, marked_by, named_by, command_line, mark_line, oid_line};
-ghost use Rattle.gx_blobs.specs.Printing.{shown_step, stop_of, ended_at, name_line, of_stream};
+ghost use Rattle.gx_blobs.specs.Printing.{PrintsOne, shown_step, stop_of, ended_at, name_line, of_stream};
 
 use gx_object::{Kind, Name, Namer};
 use gx_store::{Store, StoreFault};
 use gx_stream::{Item, ItemReader, StreamFault};
-use gx_text::{Sink, Source, cut, decimal, send};
+use gx_text::{Sink, Source, cut, mark_number, send};
 use std::alloc::Allocator;
 use std::fmt;
 use std::hash::RandomState;
@@ -208,8 +208,8 @@ fn mark<'a>(text: &[u8]) -> Step<'a>
     ensures { shown_step result ≡ marked_as (mark_of text.now) }
 {
     match text {
-        [b':', digits @ ..] => match decimal(digits) {
-            None | Some(0) => Step::Stop(BlobsKind::BadNumber),
+        [b':', digits @ ..] => match mark_number(digits) {
+            None => Step::Stop(BlobsKind::BadNumber),
             Some(_) => Step::Go(Stage::Marked),
         },
         _ => Step::Stop(BlobsKind::BadLine),
@@ -233,7 +233,8 @@ fn print_one<N: Namer, W: Sink, A: Allocator + Copy>(
     bytes: &[u8],
 ) -> Result<(), BlobsKind>
     ensures namer { store.new.0 ≡ store.old.0 }
-    ensures prints { AddsBlob N.name_of W.taken store.old store.new bytes.now sink.old sink.new result }
+    ensures prints { PrintsOne (N.name_of store.old.0) store.old.1 store.new.1
+        (W.taken sink.old) (W.taken sink.new) bytes.now result }
 {
     let name = match store.put(Kind::Blob, bytes) {
         Ok(name) => name,

@@ -10,7 +10,7 @@ ghost use Rattle.gx_command.specs.declared.fault.CommandFault.TheVariants.{OutOf
 use crate::commands::CommitIsh;
 use crate::fault::CommandFault;
 use crate::texts::is_null;
-use gx_text::decimal;
+use gx_text::mark_number;
 use std::alloc::Allocator;
 
 /// The digits of a mark, which is a number from 1.
@@ -18,10 +18,7 @@ pub(crate) fn read_mark_number(digits: &[u8]) -> Result<u64, CommandFault>
     ensures mark { Gives fault_of (λ n. n) result (mark_number digits.now) }
     ensures memory { NeedsNoMemory CommandFault.OutOfMemory result }
 {
-    match decimal(digits) {
-        None | Some(0) => Err(CommandFault::BadNumber),
-        Some(n) => Ok(n),
-    }
+    mark_number(digits).ok_or(CommandFault::BadNumber)
 }
 
 /// A colon and a mark's number.

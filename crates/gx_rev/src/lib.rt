@@ -27,5 +27,5 @@ pub use range::Range;
 pub use reached::{name_at, place_of, reaches};
 pub use refs::reached_from_refs;
 pub use revision::Revision;
-pub use shown::{Shown, answers_tell_values, commit, look, tree};
+pub use shown::{Shown, answers_tell_values, commit, look, tree, tree_of_text};
 pub use walking::{walk, walked};

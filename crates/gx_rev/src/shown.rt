@@ -3,14 +3,16 @@
 ghost use Rattle.std.specs.Prelude.{◌≡◌, IfOk, Some};
 ghost use Rattle.gx_model.specs.declared.objects.Kind.TheVariants as kinds;
 ghost use Rattle.gx_model.specs.declared.objects.Mode.TheVariants as modes;
-ghost use Rattle.gx_model.specs.Revisions.Denotation.{commit_denoted, file_shown, value_denoted};
+ghost use Rattle.gx_model.specs.Faults.{Gives, NeedsNoMemory, ◌>>=◌};
+ghost use Rattle.gx_model.specs.Revisions.{base_of, revision_of};
+ghost use Rattle.gx_model.specs.Revisions.Denotation.{commit_denoted, denoted, file_shown, files_in, value_denoted};
 ghost use Rattle.gx_model.specs.Records.HistoryOf.{bytes_of_blob, history_of};
-ghost use Rattle.gx_rev.specs.Answers.{AnswersTell, IsNamed, file_of, shown_as};
+ghost use Rattle.gx_rev.specs.Answers.{AnswersTell, IsNamed, file_of, shown_as, shown_by};
+ghost use Rattle.gx_rev.specs.Bases.{base_text};
 ghost use Rattle.gx_rev.specs.Calls.{Denotes, DenotesParts, GivesBodyOf, GivesCommit, GivesTreeOf, GivesValue, ReadsFile, ShowsPathOf, file_in};
 ghost use Rattle.gx_rev.specs.FirstParents.{AreFirstParents};
 ghost use Rattle.gx_rev.specs.Objects.{IsHeld, IsHeldAs, files_at, value_at};
-ghost use Rattle.gx_rev.specs.RevFaults.{FaultsComeFirst};
-ghost use Rattle.gx_model.specs.Faults.{NeedsNoMemory};
+ghost use Rattle.gx_rev.specs.RevFaults.{FaultsComeFirst, fault_of};
 ghost use Rattle.gx_rev.specs.Views.{borrowed};
 
 use crate::base::eval_base;
@@ -31,6 +33,19 @@ pub enum Shown {
 }
 
 impl<A: Allocator + Copy> Revision<A> {
+    /// What a text shows as a revision: it is read, and evaluated.
+    ///
+    /// The faults are those of `read`, and then those of `eval`. Cost and memory: those of both. Only the reading takes
+    /// memory. Source: gitrevisions(7), "Specifying Revisions".
+    pub fn eval_text<N: Namer>(alloc: A, repo: &Repo<N, A>, text: &[u8]) -> Result<Shown, RevFault>
+        ensures shown { Gives fault_of (shown_by repo.now.1) result
+            (revision_of text.now >>= denoted (N.name_of repo.now.0) (history_of repo.now.1)) }
+        ensures named { IfOk result (IsNamed (N.name_of repo.now.0) repo.now.1) }
+        ensures base { FaultsComeFirst result (base_of (base_text text.now)) }
+    {
+        Revision::read(alloc, text)?.eval(repo)
+    }
+
     /// What the revision shows in a repository.
     ///
     /// UnknownRef, UnknownObject and Ambiguous are of its base, NoParent and WrongKind of a suffix; WrongKind and
@@ -181,6 +196,23 @@ pub fn tree<N: Namer, A: Allocator + Copy>(
 {
     let object = eval_object(repo, revision)?;
     tree_of(repo, &object)
+}
+
+/// The name of the tree that a text gives as a revision: it is read, and `tree` is asked.
+///
+/// The faults are those of `Revision::read`, and then those of `tree`. Cost and memory: those of both. Only the reading
+/// takes memory. Source: gitrevisions(7), on tree-ish.
+pub fn tree_of_text<N: Namer, A: Allocator + Copy>(
+    alloc: A,
+    repo: &Repo<N, A>,
+    text: &[u8],
+) -> Result<Name, RevFault>
+    ensures files { Gives fault_of (files_at repo.now.1) result (revision_of text.now
+        >>= λ r. value_denoted (N.name_of repo.now.0) (history_of repo.now.1) r >>= files_in) }
+    ensures held { IfOk result (IsHeldAs kinds.Tree repo.now.1) }
+    ensures base { FaultsComeFirst result (base_of (base_text text.now)) }
+{
+    tree(repo, &Revision::read(alloc, text)?)
 }
 
 /// The name of the commit that a revision gives after peeling.

@@ -1,13 +1,12 @@
 -- What the fields of a reader stand for, and what each of its steps does to them.
-use Rattle.std.specs.Prelude.{◌≡◌, ℕ, suc, ◌+◌, ◌-◌, ◌<◌, ◌≤◌, ◌^◌, Bool, true, false, ◌++◌, length, drop, Option, Some, None, Result, Ok, Err, IfOk}
-use Rattle.std.specs.declared.vec.Vec.{Vec}
+use Rattle.std.specs.Prelude.{◌≡◌, ℕ, suc, ◌+◌, ◌-◌, ◌<◌, ◌≤◌, ◌^◌, Bool, true, false, ◌++◌, length, drop, Option, Some, None, Result, Ok, Err}
 use Rattle.gx_model.specs.Texts.{Bytes}
 use Rattle.gx_model.specs.Streams.Items.{Stream, items_of}
 use Rattle.gx_model.specs.Streams.Items as model
 use Rattle.gx_text.specs.Devices.{Coming}
 use Rattle.gx_stream.specs.Heard.{heard_upto}
 use Rattle.gx_stream.specs.Faults.{shown_end, ended}
-use Rattle.gx_stream.specs.Reading.{AnswersAs, Seen}
+use Rattle.gx_stream.specs.Reading.{Seen}
 use Rattle.gx_stream.specs.Places.{bytes_at, GoesTo, IsWithin, IsScanned, Skipped, Finds}
 use Rattle.gx_stream.specs.declared.fault.StreamFault.{StreamFault}
 use Rattle.gx_stream.specs.declared.fault.StreamFault.TheVariants.{OutOfMemory, ReadFailed, TruncatedData, BadNumber}
@@ -17,6 +16,8 @@ use Rattle.gx_stream.specs.declared.places.Found.TheVariants.{Line, Data, End}
 use Rattle.gx_stream.specs.declared.input.Input.{Input}
 use Rattle.gx_stream.specs.declared.input.State.{State}
 use Rattle.gx_stream.specs.declared.input.State.TheVariants.{Open, Ended, Over}
+use Rattle.gx_stream.specs.declared.pulls.SourceState.{SourceState}
+use Rattle.gx_stream.specs.declared.pulls.SourceState.TheVariants as pulled
 
 -- the items to come, from what the source still gives, and what came and isn't read yet
 abbrev pub shown_stream : State → ℕ → Option Coming → Bytes → Option Stream
@@ -62,10 +63,6 @@ answer_at text (Line p) = Ok (Some (model.Line (bytes_at text p)))
 answer_at text (Data p) = Ok (Some (model.Data (bytes_at text p)))
 answer_at text (End None) = Ok None
 answer_at text (End (Some f)) = Err f
-
--- the next item, the end or a fault is answered, by where it stands in what came
-abbrev pub GivesNext : {R A : Type 0} → (R → Option Coming) → Input R A → Input R A → Found → Type 0
-GivesNext coming old new found = AnswersAs (shown_input old (coming old.source)) (shown_input new (coming new.source)) (answer_at new.text.items found)
 
 abbrev pub IsFoundWithin : Bytes → Found → Type 0
 IsFoundWithin text (Line p) = IsWithin text p
@@ -121,14 +118,15 @@ Keeps old new = KeepsStream old.stream new.stream × (new.most ≤ old.most) × 
 abbrev pub KeepsInput : {R A : Type 0} → (R → Option Coming) → Input R A → Input R A → Type 0
 KeepsInput coming old new = Keeps (shown_input old (coming old.source)) (shown_input new (coming new.source))
 
--- one pull from a source, with room for so many bytes and this text before it, keeps the items to come
-abbrev pub KeepsPulled : {R A E : Type 0} → (R → Option Coming) → R × ℕ × Vec ℕ A → R × ℕ × Vec ℕ A → Result State E → Type 0
-KeepsPulled coming old new result =
-    IfOk result (λ state. KeepsStream (shown_stream Open old.1 (coming old.0) old.2.items) (shown_stream state new.1 (coming new.0) new.2.items))
-
 -- a text has more bytes at its end
 abbrev pub IsLonger : Bytes → Bytes → Type 0
 IsLonger old new = (more : Bytes) × (new ≡ old ++ more)
+
+-- what is known of a text by what is known of its source
+abbrev pub state_of : SourceState → State
+state_of pulled.Open = Open
+state_of pulled.Ended = Ended false
+state_of pulled.Failed = Ended true
 
 -- how many pulls may follow at most
 abbrev pub pulls_left : State → ℕ → ℕ

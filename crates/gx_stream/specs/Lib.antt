@@ -1,4 +1,5 @@
 pub mod Heard
+pub mod Pulled
 pub mod Faults
 pub mod Places
 pub mod Reading

@@ -45,9 +45,6 @@ FallsAs old new (Ok None) = new ≤ old
 FallsAs old new (Ok (Some item)) = new < old
 FallsAs old new (Err f) = new ≤ old
 
-abbrev pub Falls : ℕ → ℕ → Result (Option Item) StreamFault → Type 0
-Falls old new answer = FallsAs old new (answer_of answer)
-
 -- A reader is over after the end or a fault, and not after an item.
 abbrev pub over_after : Result (Option model.Item) StreamFault → Option (Option StreamFault)
 over_after (Ok None) = Some None

@@ -1,19 +1,15 @@
 //! What came from a source, and the items in it.
 
 ghost use Rattle.std.specs.Prelude.{◌≡◌, ◌<◌, ◌≤◌, ◌+◌, length, drop, None, IfOk, IsTrue, OnOk};
-ghost use Rattle.gx_stream.specs.Input.{IsSound, FitsState, IsLonger, IsFoundWithin, GivesNext, Looks, is_whole, Takes, KeepsInput, KeepsPulled, LeavesFewer, shown_over, pulls_left};
+ghost use Rattle.gx_stream.specs.Input.{IsSound, FitsState, IsLonger, IsFoundWithin, Looks, is_whole, Takes, KeepsInput, KeepsStream, LeavesFewer, answer_at, shown_input, shown_over, shown_stream, pulls_left, state_of};
+ghost use Rattle.gx_stream.specs.Reading.{AnswersAs};
 ghost use Rattle.gx_stream.specs.declared.input.State.TheVariants.{Open};
 
 use crate::fault::StreamFault;
 use crate::places::{Found, Scan, find_item};
-use gx_text::{Failed, Source};
+use crate::pulls::{SourceState, pull_piece};
+use gx_text::{PIECE, Source};
 use std::alloc::{AllocError, Allocator};
-
-/// The most bytes that are taken from a source.
-pub(crate) const LIMIT: usize = 0x7fff_ffff_ffff_ffff;
-
-/// How many bytes a pull asks for.
-const PIECE: usize = 0x1_0000;
 
 /// What is known of the text: more of it may come, or it came whole and may fail at its end, or the last answer was given:
 /// the end, or a fault.
@@ -43,7 +39,9 @@ impl<R: Source, A: Allocator + Copy> Input<R, A> {
         requires { IsSound self.old }
         ensures sound { IsSound self.new }
         ensures within { IsFoundWithin self.new.text.items result }
-        ensures answers { GivesNext R.coming self.old self.new result }
+        ensures answers { AnswersAs
+            (shown_input self.old (R.coming self.old.source)) (shown_input self.new (R.coming self.new.source))
+            (answer_at self.new.text.items result) }
     {
         loop {
             let found = look(&self.text, &mut self.at, &mut self.scan, self.state);
@@ -175,22 +173,24 @@ fn append_piece<R: Source, A: Allocator>(
     requires { 0 < length buffer.old }
     ensures longer { IsLonger text.old.items text.new.items }
     ensures within { length text.new.items + room.new ≤ length text.old.items + room.old }
-    ensures keeps { KeepsPulled R.coming (source.old, room.old, text.old) (source.new, room.new, text.new) result }
+    ensures keeps { IfOk result (λ state. KeepsStream
+        (shown_stream Open room.old (R.coming source.old) text.old.items)
+        (shown_stream state room.new (R.coming source.new) text.new.items)) }
     ensures goes_on { IfOk result (λ state. shown_over state ≡ None) }
     ensures fewer { IfOk result (λ state. pulls_left state room.new < pulls_left Open room.old) }
 {
-    match source.pull(buffer) {
-        Err(Failed) => Ok(State::Ended(true)),
-        Ok(0) => Ok(State::Ended(false)),
-        Ok(count) => {
-            let taken = count.min(*room);
-            text.extend_from_slice(&buffer[..taken])?;
-            *room -= taken;
-            if taken < count {
-                Ok(State::Ended(true))
-            } else {
-                Ok(State::Open)
-            }
-        }
+    let (state, count) = pull_piece(source, buffer, room);
+    text.extend_from_slice(&buffer[..count])?;
+    Ok(state_of(state))
+}
+
+/// What is known of a text by what is known of its source.
+fn state_of(state: SourceState) -> State
+    ensures { result ≡ state_of state }
+{
+    match state {
+        SourceState::Open => State::Open,
+        SourceState::Ended => State::Ended(false),
+        SourceState::Failed => State::Ended(true),
     }
 }

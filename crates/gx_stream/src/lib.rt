@@ -7,9 +7,11 @@ mod first;
 mod input;
 mod item;
 mod places;
+mod pulls;
 mod reader;
 
 pub use fault::StreamFault;
 pub use first::{First, first_item};
 pub use item::Item;
+pub use pulls::{LIMIT, SourceState, pull_piece};
 pub use reader::ItemReader;

@@ -9,9 +9,10 @@ ghost use Rattle.gx_stream.specs.Reading.{Answers};
 ghost use Rattle.gx_stream.specs.contracts.reader.ItemReader.{the_row};
 
 use crate::fault::StreamFault;
-use crate::input::{Input, LIMIT, State};
+use crate::input::{Input, State};
 use crate::item::Item;
 use crate::places::{Found, Scan};
+use crate::pulls::LIMIT;
 use gx_text::Source;
 use std::alloc::Allocator;
 use std::marker::Model;

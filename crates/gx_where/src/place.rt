@@ -10,14 +10,9 @@ use crate::fault::WhereFault;
 use crate::lines::{count_lines, first_line};
 use crate::rest::{count_items, rest_behind};
 use gx_command::items_behind;
-use gx_text::Bytes;
+use gx_stream::LIMIT;
+use gx_text::{Bytes, PIECE};
 use std::alloc::Allocator;
-
-/// The most bytes that a text has which is read.
-const LIMIT: usize = 0x7fff_ffff_ffff_ffff;
-
-/// How many bytes of the text are given to the reader of commands at a time.
-const PIECE: usize = 0x1_0000;
 
 /// A place in a text.
 #[derive(Clone, Copy, Debug, PartialEq, Eq)]

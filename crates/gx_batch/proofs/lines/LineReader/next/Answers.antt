@@ -1,5 +1,6 @@
 use Rattle.std.proofs.Common.{◌≡◌, true, false, Ok, sym, subst, arith, length, slice_range}
-use Rattle.gx_batch.specs.Reading.{Reads, TakesPart, rest_of, shown_coming, shown_reader}
+use Rattle.gx_batch.specs.Reading.{Reads, TakesPart, rest_of, shown_reader}
+use Rattle.gx_stream.specs.Pulled.{shown_coming}
 use Rattle.gx_batch.proofs.PassedBytes.{all_passed, ends_so, fails_so, has_none, has_some, passes_still, same_most, still_lacks, whole_line}
 use Rattle.gx_batch.proofs.lines.LineReader.next.Goals as goal
 

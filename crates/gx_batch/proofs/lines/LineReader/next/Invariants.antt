@@ -1,7 +1,8 @@
 use Rattle.std.proofs.Common.{◌≡◌, ◌+◌, ◌≤◌, true, length}
 use Rattle.gx_model.specs.Texts.{lacks}
 use Rattle.gx_batch.specs.Lines.{byte_of}
-use Rattle.gx_batch.specs.Reading.{IsSound, Passes, most, pulls_left, shown_reader}
+use Rattle.gx_batch.specs.Reading.{IsSound, most, shown_reader}
+use Rattle.gx_stream.specs.Pulled.{Passes, pulls_left}
 use Rattle.gx_batch.proofs.lines.LineReader.next.Given as goal
 
 abbrev pub invariant-loop-line : goal.invariant-loop-line

@@ -1,8 +1,8 @@
 use Rattle.std.proofs.Common.{◌≡◌, ◌-◌, [], take, true, Some, sym, subst, arith}
-use Rattle.gx_batch.specs.Reading.{Passes, shown_coming}
-use Rattle.gx_batch.specs.declared.lines.State.TheVariants.{Open}
-use Rattle.gx_batch.proofs.Arrivals.{pulled_failed, pulled_more, pulled_none, pulled_over}
-use Rattle.gx_batch.proofs.lines.pull_piece.Goals as goal
+use Rattle.gx_stream.specs.Pulled.{Passes, shown_coming}
+use Rattle.gx_stream.specs.declared.pulls.SourceState.TheVariants.{Open}
+use Rattle.gx_stream.proofs.Arrivals.{pulled_failed, pulled_more, pulled_none, pulled_over}
+use Rattle.gx_stream.proofs.pulls.pull_piece.Goals as goal
 
 pub returns-in-Err-clause-keeps : goal.returns-in-Err-clause-keeps
 returns-in-Err-clause-keeps g c = pulled_failed _ _ _ _ _ c.in-Err.ensures.bytes

@@ -34,16 +34,19 @@ ENUMS = {
         "gx_line/src/command_line.rt LineFault",
         "gx/src/fault.rt RunFault",
     ],
+    "The library": ["gx_c/src/answer.rt Why"],
 }
 
 
 def words_of(place):
-    """The words that an enum's variants print: each its own text, or its name. Variants that print another fault have none."""
+    """The words that an enum's variants print: each its own text, or its name. Those of no text or another fault's have none."""
     file, name = place.split()
     text = (TOP / "crates" / file).read_text()
     body = re.search(rf"^pub(?:\(crate\))? enum {name} \{{\n(.*?)^\}}", text, re.M | re.S).group(1)
+    told = dict(re.findall(rf'\b{name}::(\w+)(?:\(\w+\))? => (?:"(\w*)"|\w+\.word\(\))', text))
     variants = re.findall(r'^ {4}(?:#\[error\("(.*)"\)\]\n {4})?(\w+)\b', body, re.M)
-    return {(own or variant).removeprefix("gx: ") for own, variant in variants if "{" not in own}
+    words = (own or told.get(variant, variant) for own, variant in variants)
+    return {word.removeprefix("gx: ") for word in words if word and "{" not in word}
 
 
 def standing():

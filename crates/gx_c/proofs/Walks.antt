@@ -28,8 +28,8 @@ module _ {A : Type 0} (given : Result (List Bytes) WordFault) (answer : Answer A
   -- where the names' lines are answered, what range words list is
   pub walked : (why : Why) → answer.number ≡ 0 → AnswersSo (Ok (0, flat_map (λ name. digits_line name.bytes) names)) why answer → AnswersWords given Lists why answer
   walked Done none h = (map (λ name. name.bytes) names, is, sym (ap text_of h) ∙ lines_of names)
-  walked (Revision OutOfMemory) none h = none
-  walked (Revision fault) none h = absurd (cc h)
+  walked (Revision OutOfMemory) none h = (none, h.1)
+  walked (Revision fault) none h = absurd (cc h.0)
   walked (Import fault) none h = absurd h
   walked (Store fault) none h = absurd h
   walked Field none h = absurd h

@@ -9,7 +9,7 @@ use Rattle.gx_model.specs.declared.objects.Mode.{Mode}
 use Rattle.gx_model.specs.declared.objects.Mode.TheVariants as mode
 use Rattle.gx_model.specs.Texts.{Bytes}
 use Rattle.gx_model.specs.Texts.Paths.{path_of}
-use Rattle.gx_model.specs.Faults.{Given, IsFaultOf, and_then}
+use Rattle.gx_model.specs.Faults.{Given, IsFaultOf, ◌>>=◌}
 use Rattle.gx_model.specs.Faults.FaultWords as import_words
 use Rattle.gx_model.specs.Faults.StoreFaults as store_words
 use Rattle.gx_model.specs.Histories.{History}
@@ -41,10 +41,10 @@ word_of_why (Import fault) = import_words.word_of fault
 word_of_why (Store fault) = store_words.word fault
 word_of_why Field = codes "UnknownField"
 
--- The number and the bytes are those that are given, or the fault is told; unless memory ran out.
+-- The number and the bytes are those that are given, or the fault is told, with no bytes; unless memory ran out.
 abbrev pub AnswersSo : {A : Type 0} → Given (ℕ × Bytes) → Why → Answer A → Type 0
 AnswersSo given Done answer = given ≡ Ok (answer.number, answer.bytes.items)
-AnswersSo given (Revision fault) answer = IsFaultOf (rev.fault_of fault) given
+AnswersSo given (Revision fault) answer = IsFaultOf (rev.fault_of fault) given × (answer.bytes.items ≡ [])
 AnswersSo given (Import fault) answer = ⊥
 AnswersSo given (Store fault) answer = ⊥
 AnswersSo given Field answer = ⊥
@@ -54,12 +54,12 @@ Answers given answer = AnswersSo given answer.why answer
 
 -- a text alone
 abbrev pub AnswersText : {A : Type 0} → Given Bytes → Answer A → Type 0
-AnswersText given answer = Answers (and_then given (λ text. Ok (0, text))) answer
+AnswersText given answer = Answers (given >>= λ text. Ok (0, text)) answer
 
--- What range words give has this text, or the first word that is refused is told by its number; unless memory ran out.
+-- What range words give has this text, or the first word that is refused is told by its number, with no bytes; unless memory ran out.
 abbrev pub AnswersWords : {A : Type 0} → Result (List Bytes) WordFault → (Bytes → Type 0) → Why → Answer A → Type 0
 AnswersWords given IsText Done answer = IsText answer.bytes.items
-AnswersWords given IsText (Revision fault) answer = IsWordFault answer.number (rev.fault_of fault) given
+AnswersWords given IsText (Revision fault) answer = IsWordFault answer.number (rev.fault_of fault) given × (answer.bytes.items ≡ [])
 AnswersWords given IsText (Import fault) answer = ⊥
 AnswersWords given IsText (Store fault) answer = ⊥
 AnswersWords given IsText Field answer = ⊥
@@ -86,11 +86,11 @@ kind_number kind.Tag = 4
 module _ (name : Kind → Bytes → Bytes) (h : History) where
   -- the file at a path in the tree of a revision, each by its text
   abbrev pub file_at : Bytes → Bytes → Given (Leaf Bytes)
-  file_at revision path = and_then (revision_of revision) (λ r. and_then (path_of path) (looked_up name h r))
+  file_at revision path = revision_of revision >>= λ r. path_of path >>= looked_up name h r
 
   -- its mode and its bytes
   abbrev pub file_answer : Bytes → Bytes → Given (ℕ × Bytes)
-  file_answer revision path = and_then (file_at revision path) (λ leaf. Ok (mode_number leaf.0, leaf.1))
+  file_answer revision path = file_at revision path >>= λ leaf. Ok (mode_number leaf.0, leaf.1)
 
   -- the kind and the body of what is shown
   abbrev pub shown_answer : Shown → Given (ℕ × Bytes)
@@ -99,7 +99,7 @@ module _ (name : Kind → Bytes → Bytes) (h : History) where
 
   -- those of what the text of a revision gives
   abbrev pub object_answer : Bytes → Given (ℕ × Bytes)
-  object_answer revision = and_then (and_then (revision_of revision) (denoted name h)) shown_answer
+  object_answer revision = revision_of revision >>= denoted name h >>= shown_answer
 
   -- the kind and the digits of what is shown: a submodule names a commit
   abbrev pub named_answer : Shown → Given (ℕ × Bytes)
@@ -108,7 +108,7 @@ module _ (name : Kind → Bytes → Bytes) (h : History) where
 
   -- those of what the text of a revision gives
   abbrev pub name_answer : Bytes → Given (ℕ × Bytes)
-  name_answer revision = and_then (and_then (revision_of revision) (denoted name h)) named_answer
+  name_answer revision = revision_of revision >>= denoted name h >>= named_answer
 
   -- the commits that range words list, each by the digits of its name in a line
   abbrev pub ListsCommits : List RangeWord → Bytes → Type 0

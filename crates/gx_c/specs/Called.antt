@@ -8,7 +8,7 @@ use Rattle.gx_model.specs.declared.objects.Kind.{Kind}
 use Rattle.gx_model.specs.declared.store_versions.Version.TheVariants.{Two}
 use Rattle.gx_model.specs.Changes.{changes_text}
 use Rattle.gx_model.specs.Export.{export_text}
-use Rattle.gx_model.specs.Faults.{Given, IsFaultOf, and_then}
+use Rattle.gx_model.specs.Faults.{Given, IsFaultOf, ◌>>=◌}
 use Rattle.gx_model.specs.Histories.{History, Records}
 use Rattle.gx_model.specs.Objects.Naming.{record_text}
 use Rattle.gx_model.specs.Records.HistoryOf.{history_of}
@@ -90,12 +90,12 @@ Range closed = Uses (λ h words answer. AnswersRange git_name h closed words ans
 
 -- A text is put behind words as a range word; or it is none, for this fault, or memory ran out, and they stay.
 abbrev pub Adds : {B : Type 0} → Given RangeWord → List (RangeHeld B) → List (RangeHeld B) → Result (Unit {0}) RevFault → Type 0
-Adds given old new (Ok done) = and_then given (λ word. Ok (map shown_range old ++ word ∷ [])) ≡ Ok (map shown_range new)
+Adds given old new (Ok done) = (given >>= λ word. Ok (map shown_range old ++ word ∷ [])) ≡ Ok (map shown_range new)
 Adds given old new (Err fault) = IsFaultOf (fault_of fault) given × (new ≡ old)
 
 -- the same of the words that were given, by why the call was refused
 abbrev pub AddsWord : Given RangeWord → Why → Opened → Opened → Type 0
-AddsWord given why.Done was now = and_then given (λ word. Ok (words_of was ++ word ∷ [])) ≡ Ok (words_of now)
+AddsWord given why.Done was now = (given >>= λ word. Ok (words_of was ++ word ∷ [])) ≡ Ok (words_of now)
 AddsWord given (why.Revision fault) was now = IsFaultOf (fault_of fault) given × (words_of now ≡ words_of was)
 AddsWord given (why.Import fault) was now = ⊥
 AddsWord given (why.Store fault) was now = ⊥

@@ -3,7 +3,7 @@
 use Rattle.std.specs.Prelude.{◌≡◌, ℕ, List, [], ◌∷◌, Option, None, Some, Ok}
 use Rattle.std.specs.List.{flat_map, slice_get}
 use Rattle.gx_model.specs.declared.objects.Kind.{Kind}
-use Rattle.gx_model.specs.Faults.{Given, and_then}
+use Rattle.gx_model.specs.Faults.{Given, ◌>>=◌}
 use Rattle.gx_model.specs.Histories.{History}
 use Rattle.gx_model.specs.Objects.{CommitParts, hex}
 use Rattle.gx_model.specs.Records.{parts_of_commit}
@@ -37,16 +37,16 @@ field_text Message parts = parts.text.message
 -- What a call answers of a field. Where no field has the number, that is told, whatever the others give.
 abbrev pub AnswersNumbered : {A : Type 0} → Option Field → (Field → Given Bytes) → Answer A → Type 0
 AnswersNumbered (Some field) given answer = AnswersText (given field) answer
-AnswersNumbered None given answer = answer.why ≡ why.Field
+AnswersNumbered None given answer = (answer.why ≡ why.Field) × (answer.bytes.items ≡ [])
 
 module _ (name : Kind → Bytes → Bytes) (h : History) where
   -- the parts of the commit that the text of a revision gives after peeling
   abbrev pub parts_given : Bytes → Given CommitParts
-  parts_given revision = and_then (and_then (revision_of revision) (commit_denoted name h)) (λ made. Ok (parts_of_commit name made))
+  parts_given revision = revision_of revision >>= λ r. commit_denoted name h r >>= λ made. Ok (parts_of_commit name made)
 
   -- a field of that commit
   abbrev pub field_given : Bytes → Field → Given Bytes
-  field_given revision field = and_then (parts_given revision) (λ parts. Ok (field_text field parts))
+  field_given revision field = parts_given revision >>= λ parts. Ok (field_text field parts)
 
   -- the field of this number
   abbrev pub AnswersField : {A : Type 0} → Bytes → ℕ → Answer A → Type 0

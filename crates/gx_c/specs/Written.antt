@@ -3,7 +3,7 @@
 use Rattle.std.specs.Prelude.{◌≡◌, Bool, List, Ok}
 use Rattle.gx_model.specs.declared.objects.Kind.{Kind}
 use Rattle.gx_model.specs.Changes.{range_text}
-use Rattle.gx_model.specs.Faults.{Given, and_then}
+use Rattle.gx_model.specs.Faults.{Given, ◌>>=◌}
 use Rattle.gx_model.specs.Histories.{History}
 use Rattle.gx_model.specs.Revisions.{RangeWord, revision_of}
 use Rattle.gx_model.specs.Revisions.Ranges.{Word, listed, words_denoted}
@@ -15,7 +15,7 @@ use Rattle.gx_c.specs.declared.answer.Answer.{Answer}
 module _ (name : Kind → Bytes → Bytes) (h : History) where
   -- the archive of what the text of a revision gives
   abbrev pub archive_answer : Bytes → Bytes → Given Bytes
-  archive_answer revision prefix = and_then (revision_of revision) (λ r. archive_of name h r prefix)
+  archive_answer revision prefix = revision_of revision >>= λ r. archive_of name h r prefix
 
   -- the export of the changes of the commits that range words list
   abbrev pub ExportsRange : Bool → List RangeWord → Bytes → Type 0

@@ -2,11 +2,12 @@
 
 ghost use Rattle.std.specs.Prelude.{◌≡◌, ◌++◌, IfOk, Ok, OnOk, map};
 ghost use Rattle.std.specs.List.{flat_map};
+ghost use Rattle.gx_model.specs.Faults.{Gives};
 ghost use Rattle.gx_model.specs.Objects.{hex};
 ghost use Rattle.gx_model.specs.Records.HistoryOf.{history_of};
 ghost use Rattle.gx_model.specs.Stores.StoreText.{stored_ref};
-ghost use Rattle.gx_rev.specs.Answers.{IsNamed};
-ghost use Rattle.gx_rev.specs.Calls.{DenotesText, ReadsFile};
+ghost use Rattle.gx_rev.specs.Answers.{shown_file};
+ghost use Rattle.gx_rev.specs.RevFaults.{fault_of};
 ghost use Rattle.gx_rev.specs.Views.{shown_range};
 ghost use Rattle.gx_c.specs.Answers.{Answers, AnswersText, AnswersWalk, digits_line, file_answer, file_at, kind_number, mode_number, name_answer, object_answer};
 
@@ -27,7 +28,8 @@ pub(crate) fn file<N: Namer, A: Allocator + Copy>(
     revision: &[u8],
     path: &[u8],
 ) -> Answer<A>
-    ensures { Answers (file_answer (N.name_of repo.now.0) (history_of repo.now.1) revision.now path.now) result }
+    ensures { Answers (file_answer (N.name_of repo.now.0) (history_of repo.now.1) revision.now path.now)
+        result }
 {
     match look_at(alloc, repo, revision, path) {
         Ok((mode, bytes)) => Answer::given(bytes, mode_number(mode)),
@@ -41,7 +43,8 @@ fn look_at<N: Namer, A: Allocator + Copy>(
     revision: &[u8],
     path: &[u8],
 ) -> Result<(Mode, Vec<u8, A>), RevFault>
-    ensures { ReadsFile (file_at (N.name_of repo.now.0) (history_of repo.now.1) revision.now path.now) result }
+    ensures { Gives fault_of shown_file result
+        (file_at (N.name_of repo.now.0) (history_of repo.now.1) revision.now path.now) }
 {
     let revision = Revision::read(alloc, revision)?;
     let path = TreePath::read(alloc, path)?;
@@ -159,23 +162,11 @@ pub(crate) fn object<N: Namer, A: Allocator + Copy>(
 ) -> Answer<A>
     ensures { Answers (object_answer (N.name_of repo.now.0) (history_of repo.now.1) revision.now) result }
 {
-    match eval(alloc, repo, revision) {
+    match Revision::eval_text(alloc, repo, revision) {
         Ok(Shown::Object(kind, name)) => given_body(alloc, kind, body_of(repo, &name)),
         Ok(Shown::Submodule(_)) => Answer::refused(alloc, Why::Revision(RevFault::WrongKind), 0),
         Err(fault) => Answer::refused(alloc, Why::Revision(fault), 0),
     }
-}
-
-fn eval<N: Namer, A: Allocator + Copy>(
-    alloc: A,
-    repo: &Repo<N, A>,
-    revision: &[u8],
-) -> Result<Shown, RevFault>
-    ensures shown { DenotesText N.name_of repo.now revision.now result }
-    ensures named { IfOk result (IsNamed (N.name_of repo.now.0) repo.now.1) }
-{
-    let revision = Revision::read(alloc, revision)?;
-    revision.eval(repo)
 }
 
 /// The body of an object of this kind.
@@ -211,7 +202,7 @@ pub(crate) fn name<N: Namer, A: Allocator + Copy>(
 ) -> Answer<A>
     ensures { Answers (name_answer (N.name_of repo.now.0) (history_of repo.now.1) revision.now) result }
 {
-    match eval(alloc, repo, revision) {
+    match Revision::eval_text(alloc, repo, revision) {
         Ok(Shown::Object(kind, name)) => given_digits(alloc, kind, &name),
         Ok(Shown::Submodule(name)) => given_digits(alloc, Kind::Commit, &name),
         Err(fault) => Answer::refused(alloc, Why::Revision(fault), 0),

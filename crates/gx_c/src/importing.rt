@@ -5,12 +5,11 @@ ghost use Rattle.gx_model.specs.Records.Sound.{IsSound};
 ghost use Rattle.gx_c.specs.Importing.{AnswersImport, features_of, told_fault};
 
 use crate::answer::{Answer, Why};
-use crate::growing::Growing;
 use gx_import::import_asking;
 use gx_model::{Fault, Features};
 use gx_object::Namer;
 use gx_repo::Repo;
-use gx_text::Bytes;
+use gx_text::{Bytes, Growing};
 use std::alloc::Allocator;
 
 /// So many bytes of a stream are given at once.

@@ -6,7 +6,6 @@ mod answer;
 mod asking;
 mod calls;
 mod fields;
-mod growing;
 mod handing;
 mod held;
 mod importing;

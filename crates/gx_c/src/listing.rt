@@ -7,18 +7,18 @@ ghost use Rattle.gx_model.specs.Records.HistoryOf.{history_of};
 ghost use Rattle.gx_object.specs.Entries.{shown};
 ghost use Rattle.gx_rev.specs.RevFaults.{fault_of};
 ghost use Rattle.gx_c.specs.Answers.{AnswersText};
-ghost use Rattle.gx_c.specs.Listings.{listed, listing_of, mode_and_kind};
+ghost use Rattle.gx_c.specs.Listings.{listed, listing_of};
 
 use crate::answer::{Answer, Why};
-use gx_object::{Entry, Mode, Namer, TreeEntries};
+use gx_object::{Entry, Namer, TreeEntries};
 use gx_repo::Repo;
-use gx_rev::{RevFault, Revision, entries_of, tree};
+use gx_rev::{RevFault, entries_of, put_entry_head, tree_of_text};
 use std::alloc::{AllocError, Allocator};
 
 /// The entries of the tree that a text gives as a revision, in Git's order: of each the mode, the kind, the digits, a
 /// TAB, its name and a NUL. A tree below is asked for by itself, as `main:dir`.
 ///
-/// Refused by the first fault of the revision's text and of what it gives. Cost: that of `gx_rev::tree`, and the text's
+/// Refused by the first fault of the revision's text and of what it gives. Cost: that of `gx_rev::tree_of_text`, and the text's
 /// length.
 pub(crate) fn ls<N: Namer, A: Allocator + Copy>(
     alloc: A,
@@ -38,10 +38,10 @@ fn listing<N: Namer, A: Allocator + Copy>(
     repo: &Repo<N, A>,
     revision: &[u8],
 ) -> Result<Vec<u8, A>, RevFault>
-    ensures { Gives fault_of (λ text. text.items) result (listing_of (N.name_of repo.now.0) (history_of repo.now.1) revision.now) }
+    ensures { Gives fault_of (λ text. text.items) result
+        (listing_of (N.name_of repo.now.0) (history_of repo.now.1) revision.now) }
 {
-    let revision = Revision::read(alloc, revision)?;
-    let tree = tree(repo, &revision)?;
+    let tree = tree_of_text(alloc, repo, revision)?;
     Ok(put_entries(alloc, entries_of(repo, &tree))?)
 }
 
@@ -62,23 +62,8 @@ fn put_entries<A: Allocator + Copy>(
 fn put_entry<A: Allocator>(text: &mut Vec<u8, A>, entry: &Entry<'_>) -> Result<(), AllocError>
     ensures { OnOk result (text.new.items ≡ text.old.items ++ listed (shown entry.now)) }
 {
-    text.extend_from_slice(mode_and_kind(entry.mode))?;
-    text.extend_from_slice(entry.name.hex().as_slice())?;
-    text.push(b'\t')?;
+    put_entry_head(text, entry.mode, &entry.name)?;
     text.extend_from_slice(entry.component)?;
     text.push(b'\0')?;
     Ok(())
-}
-
-/// The mode in octal with six digits, and the kind of what an entry of this mode names, each with a space behind it.
-fn mode_and_kind(mode: Mode) -> &'static [u8]
-    ensures { result.now ≡ mode_and_kind mode }
-{
-    match mode {
-        Mode::File => b"100644 blob ",
-        Mode::Exec => b"100755 blob ",
-        Mode::Link => b"120000 blob ",
-        Mode::Gitlink => b"160000 commit ",
-        Mode::Dir => b"040000 tree ",
-    }
 }

@@ -13,13 +13,13 @@ ghost use Rattle.gx_c.specs.Answers.{AnswersText};
 ghost use Rattle.gx_c.specs.Written.{AnswersRange, archive_answer};
 
 use crate::answer::{Answer, Why};
-use crate::growing::Growing;
 use gx_archive::{ArchiveFault, archive};
 use gx_export::{RangeFault, export, export_changes, export_range};
 use gx_file::write;
 use gx_object::Namer;
 use gx_repo::Repo;
 use gx_rev::{Range, RevFault, Revision};
+use gx_text::Growing;
 use std::alloc::Allocator;
 
 /// The store text of the repository, of version 2.

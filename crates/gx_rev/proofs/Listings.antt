@@ -1,6 +1,6 @@
 -- Range words one after the other: those that are done, the next, and what all list.
 use Rattle.std.proofs.Common.{◌≡◌, ℕ, zero, suc, ◌+◌, ◌<◌, ◌≤◌, drop, Bool, true, false, refl, sym, ap, ◌∙◌, arith, List, [], ◌∷◌, ◌++◌, map, length, Result, Ok, Err, append_assoc, append-nil}
-use Rattle.std.specs.Prelude.{◌||◌, ◌&&◌, not, slice_index_or}
+use Rattle.std.specs.Prelude.{◌||◌, slice_index_or}
 use Rattle.std.specs.List.{list_any}
 use Rattle.std.proofs.lemmas.List.Folds.{list_any-append}
 use Rattle.gx_model.specs.declared.faults.Fault.{Fault}
@@ -14,13 +14,11 @@ use Rattle.gx_model.specs.Histories.{History, Records}
 use Rattle.gx_model.specs.Revisions.Ranges.{Word, WordFault, at_word, each_from, listed, listing, no_commit, span, word_denoted}
 use Rattle.gx_rev.specs.declared.fault.RevFault.{RevFault}
 use Rattle.gx_rev.specs.declared.fault.RevFault.TheVariants.{OutOfMemory}
-use Rattle.gx_model.specs.Histories.Marks.{marks_of}
 use Rattle.gx_model.specs.Laws.RangeLaws.{is_excluded}
 use Rattle.gx_rev.specs.RevFaults.{fault_of}
-use Rattle.gx_rev.specs.Walking.{IsWordFault, is_included, names_back, refused_at}
+use Rattle.gx_rev.specs.Walking.{IsWordFault, is_included, refused_at}
 use Rattle.gx_rev.specs.Tips.{AddsTips, AreTips}
 use Rattle.gx_rev.proofs.Tips.{same_tips}
-use Rattle.gx_rev.proofs.WordMarks.{names_listed}
 
 -- the first words are these, and their tips are marked
 pub record AreDone (f : RangeWord → Given Word) (repository : Records) (all left : List RangeWord) (count : ℕ) (ins outs : List Bool) (done : List Word) : Type 0 where
@@ -89,10 +87,10 @@ module _ (name : Kind → Bytes → Bytes) (h : History) where
   unfolding listed
   listed_is ws done k = ap (λ r. r >>= λ xs. Ok (map (λ c. name_of name (commit_value c)) (listing h xs))) k
 
-  -- the names of the marks that are left are those that are listed
+  -- the names of the commits that are included and not excluded are those that are listed
   pub names_are : (ws : List RangeWord) (done : List Word) (names : List Bytes) → each_from 1 (word_denoted name h) ws ≡ Ok done
-      → names ≡ names_back name h.values (marks_of (λ c. is_included done c && not (is_excluded done c)) h.values) → listed name h ws ≡ Ok names
-  names_are ws done names k n = listed_is ws done k ∙ ap Ok (sym (n ∙ names_listed name h.values (λ c. is_included done c && not (is_excluded done c))))
+      → names ≡ map (λ c. name_of name (commit_value c)) (listing h done) → listed name h ws ≡ Ok names
+  names_are ws done names k n = listed_is ws done k ∙ ap Ok (sym n)
 
   -- a word's fault, or want of memory
   pub word_fails : (ws : List RangeWord) (count : ℕ) (kind : RevFault) (x : RangeWord) → IsFaultOf (fault_of kind) (word_denoted name h x)

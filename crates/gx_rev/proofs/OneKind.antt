@@ -5,15 +5,14 @@ use Rattle.gx_model.specs.declared.objects.Kind.{Kind}
 use Rattle.gx_model.specs.declared.objects.Kind.TheVariants as kind
 use Rattle.gx_model.specs.Texts.{Bytes}
 use Rattle.gx_model.specs.Histories.Values.{Value, blob_value, commit_value, tag_value, tree_value}
-use Rattle.gx_model.specs.Faults.{◌>>=◌}
+use Rattle.gx_model.specs.Faults.{Gives, ◌>>=◌}
 use Rattle.gx_model.specs.Histories.{Records}
 use Rattle.gx_model.specs.Objects.{IsNamer}
 use Rattle.gx_model.specs.Records.Sound.{IsSound}
 use Rattle.gx_model.specs.Revisions.Denotation.{files_in, only_blob, only_commit, only_tag}
 use Rattle.gx_model.proofs.Records.HeldValues.{kind_held, tree_stands}
 use Rattle.gx_object.specs.declared.name.Name.{Name}
-use Rattle.gx_rev.specs.Calls.{GivesFiles, GivesValue}
-use Rattle.gx_rev.specs.Objects.{IsHeld, IsHeldAs, only}
+use Rattle.gx_rev.specs.Objects.{IsHeld, IsHeldAs, files_at, only, value_at}
 use Rattle.gx_rev.specs.RevFaults.{fault_of}
 use Rattle.gx_rev.specs.declared.fault.RevFault.{RevFault}
 use Rattle.gx_rev.proofs.Answers.{fails_first}
@@ -39,7 +38,8 @@ module _ (name : Kind → Bytes → Bytes) where
 
 module _ (name : Kind → Bytes → Bytes) (namer : IsNamer name) (r : Records) (sound : IsSound name r) where
   -- where the name of a tree of some files is given, that of their tree is
-  pub tree_given : (v : Value) (answer : Result Name RevFault) → GivesFiles r (files_in v) answer → IfOk answer (IsHeldAs kind.Tree r) → GivesValue r (files_in v >>= λ f. Ok (tree_value f)) answer
+  pub tree_given : (v : Value) (answer : Result Name RevFault) → Gives fault_of (files_at r) answer (files_in v) → IfOk answer (IsHeldAs kind.Tree r)
+      → Gives fault_of (value_at r) answer (files_in v >>= λ f. Ok (tree_value f))
   tree_given v (Ok n) e h = ap (λ g. g >>= λ f. Ok (tree_value f)) e ∙ ap Ok (sym (tree_stands name namer r sound n.bytes h).0)
   tree_given v (Err e) i h = fails_first (fault_of e) (files_in v) (λ f. Ok (tree_value f)) (files_in v >>= λ f. Ok (tree_value f)) refl i
 

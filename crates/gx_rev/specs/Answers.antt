@@ -1,10 +1,9 @@
 -- What is answered for a revision, as what it shows in the history.
-use Rattle.std.specs.Prelude.{◌≡◌, ◌↔◌, ℕ, IsTrue, List, map, Option, Ok, Err}
+use Rattle.std.specs.Prelude.{◌≡◌, ◌↔◌, ℕ, IsTrue, Ok, Err}
 use Rattle.std.specs.declared.vec.Vec.{Vec}
 use Rattle.gx_model.specs.declared.objects.Kind.{Kind}
 use Rattle.gx_model.specs.declared.objects.Mode.{Mode}
 use Rattle.gx_model.specs.Texts.{Bytes}
-use Rattle.gx_model.specs.Texts.Paths.{Path}
 use Rattle.gx_model.specs.Histories.Files.{Leaf}
 use Rattle.gx_model.specs.Revisions.{Revision}
 use Rattle.gx_model.specs.Objects.{hex, is_name}
@@ -20,8 +19,6 @@ use Rattle.gx_model.specs.Records.HistoryOf.{bytes_of_blob}
 use Rattle.gx_object.specs.declared.name.Name.{Name}
 use Rattle.gx_rev.specs.declared.shown.Shown.{Shown}
 use Rattle.gx_rev.specs.declared.shown.Shown.TheVariants.{Object, Submodule}
-use Rattle.gx_rev.specs.declared.suffix.Suffix.{Suffix}
-use Rattle.gx_rev.specs.Views.{shown_suffix}
 use Rattle.gx_rev.specs.Objects.{IsHeld, value_at}
 
 -- the value of the object's name, or the submodule's digits
@@ -49,10 +46,6 @@ abbrev pub file_of : Records → Mode → Name → Given (Leaf Bytes)
 file_of repository Dir called = Err WrongKind
 file_of repository Gitlink called = Ok (Gitlink, hex called.bytes)
 file_of repository mode called = Ok (mode, bytes_of_blob (value_at repository called))
-
--- the revision of these parts
-abbrev pub revision_with : Bytes → List Suffix → Option Path → Revision
-revision_with base suffixes path = record { base = base; suffixes = map shown_suffix suffixes; path = path }
 
 -- this is what is answered for a revision
 pub record IsAnswer (name : Kind → Bytes → Bytes) (repository : Records) (revision : Revision) (answer : Shown) : Type 0 where

@@ -1,6 +1,7 @@
 pub mod RevFaults
 pub mod Views
 pub mod Bases
+pub mod Entries
 pub mod Ranges
 pub mod Reached
 pub mod Objects
@@ -9,7 +10,6 @@ pub mod Places
 pub mod Answers
 pub mod Tips
 pub mod Walking
-pub mod Calls
 pub mod Ancestors
 pub mod Meetings
 pub mod FirstParents

@@ -1,13 +1,11 @@
 -- The places of the parents of commits.
-use Rattle.std.specs.Prelude.{◌≡◌, ◌<◌, ◌≤◌, ◌++◌, ℕ, Bool, List, length, map, Some, slice_range, slice_index_or}
+use Rattle.std.specs.Prelude.{◌≡◌, ◌<◌, ◌≤◌, ℕ, Bool, List, length, map, Some, slice_range, slice_index_or}
 use Rattle.std.specs.List.{slice_get}
 use Rattle.gx_model.specs.Histories.Values.{Commit, Commits, commit_value, list_of, parents_of}
 use Rattle.gx_model.specs.Histories.{Records}
 use Rattle.gx_model.specs.Histories.Marks.{IsAt, Marks}
 use Rattle.gx_model.specs.Laws.HistoryLaws.{IsParent}
 use Rattle.gx_model.specs.Laws.RepositoryLaws.{values_of}
-use Rattle.gx_object.specs.declared.name.Name.{Name}
-use Rattle.gx_rev.specs.Objects.{commit_at}
 use Rattle.gx_rev.specs.declared.parents.Parents.{Parents}
 use Rattle.gx_rev.specs.declared.parents.Row.{Row}
 
@@ -26,14 +24,6 @@ MarksPlaces repository places old new = (parents : Commits) → StandAt reposito
 -- these are the places of the parents of the commit at a place
 abbrev pub AreParentPlaces : Records → ℕ → List ℕ → Type 0
 AreParentPlaces repository place places = (made : Commit) → IsAt repository place made → StandAt repository (list_of (parents_of made)) places
-
--- a list has more at its end
-abbrev pub StaysInFront : List ℕ → List ℕ → Type 0
-StaysInFront old new = (added : List ℕ) × (new ≡ old ++ added)
-
--- the places of the parents of the commit of this name stand at the end
-abbrev pub AppendsParents : Records → Name → List ℕ → List ℕ → Type 0
-AppendsParents repository called old new = (added : List ℕ) × (new ≡ old ++ added) × StandAt repository (list_of (parents_of (commit_at repository called))) added
 
 abbrev pub no_row : Row
 no_row = record { start = 0; end = 0 }

@@ -1,8 +1,6 @@
 -- The parts of range words that a word has in common with another.
-use Rattle.std.specs.Prelude.{Bool, true, false, Ok}
-use Rattle.gx_model.specs.Texts.{Bytes}
-use Rattle.gx_model.specs.Faults.{Given, ◌>>=◌}
-use Rattle.gx_model.specs.Revisions.{RangeWord, Revision, number_or_one, revision_of, without_parent}
+use Rattle.std.specs.Prelude.{Bool, true, false}
+use Rattle.gx_model.specs.Revisions.{RangeWord, Revision}
 use Rattle.gx_model.specs.Revisions as word
 use Rattle.gx_rev.specs.declared.range.Shape.{Shape}
 use Rattle.gx_rev.specs.declared.range.Shape.TheVariants.{WithAncestors, WithoutAncestors, AllParents, Alone}
@@ -18,11 +16,3 @@ one_sided WithAncestors revision = word.WithAncestors revision
 one_sided WithoutAncestors revision = word.WithoutAncestors revision
 one_sided AllParents revision = word.AllParents revision
 one_sided Alone revision = word.Alone revision
-
--- that word of the revision that a text gives
-abbrev pub alone_of : Shape → Bytes → Given RangeWord
-alone_of shape text = revision_of text >>= λ r. Ok (one_sided shape r)
-
--- the word r^-n of what stands before the `^-` and of the digits behind it
-abbrev pub without_one_of : Bytes → Bytes → Given RangeWord
-without_one_of text digits = revision_of text >>= λ r. number_or_one digits >>= λ n. without_parent r n

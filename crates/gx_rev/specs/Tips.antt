@@ -1,12 +1,10 @@
 -- Tips: marks of commits that stand for all that these commits reach.
-use Rattle.std.specs.Prelude.{◌≡◌, ℕ, Bool, ◌&&◌, ◌||◌, IsTrue, List, length}
+use Rattle.std.specs.Prelude.{◌≡◌, ℕ, Bool, ◌||◌, IsTrue, List, length}
 use Rattle.gx_model.specs.Histories.Values.{Commit}
 use Rattle.gx_model.specs.Histories.{Records}
 use Rattle.gx_model.specs.Histories.Marks.{IsAt, IsMarked, marks_of}
 use Rattle.gx_model.specs.Revisions.Ranges.{reaches}
 use Rattle.gx_model.specs.Laws.RepositoryLaws.{values_of}
-use Rattle.gx_object.specs.declared.name.Name.{Name}
-use Rattle.gx_rev.specs.Objects.{commit_at}
 
 -- the marks are of commits, and what these reach are the commits that pass
 pub record AreTips (repository : Records) (test : Commit → Bool) (marks : List Bool) : Type 0 where
@@ -28,18 +26,3 @@ AddsTips repository more old new = (test : Commit → Bool)
 -- all that the tips reach is marked, and nothing else
 abbrev pub Spreads : Records → List Bool → List Bool → Type 0
 Spreads repository old new = (test : Commit → Bool) → AreTips repository test old → new ≡ marks_of test (values_of repository)
-
--- ---- commits by their names
-
--- what is answered is whether the commit of the first name reaches that of the second
-abbrev pub TellsReach : Records → Name → Name → Bool → Type 0
-TellsReach repository from to answer = answer ≡ reaches (commit_at repository from) (commit_at repository to)
-
--- the commits that the one of this name reaches are marked, and no other place
-abbrev pub marks_from : Records → Name → List Bool
-marks_from repository from = marks_of (reaches (commit_at repository from)) (values_of repository)
-
--- the tips reach besides what both the one and the other reach
-abbrev pub AddsCommon : Records → Name → Name → List Bool → List Bool → Type 0
-AddsCommon repository left right old new =
-    AddsTips repository (λ reached. reaches (commit_at repository left) reached && reaches (commit_at repository right) reached) old new

@@ -1,13 +1,13 @@
 -- What range words include and exclude, as marks, and what a walk answers.
-use Rattle.std.specs.Prelude.{◌≡◌, ℕ, Bool, not, ◌&&◌, if◌then◌else◌, List, [], ◌∷◌, ◌++◌, map, Result, Ok, Err, slice_index_or, false}
-use Rattle.std.specs.List.{list_any}
+use Rattle.std.specs.Prelude.{◌≡◌, ℕ, Bool, not, ◌&&◌, List, [], map, reverse, Result, Ok, Err, slice_index_or, false}
+use Rattle.std.specs.List.{filter, filter_map, list_any}
 use Rattle.std.specs.declared.vec.Vec.{Vec}
 use Rattle.gx_model.specs.declared.faults.Fault.{Fault}
 use Rattle.gx_model.specs.declared.faults.Fault.TheVariants as model
 use Rattle.gx_model.specs.declared.objects.Kind.{Kind}
 use Rattle.gx_model.specs.Texts.{Bytes}
 use Rattle.gx_model.specs.Faults.{IsFaultOf}
-use Rattle.gx_model.specs.Histories.Values.{Commit, Value}
+use Rattle.gx_model.specs.Histories.Values.{Commit, commit_of, commit_value}
 use Rattle.gx_model.specs.Records.HistoryOf.{history_of}
 use Rattle.gx_model.specs.Records.{name_of}
 use Rattle.gx_model.specs.Revisions.{RangeWord}
@@ -33,18 +33,13 @@ MarksWord name repository asked old new (Err e) = IsFaultOf (fault_of e) (word_d
 abbrev pub AreWithout : List Bool → List Bool → List Bool → Type 0
 AreWithout new marks others = (place : ℕ) → slice_index_or new place false ≡ (slice_index_or marks place false && not (slice_index_or others place false))
 
--- the names of the marked values, the last one first
-abbrev pub names_back : (Kind → Bytes → Bytes) → List Value → List Bool → List Bytes
-names_back name [] marks = []
-names_back name (v ∷ vs) [] = []
-names_back name (v ∷ vs) (m ∷ ms) = names_back name vs ms ++ (if m then name_of name v ∷ [] else [])
-
--- the names of the commits that the one list of tips reaches and the other doesn't, the last one first
+-- The names are those of the commits that pass the one test and not the other, the newest made first, where these are marked.
 abbrev pub AreListed : {A : Type 0} → (Kind → Bytes → Bytes) → Records → List Bool → List Bool → Vec Name A → Type 0
 AreListed name repository included excluded names = (wanted unwanted : Commit → Bool)
-    → AreTips repository wanted included → AreTips repository unwanted excluded
+    → included ≡ marks_of wanted (values_of repository) → excluded ≡ marks_of unwanted (values_of repository)
     → map (λ called. called.bytes) names.items
-    ≡ names_back name (values_of repository) (marks_of (λ made. wanted made && not (unwanted made)) (values_of repository))
+    ≡ map (λ made. name_of name (commit_value made))
+    (filter (λ made. wanted made && not (unwanted made)) (reverse (filter_map commit_of (values_of repository))))
 
 -- a word's number and its fault; want of memory is of no word
 abbrev pub IsWordFault : ℕ → Fault → Result (List Bytes) WordFault → Type 0

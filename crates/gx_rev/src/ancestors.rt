@@ -4,10 +4,10 @@ ghost use Rattle.std.specs.Prelude.{◌≡◌, IfOk, IsTrue, OnOk, true};
 ghost use Rattle.std.specs.List.{AllByRecursion};
 ghost use Rattle.gx_model.specs.declared.objects.Kind.TheVariants as kinds;
 ghost use Rattle.gx_model.specs.Records.Sound.{Holds};
-ghost use Rattle.gx_rev.specs.Objects.{IsHeldAs};
+ghost use Rattle.gx_model.specs.Revisions.Ranges.{reaches};
+ghost use Rattle.gx_rev.specs.Objects.{IsHeldAs, commit_at};
 ghost use Rattle.gx_rev.specs.Parents.{AreParentPlaces, HoldsParents, IsCommitPlace};
 ghost use Rattle.gx_rev.specs.Ancestors.{AddsParentsAt, IsCommitBefore, TellsReached, TellsReachedSoon};
-ghost use Rattle.gx_rev.specs.Tips.{TellsReach};
 
 use crate::Parents;
 use crate::objects::view_of;
@@ -40,7 +40,8 @@ pub fn is_ancestor<N: Namer, A: Allocator + Copy>(
     requires new { Holds repo.now.1.records kinds.Commit new.now.bytes }
     requires holds { HoldsParents repo.now.1 parents.old }
     ensures holds { HoldsParents repo.now.1 parents.new }
-    ensures answer { IfOk result (TellsReach repo.now.1 new.now old.now) }
+    ensures answer { IfOk result (λ answer. answer
+        ≡ reaches (commit_at repo.now.1 new.now) (commit_at repo.now.1 old.now)) }
 {
     repo.sound();
     // a branch that moved by one commit needs no walk
@@ -57,7 +58,8 @@ pub fn is_ancestor<N: Namer, A: Allocator + Copy>(
 /// Whether the first of two commits is the first parent of the second.
 fn is_first_parent<N: Namer, A: Allocator + Copy>(repo: &Repo<N, A>, old: &Name, new: &Name) -> bool
     requires { IsHeldAs kinds.Commit repo.now.1 new.now }
-    ensures { IsTrue result → TellsReach repo.now.1 new.now old.now true }
+    ensures { IsTrue result → true
+        ≡ reaches (commit_at repo.now.1 new.now) (commit_at repo.now.1 old.now) }
 {
     repo.sound();
     let view = view_of(repo, new);

@@ -2,10 +2,10 @@
 
 ghost use Rattle.std.specs.Prelude.{◌≡◌, true, IfOk};
 ghost use Rattle.gx_rev.specs.Bases.{is_abbreviation, is_full_name};
-ghost use Rattle.gx_rev.specs.Calls.{GivesBegun, GivesNamed, GivesValue};
-ghost use Rattle.gx_rev.specs.Objects.{IsHeld};
-ghost use Rattle.gx_model.specs.Faults.{NeedsNoMemory};
-ghost use Rattle.gx_model.specs.Revisions.Denotation.{base_value};
+ghost use Rattle.gx_rev.specs.Objects.{IsHeld, value_at};
+ghost use Rattle.gx_rev.specs.RevFaults.{fault_of};
+ghost use Rattle.gx_model.specs.Faults.{Gives, NeedsNoMemory};
+ghost use Rattle.gx_model.specs.Revisions.Denotation.{base_value, begun_by, full_name, the_one};
 ghost use Rattle.gx_model.specs.Records.HistoryOf.{history_of};
 
 use crate::RevFault;
@@ -20,7 +20,8 @@ pub(crate) fn eval_base<N: Namer, A: Allocator + Copy>(
     repo: &Repo<N, A>,
     base: &[u8],
 ) -> Result<Name, RevFault>
-    ensures value { GivesValue repo.now.1 (base_value (N.name_of repo.now.0) (history_of repo.now.1) base.now) result }
+    ensures value { Gives fault_of (value_at repo.now.1) result
+        (base_value (N.name_of repo.now.0) (history_of repo.now.1) base.now) }
     ensures held { IfOk result (IsHeld repo.now.1) }
     ensures memory { NeedsNoMemory RevFault.OutOfMemory result }
 {
@@ -58,7 +59,8 @@ fn find_name<N: Namer, A: Allocator + Copy>(
     digits: &[u8],
 ) -> Result<Name, RevFault>
     requires { is_full_name digits.now ≡ true }
-    ensures value { GivesNamed N.name_of repo.now digits.now result }
+    ensures value { Gives fault_of (value_at repo.now.1) result (full_name (N.name_of repo.now.0)
+        (begun_by (N.name_of repo.now.0) (history_of repo.now.1) digits.now)) }
     ensures held { IfOk result (IsHeld repo.now.1) }
     ensures memory { NeedsNoMemory RevFault.OutOfMemory result }
 {
@@ -76,7 +78,8 @@ fn find_digits<N: Namer, A: Allocator + Copy>(
     repo: &Repo<N, A>,
     digits: &[u8],
 ) -> Result<Name, RevFault>
-    ensures value { GivesBegun N.name_of repo.now digits.now result }
+    ensures value { Gives fault_of (value_at repo.now.1) result (the_one (N.name_of repo.now.0)
+        (begun_by (N.name_of repo.now.0) (history_of repo.now.1) digits.now)) }
     ensures held { IfOk result (IsHeld repo.now.1) }
     ensures memory { NeedsNoMemory RevFault.OutOfMemory result }
 {

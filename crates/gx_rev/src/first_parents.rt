@@ -3,9 +3,11 @@
 ghost use Rattle.std.specs.Prelude.{◌≡◌, ◌<◌, IfOk, IsTrue, OnOk, Some, length};
 ghost use Rattle.std.specs.List.{slice_get};
 ghost use Rattle.gx_model.specs.declared.objects.Kind.TheVariants as kinds;
-ghost use Rattle.gx_rev.specs.Calls.{GivesCommit, ancestor_at};
+ghost use Rattle.gx_model.specs.Faults.{Gives};
+ghost use Rattle.gx_model.specs.Revisions.Denotation.{nth_ancestor};
 ghost use Rattle.gx_rev.specs.FirstParents.{AreFirstParents};
-ghost use Rattle.gx_rev.specs.Objects.{IsHeldAs};
+ghost use Rattle.gx_rev.specs.Objects.{IsHeldAs, commit_at};
+ghost use Rattle.gx_rev.specs.RevFaults.{fault_of};
 ghost use Rattle.gx_model.specs.Histories.{Records};
 
 use crate::RevFault;
@@ -43,7 +45,8 @@ impl<A: Allocator + Copy> FirstParents<A> {
         requires held { IsHeldAs kinds.Commit repo.now.1 commit.now }
         requires walk { AreFirstParents repo.now.1 self.old }
         ensures walk { AreFirstParents repo.now.1 self.new }
-        ensures ancestor { GivesCommit repo.now.1 (ancestor_at repo.now.1 commit.now number) result }
+        ensures ancestor { Gives fault_of (commit_at repo.now.1) result
+            (nth_ancestor number (commit_at repo.now.1 commit.now)) }
         ensures held { IfOk result (IsHeldAs kinds.Commit repo.now.1) }
     {
         self.begin_at(repo, commit)?;
@@ -75,7 +78,8 @@ impl<A: Allocator + Copy> FirstParents<A> {
         requires walk { AreFirstParents repo.now.1 self.old }
         requires first { slice_get self.old.names.items 0 ≡ Some commit.now }
         ensures walk { AreFirstParents repo.now.1 self.new }
-        ensures ancestor { GivesCommit repo.now.1 (ancestor_at repo.now.1 commit.now number) result }
+        ensures ancestor { Gives fault_of (commit_at repo.now.1) result
+            (nth_ancestor number (commit_at repo.now.1 commit.now)) }
         ensures held { IfOk result (IsHeldAs kinds.Commit repo.now.1) }
     {
         while self.names.len() as u64 <= number {

@@ -4,6 +4,7 @@
 
 mod ancestors;
 mod base;
+mod entries;
 mod fault;
 mod first_parents;
 mod meetings;
@@ -19,13 +20,14 @@ mod suffix;
 mod walking;
 
 pub use ancestors::is_ancestor;
+pub use entries::put_entry_head;
 pub use fault::{RevFault, WalkFault};
 pub use first_parents::FirstParents;
 pub use objects::{body_at, body_of, entries_of, tag_of, view_of};
 pub use parents::Parents;
 pub use range::Range;
-pub use reached::{name_at, place_of, reaches};
+pub use reached::{name_at, place_of};
 pub use refs::reached_from_refs;
 pub use revision::Revision;
 pub use shown::{Shown, answers_tell_values, commit, look, tree, tree_of_text};
-pub use walking::{walk, walked};
+pub use walking::{names_marked, walk, walked};

@@ -5,10 +5,10 @@ ghost use Rattle.std.specs.List.{AllByRecursion};
 ghost use Rattle.gx_model.specs.declared.objects.Kind.TheVariants as kinds;
 ghost use Rattle.gx_model.specs.Laws.RepositoryLaws.{values_of};
 ghost use Rattle.gx_rev.specs.Ancestors.{AddsParentsAt, IsCommitBefore};
-ghost use Rattle.gx_rev.specs.Meetings.{GoesDown, HasMeeting, MarksMeetings};
-ghost use Rattle.gx_rev.specs.Objects.{IsHeldAs};
+ghost use Rattle.gx_rev.specs.Meetings.{GoesDown, HasMeeting, MarksMeetings, reach_both};
+ghost use Rattle.gx_rev.specs.Objects.{IsHeldAs, commit_at};
 ghost use Rattle.gx_rev.specs.Parents.{HoldsParents, IsCommitPlace};
-ghost use Rattle.gx_rev.specs.Tips.{AddsCommon};
+ghost use Rattle.gx_rev.specs.Tips.{AddsTips};
 
 use crate::Parents;
 use crate::ancestors::insert_places;
@@ -36,7 +36,9 @@ pub(crate) fn mark_common<N: Namer, A: Allocator + Copy>(
     requires long { length marks.old ≡ length (values_of repo.now.1) }
     requires holds { HoldsParents repo.now.1 parents.old }
     ensures holds { HoldsParents repo.now.1 parents.new }
-    ensures marks { OnOk result (AddsCommon repo.now.1 left.now right.now marks.old marks.new) }
+    ensures marks { OnOk result (AddsTips repo.now.1
+        (reach_both (commit_at repo.now.1 left.now) (commit_at repo.now.1 right.now))
+        marks.old marks.new) }
 {
     repo.sound();
     let left = place_of(repo, left);

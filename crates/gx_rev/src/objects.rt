@@ -3,11 +3,11 @@
 ghost use Rattle.std.specs.Prelude.{◌≡◌, ◌<◌, IfOk, Some, length};
 ghost use Rattle.gx_model.specs.declared.objects.Kind.TheVariants as kinds;
 ghost use Rattle.gx_model.specs.Laws.RepositoryLaws.{values_of};
-ghost use Rattle.gx_model.specs.Revisions.Denotation.{commit_in, files_in};
+ghost use Rattle.gx_model.specs.Revisions.Denotation.{commit_in, files_in, nth_ancestor, nth_parent};
 ghost use Rattle.gx_model.specs.Records.{body_of, entries, kind_of, named_map, parts_of_commit};
-ghost use Rattle.gx_rev.specs.Calls.{GivesCommit, GivesFiles, ancestor_at, parent_at};
 ghost use Rattle.gx_rev.specs.Objects.{IsHeld, IsHeldAs, body_in_place, commit_at, entries_at, files_at, parts_of_tag_value, value_at};
-ghost use Rattle.gx_model.specs.Faults.{NeedsNoMemory};
+ghost use Rattle.gx_rev.specs.RevFaults.{fault_of};
+ghost use Rattle.gx_model.specs.Faults.{Gives, NeedsNoMemory};
 
 use crate::RevFault;
 use gx_object::{
@@ -59,7 +59,8 @@ pub(crate) fn commit_of<N: Namer, A: Allocator + Copy>(
     name: &Name,
 ) -> Result<Name, RevFault>
     requires { IsHeld repo.now.1 name.now }
-    ensures commit { GivesCommit repo.now.1 (commit_in (value_at repo.now.1 name.now)) result }
+    ensures commit { Gives fault_of (commit_at repo.now.1) result
+        (commit_in (value_at repo.now.1 name.now)) }
     ensures held { IfOk result (IsHeldAs kinds.Commit repo.now.1) }
     ensures memory { NeedsNoMemory RevFault.OutOfMemory result }
 {
@@ -96,7 +97,8 @@ pub fn entries_of<'a, N: Namer, A: Allocator + Copy>(
 ) -> TreeEntries<'a>
     requires { IsHeldAs kinds.Tree repo.now.1 tree.now }
     ensures entries { result ≡ entries_at repo.now.1 tree.now }
-    ensures files { result ≡ entries (N.name_of repo.now.0) (named_map (N.name_of repo.now.0) (files_at repo.now.1 tree.now)) }
+    ensures files { result ≡ entries (N.name_of repo.now.0)
+        (named_map (N.name_of repo.now.0) (files_at repo.now.1 tree.now)) }
 {
     let Some((_, body)) = repo.store().get(tree) else {
         unreachable!();
@@ -130,7 +132,8 @@ pub(crate) fn parent_of<N: Namer, A: Allocator + Copy>(
     number: u64,
 ) -> Result<Name, RevFault>
     requires { IsHeldAs kinds.Commit repo.now.1 commit.now }
-    ensures parent { GivesCommit repo.now.1 (parent_at repo.now.1 commit.now number) result }
+    ensures parent { Gives fault_of (commit_at repo.now.1) result
+        (nth_parent number (commit_at repo.now.1 commit.now)) }
     ensures held { IfOk result (IsHeldAs kinds.Commit repo.now.1) }
     ensures memory { NeedsNoMemory RevFault.OutOfMemory result }
 {
@@ -151,7 +154,8 @@ pub(crate) fn ancestor_of<N: Namer, A: Allocator + Copy>(
     number: u64,
 ) -> Result<Name, RevFault>
     requires { IsHeldAs kinds.Commit repo.now.1 commit.now }
-    ensures ancestor { GivesCommit repo.now.1 (ancestor_at repo.now.1 commit.now number) result }
+    ensures ancestor { Gives fault_of (commit_at repo.now.1) result
+        (nth_ancestor number (commit_at repo.now.1 commit.now)) }
     ensures held { IfOk result (IsHeldAs kinds.Commit repo.now.1) }
     ensures memory { NeedsNoMemory RevFault.OutOfMemory result }
 {
@@ -170,7 +174,8 @@ pub(crate) fn tree_of<N: Namer, A: Allocator + Copy>(
     name: &Name,
 ) -> Result<Name, RevFault>
     requires { IsHeld repo.now.1 name.now }
-    ensures files { GivesFiles repo.now.1 (files_in (value_at repo.now.1 name.now)) result }
+    ensures files { Gives fault_of (files_at repo.now.1) result
+        (files_in (value_at repo.now.1 name.now)) }
     ensures held { IfOk result (IsHeldAs kinds.Tree repo.now.1) }
     ensures memory { NeedsNoMemory RevFault.OutOfMemory result }
 {

@@ -1,10 +1,11 @@
 //! The parents of commits by their places, for walks that come to one commit many times: each is decoded once.
 
-ghost use Rattle.std.specs.Prelude.{◌≡◌, ◌<◌, length, OnOk};
+ghost use Rattle.std.specs.Prelude.{◌≡◌, ◌<◌, ◌++◌, ℕ, List, OnOk, length};
 ghost use Rattle.gx_model.specs.declared.objects.Kind.TheVariants as kinds;
-ghost use Rattle.gx_rev.specs.Objects.{IsHeldAs};
-ghost use Rattle.gx_rev.specs.Parents.{AppendsParents, AreParentPlaces, HoldsParents, IsCommitPlace, StaysInFront, parents_in};
+ghost use Rattle.gx_rev.specs.Objects.{IsHeldAs, parents_at};
+ghost use Rattle.gx_rev.specs.Parents.{AreParentPlaces, HoldsParents, IsCommitPlace, StandAt, parents_in};
 ghost use Rattle.gx_model.specs.Histories.{Records};
+ghost use Rattle.gx_model.specs.Histories.Values.{list_of};
 
 use crate::objects::view_of;
 use crate::reached::{name_at, place_of};
@@ -110,8 +111,9 @@ fn append_parents<N: Namer, A: Allocator + Copy>(
     commit: &Name,
 ) -> Result<(), AllocError>
     requires held { IsHeldAs kinds.Commit repo.now.1 commit.now }
-    ensures front { StaysInFront places.old.items places.new.items }
-    ensures parents { OnOk result (AppendsParents repo.now.1 commit.now places.old.items places.new.items) }
+    ensures front { (added : List ℕ) × (places.new.items ≡ places.old.items ++ added) }
+    ensures parents { OnOk result ((added : List ℕ) × (places.new.items ≡ places.old.items ++ added)
+        × StandAt repo.now.1 (list_of (parents_at repo.now.1 commit.now)) added) }
 {
     repo.sound();
     let view = view_of(repo, commit);

@@ -1,11 +1,11 @@
 //! Range words as texts.
 
-ghost use Rattle.std.specs.Prelude.{◌≡◌, ◌≤◌, ◌-◌, length};
+ghost use Rattle.std.specs.Prelude.{◌≡◌, ◌≤◌, ◌-◌, Ok, length};
 ghost use Rattle.std.specs.Option.{option_map};
-ghost use Rattle.gx_model.specs.Faults.{Gives};
-ghost use Rattle.gx_model.specs.Revisions.{cut_dots, digits_last, dotted, minus_of, minus_or_alone, pair_of, range_of, side_of, undotted};
+ghost use Rattle.gx_model.specs.Faults.{Gives, ◌>>=◌};
+ghost use Rattle.gx_model.specs.Revisions.{cut_dots, digits_last, dotted, minus_of, minus_or_alone, number_or_one, pair_of, range_of, revision_of, side_of, undotted, without_parent};
 ghost use Rattle.gx_rev.specs.RevFaults.{fault_of};
-ghost use Rattle.gx_rev.specs.Ranges.{alone_of, two_sided, without_one_of};
+ghost use Rattle.gx_rev.specs.Ranges.{one_sided, two_sided};
 ghost use Rattle.gx_rev.specs.Views.{shown_range};
 
 use crate::suffix::number_or_one;
@@ -145,7 +145,7 @@ fn read_alone<A: Allocator + Copy>(
     text: &[u8],
     shape: Shape,
 ) -> Result<Range<A>, RevFault>
-    ensures { Gives fault_of shown_range result (alone_of shape text.now) }
+    ensures { Gives fault_of shown_range result (revision_of text.now >>= λ r. Ok (one_sided shape r)) }
 {
     let revision = Revision::read(alloc, text)?;
     match shape {
@@ -182,7 +182,8 @@ fn read_without_one<A: Allocator + Copy>(
     text: &[u8],
     digits: &[u8],
 ) -> Result<Range<A>, RevFault>
-    ensures { Gives fault_of shown_range result (without_one_of text.now digits.now) }
+    ensures { Gives fault_of shown_range result (revision_of text.now
+        >>= λ r. number_or_one digits.now >>= λ n. without_parent r n) }
 {
     let revision = Revision::read(alloc, text)?;
     let number = number_or_one(digits)?;

@@ -6,10 +6,9 @@ ghost use Rattle.std.specs.List.{AllByRecursion, slice_get};
 ghost use Rattle.gx_model.specs.declared.objects.Kind.TheVariants as kinds;
 ghost use Rattle.gx_model.specs.Revisions.Ranges.{no_commit, reaches, some_reaches};
 ghost use Rattle.gx_model.specs.Laws.RepositoryLaws.{values_of};
-ghost use Rattle.gx_model.specs.Records.Sound.{Holds};
 ghost use Rattle.gx_rev.specs.Objects.{IsHeld, IsHeldAs, commit_at, parents_at, value_at};
 ghost use Rattle.gx_rev.specs.Parents.{HoldsParents, IsCommitPlace, MarksPlaces};
-ghost use Rattle.gx_rev.specs.Tips.{AddsTips, AreTips, HasTips, Spreads, TellsReach, marks_from};
+ghost use Rattle.gx_rev.specs.Tips.{AddsTips, AreTips, HasTips, Spreads};
 ghost use Rattle.gx_model.specs.Histories.Marks.{Marks};
 ghost use Rattle.gx_model.specs.Laws.HistoryLaws.{IsParent};
 
@@ -18,40 +17,6 @@ use crate::objects::view_of;
 use gx_object::{Name, Namer};
 use gx_repo::Repo;
 use std::alloc::{AllocError, Allocator};
-
-/// Whether the second of two held commits is the first or one of its ancestors.
-///
-/// Cost: the number of records, and for each commit that is reached its body and its parents, a look-up each. Takes a
-/// byte for each record. Source: gitglossary(7), "reachable".
-pub fn reaches<N: Namer, A: Allocator + Copy>(
-    alloc: A,
-    repo: &Repo<N, A>,
-    from: &Name,
-    to: &Name,
-) -> Result<bool, AllocError>
-    requires from { Holds repo.now.1.records kinds.Commit from.now.bytes }
-    requires to { Holds repo.now.1.records kinds.Commit to.now.bytes }
-    ensures { IfOk result (TellsReach repo.now.1 from.now to.now) }
-{
-    repo.sound();
-    let marks = reached(alloc, repo, from)?;
-    let place = place_of(repo, to);
-    Ok(marks[place])
-}
-
-/// Marks of the commits that a held one reaches, by place.
-pub(crate) fn reached<N: Namer, A: Allocator + Copy>(
-    alloc: A,
-    repo: &Repo<N, A>,
-    from: &Name,
-) -> Result<Vec<bool, A>, AllocError>
-    requires { IsHeldAs kinds.Commit repo.now.1 from.now }
-    ensures { IfOk result (λ marks. marks.items ≡ marks_from repo.now.1 from.now) }
-{
-    let mut marks = unmarked(alloc, repo)?;
-    mark_reached(repo, &mut marks, from);
-    Ok(marks)
-}
 
 /// No marks.
 pub(crate) fn unmarked<N: Namer, A: Allocator + Copy>(
@@ -63,15 +28,6 @@ pub(crate) fn unmarked<N: Namer, A: Allocator + Copy>(
     let count = repo.store().len();
     let marks = vec![in alloc; false; count]?;
     Ok(marks)
-}
-
-fn mark_reached<N: Namer, A: Allocator + Copy>(repo: &Repo<N, A>, marks: &mut [bool], from: &Name)
-    requires held { IsHeldAs kinds.Commit repo.now.1 from.now }
-    requires none { AreTips repo.now.1 no_commit marks.old }
-    ensures { marks.new ≡ marks_from repo.now.1 from.now }
-{
-    mark(repo, marks, from);
-    spread(repo, marks);
 }
 
 /// Marks what the tips reach, and nothing else.
@@ -136,8 +92,10 @@ pub(crate) fn mark_parents<N: Namer, A: Allocator + Copy>(
 )
     requires held { IsHeldAs kinds.Commit repo.now.1 commit.now }
     requires long { length marks.old ≡ length (values_of repo.now.1) }
-    ensures marked { Marks repo.now.1 (λ parent. IsParent parent (parents_at repo.now.1 commit.now)) marks.old marks.new }
-    ensures tips { AddsTips repo.now.1 (some_reaches (parents_at repo.now.1 commit.now)) marks.old marks.new }
+    ensures marked { Marks repo.now.1 (λ parent. IsParent parent (parents_at repo.now.1 commit.now))
+        marks.old marks.new }
+    ensures tips { AddsTips repo.now.1 (some_reaches (parents_at repo.now.1 commit.now))
+        marks.old marks.new }
 {
     repo.sound();
     let view = view_of(repo, commit);
@@ -156,8 +114,10 @@ pub(crate) fn mark<N: Namer, A: Allocator + Copy>(
 )
     requires held { IsHeldAs kinds.Commit repo.now.1 commit.now }
     requires long { length marks.old ≡ length (values_of repo.now.1) }
-    ensures marked { Marks repo.now.1 (λ marked. marked ≡ commit_at repo.now.1 commit.now) marks.old marks.new }
-    ensures tips { AddsTips repo.now.1 (reaches (commit_at repo.now.1 commit.now)) marks.old marks.new }
+    ensures marked { Marks repo.now.1 (λ marked. marked ≡ commit_at repo.now.1 commit.now)
+        marks.old marks.new }
+    ensures tips { AddsTips repo.now.1 (reaches (commit_at repo.now.1 commit.now))
+        marks.old marks.new }
 {
     repo.sound();
     let place = place_of(repo, commit);

@@ -99,7 +99,8 @@ fn read_base<A: Allocator + Copy>(alloc: A, text: &[u8]) -> Result<Vec<u8, A>, R
 /// The suffixes of a text that begins with one, or is empty.
 fn read_suffixes<A: Allocator + Copy>(alloc: A, text: &[u8]) -> Result<Vec<Suffix, A>, RevFault>
     requires { (base_and_suffixes text.now).0 ≡ [] }
-    ensures { Gives fault_of (λ suffixes. map shown_suffix suffixes.items) result (suffixes_of (base_and_suffixes text.now).1) }
+    ensures { Gives fault_of (λ suffixes. map shown_suffix suffixes.items) result
+        (suffixes_of (base_and_suffixes text.now).1) }
 {
     let mut suffixes = Vec::new(alloc);
     let mut rest = text;

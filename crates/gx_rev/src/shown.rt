@@ -1,19 +1,19 @@
 //! What a revision shows in a repository.
 
-ghost use Rattle.std.specs.Prelude.{◌≡◌, IfOk, Some};
+ghost use Rattle.std.specs.Prelude.{◌≡◌, IfOk, Ok, Some};
 ghost use Rattle.gx_model.specs.declared.objects.Kind.TheVariants as kinds;
 ghost use Rattle.gx_model.specs.declared.objects.Mode.TheVariants as modes;
 ghost use Rattle.gx_model.specs.Faults.{Gives, NeedsNoMemory, ◌>>=◌};
 ghost use Rattle.gx_model.specs.Revisions.{base_of, revision_of};
-ghost use Rattle.gx_model.specs.Revisions.Denotation.{commit_denoted, denoted, file_shown, files_in, value_denoted};
+ghost use Rattle.gx_model.specs.Revisions.Denotation.{commit_denoted, denoted, file_shown, files_in, looked_up, shown_at, value_denoted};
+ghost use Rattle.gx_model.specs.Records.{parts_of_commit};
 ghost use Rattle.gx_model.specs.Records.HistoryOf.{bytes_of_blob, history_of};
-ghost use Rattle.gx_rev.specs.Answers.{AnswersTell, IsNamed, file_of, shown_as, shown_by};
+ghost use Rattle.gx_rev.specs.Answers.{AnswersTell, IsNamed, file_of, shown_as, shown_by, shown_file};
 ghost use Rattle.gx_rev.specs.Bases.{base_text};
-ghost use Rattle.gx_rev.specs.Calls.{Denotes, DenotesParts, GivesBodyOf, GivesCommit, GivesTreeOf, GivesValue, ReadsFile, ShowsPathOf, file_in};
 ghost use Rattle.gx_rev.specs.FirstParents.{AreFirstParents};
-ghost use Rattle.gx_rev.specs.Objects.{IsHeld, IsHeldAs, files_at, value_at};
+ghost use Rattle.gx_rev.specs.Objects.{IsHeld, IsHeldAs, commit_at, files_at, value_at};
 ghost use Rattle.gx_rev.specs.RevFaults.{FaultsComeFirst, fault_of};
-ghost use Rattle.gx_rev.specs.Views.{borrowed};
+ghost use Rattle.gx_rev.specs.Views.{borrowed, shown_revision};
 
 use crate::base::eval_base;
 use crate::objects::{body_of, commit_of, kind_of, tree_of, view_of};
@@ -53,7 +53,8 @@ impl<A: Allocator + Copy> Revision<A> {
     /// Cost: for the base, a search among the refs and a look-up; for each step of a suffix and each component of the path,
     /// an object's body and a look-up among the records. Source: gitrevisions(7), "Specifying Revisions".
     pub fn eval<N: Namer>(&self, repo: &Repo<N, A>) -> Result<Shown, RevFault>
-        ensures shown { Denotes N.name_of repo.now self.now result }
+        ensures shown { Gives fault_of (shown_by repo.now.1) result
+            (denoted (N.name_of repo.now.0) (history_of repo.now.1) self.now) }
         ensures named { IfOk result (IsNamed (N.name_of repo.now.0) repo.now.1) }
         ensures memory { NeedsNoMemory RevFault.OutOfMemory result }
     {
@@ -71,7 +72,8 @@ impl<A: Allocator + Copy> Revision<A> {
     ) -> Result<Shown, RevFault>
         requires walk { AreFirstParents repo.now.1 first_parents.old }
         ensures walk { AreFirstParents repo.now.1 first_parents.new }
-        ensures shown { Denotes N.name_of repo.now self.now result }
+        ensures shown { Gives fault_of (shown_by repo.now.1) result
+            (denoted (N.name_of repo.now.0) (history_of repo.now.1) self.now) }
         ensures named { IfOk result (IsNamed (N.name_of repo.now.0) repo.now.1) }
     {
         eval_parts_with(
@@ -92,7 +94,8 @@ fn eval_parts<N: Namer, A: Allocator + Copy>(
     suffixes: &[Suffix],
     path: Option<&TreePath<A>>,
 ) -> Result<Shown, RevFault>
-    ensures shown { DenotesParts N.name_of repo.now base.now suffixes.now path.entry result }
+    ensures shown { Gives fault_of (shown_by repo.now.1) result (denoted (N.name_of repo.now.0)
+        (history_of repo.now.1) (shown_revision base.now suffixes.now (borrowed path.entry))) }
     ensures named { IfOk result (IsNamed (N.name_of repo.now.0) repo.now.1) }
     ensures memory { NeedsNoMemory RevFault.OutOfMemory result }
 {
@@ -112,7 +115,8 @@ fn eval_parts_with<N: Namer, A: Allocator + Copy>(
 ) -> Result<Shown, RevFault>
     requires walk { AreFirstParents repo.now.1 first_parents.old }
     ensures walk { AreFirstParents repo.now.1 first_parents.new }
-    ensures shown { DenotesParts N.name_of repo.now base.now suffixes.now path.entry result }
+    ensures shown { Gives fault_of (shown_by repo.now.1) result (denoted (N.name_of repo.now.0)
+        (history_of repo.now.1) (shown_revision base.now suffixes.now (borrowed path.entry))) }
     ensures named { IfOk result (IsNamed (N.name_of repo.now.0) repo.now.1) }
 {
     let base = eval_base(repo, base)?;
@@ -127,7 +131,8 @@ fn show<N: Namer, A: Allocator + Copy>(
     path: Option<&TreePath<A>>,
 ) -> Result<Shown, RevFault>
     requires { IsHeld repo.now.1 object.now }
-    ensures shown { ShowsPathOf repo.now.1 object.now (borrowed path.entry) result }
+    ensures shown { Gives fault_of (shown_by repo.now.1) result
+        (shown_at (value_at repo.now.1 object.now) (borrowed path.entry)) }
     ensures named { IfOk result (IsNamed (N.name_of repo.now.0) repo.now.1) }
     ensures memory { NeedsNoMemory RevFault.OutOfMemory result }
 {
@@ -145,7 +150,8 @@ fn show_path<N: Namer, A: Allocator + Copy>(
     path: &TreePath<A>,
 ) -> Result<Shown, RevFault>
     requires { IsHeld repo.now.1 object.now }
-    ensures shown { ShowsPathOf repo.now.1 object.now (Some path.now) result }
+    ensures shown { Gives fault_of (shown_by repo.now.1) result
+        (shown_at (value_at repo.now.1 object.now) (Some path.now)) }
     ensures named { IfOk result (IsNamed (N.name_of repo.now.0) repo.now.1) }
     ensures memory { NeedsNoMemory RevFault.OutOfMemory result }
 {
@@ -175,7 +181,9 @@ pub fn commit<'a, N: Namer, A: Allocator + Copy>(
     repo: &'a Repo<N, A>,
     revision: &Revision<A>,
 ) -> Result<CommitView<'a>, RevFault>
-    ensures view { GivesBodyOf N.name_of repo.now revision.now result }
+    ensures view { Gives fault_of (λ view. view) result
+        (commit_denoted (N.name_of repo.now.0) (history_of repo.now.1) revision.now
+        >>= λ made. Ok (parts_of_commit (N.name_of repo.now.0) made)) }
     ensures memory { NeedsNoMemory RevFault.OutOfMemory result }
 {
     let commit = eval_commit(repo, revision)?;
@@ -190,7 +198,8 @@ pub fn tree<N: Namer, A: Allocator + Copy>(
     repo: &Repo<N, A>,
     revision: &Revision<A>,
 ) -> Result<Name, RevFault>
-    ensures files { GivesTreeOf N.name_of repo.now revision.now result }
+    ensures files { Gives fault_of (files_at repo.now.1) result
+        (value_denoted (N.name_of repo.now.0) (history_of repo.now.1) revision.now >>= files_in) }
     ensures held { IfOk result (IsHeldAs kinds.Tree repo.now.1) }
     ensures memory { NeedsNoMemory RevFault.OutOfMemory result }
 {
@@ -220,7 +229,8 @@ pub(crate) fn eval_commit<N: Namer, A: Allocator + Copy>(
     repo: &Repo<N, A>,
     revision: &Revision<A>,
 ) -> Result<Name, RevFault>
-    ensures commit { GivesCommit repo.now.1 (commit_denoted (N.name_of repo.now.0) (history_of repo.now.1) revision.now) result }
+    ensures commit { Gives fault_of (commit_at repo.now.1) result
+        (commit_denoted (N.name_of repo.now.0) (history_of repo.now.1) revision.now) }
     ensures held { IfOk result (IsHeldAs kinds.Commit repo.now.1) }
     ensures memory { NeedsNoMemory RevFault.OutOfMemory result }
 {
@@ -233,7 +243,8 @@ fn eval_object<N: Namer, A: Allocator + Copy>(
     repo: &Repo<N, A>,
     revision: &Revision<A>,
 ) -> Result<Name, RevFault>
-    ensures value { GivesValue repo.now.1 (value_denoted (N.name_of repo.now.0) (history_of repo.now.1) revision.now) result }
+    ensures value { Gives fault_of (value_at repo.now.1) result
+        (value_denoted (N.name_of repo.now.0) (history_of repo.now.1) revision.now) }
     ensures held { IfOk result (IsHeld repo.now.1) }
     ensures memory { NeedsNoMemory RevFault.OutOfMemory result }
 {
@@ -263,8 +274,10 @@ pub fn look<N: Namer, A: Allocator + Copy>(
     revision: &Revision<A>,
     path: &TreePath<A>,
 ) -> Result<(Mode, Vec<u8, A>), RevFault>
-    ensures file { ReadsFile (file_in N.name_of repo.now revision.now path.now) result }
-    ensures first { FaultsComeFirst result (file_in N.name_of repo.now revision.now path.now) }
+    ensures file { Gives fault_of shown_file result
+        (looked_up (N.name_of repo.now.0) (history_of repo.now.1) revision.now path.now) }
+    ensures first { FaultsComeFirst result
+        (looked_up (N.name_of repo.now.0) (history_of repo.now.1) revision.now path.now) }
 {
     let tree = tree(repo, revision)?;
     look_in(alloc, repo, &tree, path)
@@ -278,7 +291,8 @@ fn look_in<N: Namer, A: Allocator + Copy>(
     path: &TreePath<A>,
 ) -> Result<(Mode, Vec<u8, A>), RevFault>
     requires { IsHeldAs kinds.Tree repo.now.1 tree.now }
-    ensures file { ReadsFile (file_shown (files_at repo.now.1 tree.now) path.now) result }
+    ensures file { Gives fault_of shown_file result
+        (file_shown (files_at repo.now.1 tree.now) path.now) }
     ensures first { FaultsComeFirst result (file_shown (files_at repo.now.1 tree.now) path.now) }
 {
     repo.sound();
@@ -296,7 +310,7 @@ fn read_file<N: Namer, A: Allocator + Copy>(
     name: &Name,
 ) -> Result<(Mode, Vec<u8, A>), RevFault>
     requires { IsNamed (N.name_of repo.now.0) repo.now.1 (shown_as mode name.now) }
-    ensures file { ReadsFile (file_of repo.now.1 mode name.now) result }
+    ensures file { Gives fault_of shown_file result (file_of repo.now.1 mode name.now) }
     ensures first { FaultsComeFirst result (file_of repo.now.1 mode name.now) }
 {
     match mode {

@@ -1,14 +1,13 @@
 //! The suffixes of a revision.
 
-ghost use Rattle.std.specs.Prelude.{◌≡◌, ◌∷◌, IfOk};
+ghost use Rattle.std.specs.Prelude.{◌≡◌, ◌∷◌, IfOk, map};
 ghost use Rattle.std.specs.Map.{lookup};
 ghost use Rattle.std.specs.Option.{option_map};
 ghost use Rattle.gx_model.specs.Faults.{Gives, NeedsNoMemory};
 ghost use Rattle.gx_model.specs.Texts.{same_bytes};
 ghost use Rattle.gx_model.specs.Revisions as model;
 ghost use Rattle.gx_model.specs.Revisions.{braced_suffixes, number_or_one, suffix_of};
-ghost use Rattle.gx_model.specs.Revisions.Denotation.{peel};
-ghost use Rattle.gx_rev.specs.Calls.{GivesAllSuffixed, GivesSuffixed, GivesValue};
+ghost use Rattle.gx_model.specs.Revisions.Denotation.{all_suffixed, peel, suffixed};
 ghost use Rattle.gx_rev.specs.FirstParents.{AreFirstParents};
 ghost use Rattle.gx_rev.specs.Objects.{IsHeld, only, value_at};
 ghost use Rattle.gx_rev.specs.RevFaults.{fault_of};
@@ -64,7 +63,8 @@ impl Suffix {
         name: &Name,
     ) -> Result<Name, RevFault>
         requires { IsHeld repo.now.1 name.now }
-        ensures value { GivesSuffixed repo.now.1 name.now (shown_suffix self) result }
+        ensures value { Gives fault_of (value_at repo.now.1) result
+            (suffixed (value_at repo.now.1 name.now) (shown_suffix self)) }
         ensures held { IfOk result (IsHeld repo.now.1) }
         ensures memory { NeedsNoMemory RevFault.OutOfMemory result }
     {
@@ -95,7 +95,8 @@ impl Suffix {
         requires held { IsHeld repo.now.1 name.now }
         requires walk { AreFirstParents repo.now.1 first_parents.old }
         ensures walk { AreFirstParents repo.now.1 first_parents.new }
-        ensures value { GivesSuffixed repo.now.1 name.now (shown_suffix self) result }
+        ensures value { Gives fault_of (value_at repo.now.1) result
+            (suffixed (value_at repo.now.1 name.now) (shown_suffix self)) }
         ensures held { IfOk result (IsHeld repo.now.1) }
     {
         match self {
@@ -112,7 +113,8 @@ pub(crate) fn eval_all<N: Namer, A: Allocator + Copy>(
     suffixes: &[Suffix],
 ) -> Result<Name, RevFault>
     requires { IsHeld repo.now.1 name.now }
-    ensures value { GivesAllSuffixed repo.now.1 name.now suffixes.now result }
+    ensures value { Gives fault_of (value_at repo.now.1) result
+        (all_suffixed (value_at repo.now.1 name.now) (map shown_suffix suffixes.now)) }
     ensures held { IfOk result (IsHeld repo.now.1) }
     ensures memory { NeedsNoMemory RevFault.OutOfMemory result }
 {
@@ -133,7 +135,8 @@ pub(crate) fn eval_all_with<N: Namer, A: Allocator + Copy>(
     requires held { IsHeld repo.now.1 name.now }
     requires walk { AreFirstParents repo.now.1 first_parents.old }
     ensures walk { AreFirstParents repo.now.1 first_parents.new }
-    ensures value { GivesAllSuffixed repo.now.1 name.now suffixes.now result }
+    ensures value { Gives fault_of (value_at repo.now.1) result
+        (all_suffixed (value_at repo.now.1 name.now) (map shown_suffix suffixes.now)) }
     ensures held { IfOk result (IsHeld repo.now.1) }
 {
     let mut object = *name;
@@ -149,7 +152,8 @@ fn parent<N: Namer, A: Allocator + Copy>(
     number: u64,
 ) -> Result<Name, RevFault>
     requires { IsHeld repo.now.1 name.now }
-    ensures value { GivesSuffixed repo.now.1 name.now (model.parent number) result }
+    ensures value { Gives fault_of (value_at repo.now.1) result
+        (suffixed (value_at repo.now.1 name.now) (model.parent number)) }
     ensures held { IfOk result (IsHeld repo.now.1) }
     ensures memory { NeedsNoMemory RevFault.OutOfMemory result }
 {
@@ -165,7 +169,8 @@ fn ancestor<N: Namer, A: Allocator + Copy>(
     number: u64,
 ) -> Result<Name, RevFault>
     requires { IsHeld repo.now.1 name.now }
-    ensures value { GivesSuffixed repo.now.1 name.now (model.ancestor number) result }
+    ensures value { Gives fault_of (value_at repo.now.1) result
+        (suffixed (value_at repo.now.1 name.now) (model.ancestor number)) }
     ensures held { IfOk result (IsHeld repo.now.1) }
     ensures memory { NeedsNoMemory RevFault.OutOfMemory result }
 {
@@ -184,7 +189,8 @@ fn ancestor_with<N: Namer, A: Allocator + Copy>(
     requires held { IsHeld repo.now.1 name.now }
     requires walk { AreFirstParents repo.now.1 first_parents.old }
     ensures walk { AreFirstParents repo.now.1 first_parents.new }
-    ensures value { GivesSuffixed repo.now.1 name.now (model.ancestor number) result }
+    ensures value { Gives fault_of (value_at repo.now.1) result
+        (suffixed (value_at repo.now.1 name.now) (model.ancestor number)) }
     ensures held { IfOk result (IsHeld repo.now.1) }
 {
     repo.sound();
@@ -212,7 +218,8 @@ fn of_kind<N: Namer, A: Allocator + Copy>(
     kind: Kind,
 ) -> Result<Name, RevFault>
     requires { IsHeld repo.now.1 name.now }
-    ensures value { GivesValue repo.now.1 (only (N.name_of repo.now.0) kind (value_at repo.now.1 name.now)) result }
+    ensures value { Gives fault_of (value_at repo.now.1) result
+        (only (N.name_of repo.now.0) kind (value_at repo.now.1 name.now)) }
     ensures held { IfOk result (IsHeld repo.now.1) }
     ensures memory { NeedsNoMemory RevFault.OutOfMemory result }
 {

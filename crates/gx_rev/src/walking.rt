@@ -4,15 +4,15 @@
 ghost use Rattle.std.specs.Prelude.{◌≡◌, Bool, IfOk, List, OnOk, length, map};
 ghost use Rattle.gx_model.specs.declared.objects.Kind.TheVariants as kinds;
 ghost use Rattle.gx_model.specs.Revisions as words;
-ghost use Rattle.gx_model.specs.Revisions.Ranges.{no_commit};
+ghost use Rattle.gx_model.specs.Records.HistoryOf.{history_of};
+ghost use Rattle.gx_model.specs.Revisions.Ranges.{listed, no_commit};
 ghost use Rattle.gx_model.specs.Laws.RepositoryLaws.{values_of};
-ghost use Rattle.gx_rev.specs.Calls.{AreMarkedAlone, ListsWords, MarksRange};
 ghost use Rattle.gx_rev.specs.Objects.{IsHeldAs};
 ghost use Rattle.gx_rev.specs.Parents.{HoldsParents};
 ghost use Rattle.gx_model.specs.Faults.{NeedsNoMemory};
 ghost use Rattle.gx_rev.specs.Views.{shown_range};
-ghost use Rattle.gx_rev.specs.Tips.{AreTips, HasTips};
-ghost use Rattle.gx_rev.specs.Walking.{AreListed, MarksOfWords, MarksWords, TipsOfWords, refused_at};
+ghost use Rattle.gx_rev.specs.Tips.{AreTips};
+ghost use Rattle.gx_rev.specs.Walking.{AreListed, GivesNames, MarksOfWords, MarksWord, MarksWords, TipsOfWords, refused_at};
 
 use crate::meetings::mark_common;
 use crate::objects::parent_of;
@@ -36,19 +36,12 @@ pub fn walk<N: Namer, A: Allocator + Copy>(
     repo: &Repo<N, A>,
     words: &[Range<A>],
 ) -> Result<Vec<Name, A>, WalkFault>
-    ensures { ListsWords N.name_of repo.now (map shown_range words.now) result }
+    ensures { GivesNames result
+        (listed (N.name_of repo.now.0) (history_of repo.now.1) (map shown_range words.now)) }
 {
-    let mut included = unmarked(alloc, repo)?;
-    let mut excluded = unmarked(alloc, repo)?;
-    let mut parents = Parents::new(alloc);
-    walk_marking(
-        alloc,
-        repo,
-        &mut parents,
-        words,
-        &mut included,
-        &mut excluded,
-    )
+    let (included, excluded) = walked(alloc, repo, words)?;
+    let names = names_marked(alloc, repo, &included, &excluded)?;
+    Ok(names)
 }
 
 /// Marks, by the places of the records, of the commits that some word includes, and of those that some word excludes.
@@ -74,6 +67,31 @@ pub fn walked<N: Namer, A: Allocator + Copy>(
         &mut excluded,
     )?;
     Ok((included, excluded))
+}
+
+/// The names of the commits that are marked as included and not as excluded, the newest made first.
+///
+/// Cost: the number of records. Takes memory for the names.
+pub fn names_marked<N: Namer, A: Allocator + Copy>(
+    alloc: A,
+    repo: &Repo<N, A>,
+    included: &[bool],
+    excluded: &[bool],
+) -> Result<Vec<Name, A>, AllocError>
+    requires included { length included.now ≡ length (values_of repo.now.1) }
+    requires excluded { length excluded.now ≡ length (values_of repo.now.1) }
+    ensures { IfOk result (AreListed (N.name_of repo.now.0) repo.now.1 included.now excluded.now) }
+{
+    repo.sound();
+    let mut names = Vec::new(alloc);
+    let mut left = included.len();
+    while left > 0 {
+        left -= 1;
+        if included[left] && !excluded[left] {
+            names.push(name_at(repo, left))?;
+        }
+    }
+    Ok(names)
 }
 
 /// Marks all that words include and all that they exclude. Nothing is marked yet.
@@ -123,26 +141,6 @@ fn mark_words<N: Namer, A: Allocator + Copy>(
     Ok(())
 }
 
-/// Does what `walk` does with two lists of marks, one for what the words include and one for what they exclude, in which
-/// nothing is marked yet.
-fn walk_marking<N: Namer, A: Allocator + Copy>(
-    alloc: A,
-    repo: &Repo<N, A>,
-    parents: &mut Parents<A>,
-    words: &[Range<A>],
-    included: &mut [bool],
-    excluded: &mut [bool],
-) -> Result<Vec<Name, A>, WalkFault>
-    requires holds { HoldsParents repo.now.1 parents.old }
-    requires included { AreTips repo.now.1 no_commit included.old }
-    requires excluded { AreTips repo.now.1 no_commit excluded.old }
-    ensures { ListsWords N.name_of repo.now (map shown_range words.now) result }
-{
-    mark_words(alloc, repo, parents, words, included, excluded)?;
-    let names = names_listed(alloc, repo, parents, included, excluded)?;
-    Ok(names)
-}
-
 /// The fault of a word. Want of memory is of none.
 fn refused(word: usize, kind: RevFault) -> WalkFault
     ensures { result ≡ refused_at word kind }
@@ -166,7 +164,7 @@ fn mark_word<N: Namer, A: Allocator + Copy>(
     requires excluded { length excluded.old ≡ length (values_of repo.now.1) }
     requires holds { HoldsParents repo.now.1 parents.old }
     ensures holds { HoldsParents repo.now.1 parents.new }
-    ensures marks { MarksRange N.name_of repo.now (shown_range word.now)
+    ensures marks { MarksWord (N.name_of repo.now.0) repo.now.1 (shown_range word.now)
         (included.old, excluded.old) (included.new, excluded.new) result }
 {
     match word {
@@ -191,9 +189,9 @@ fn mark_revision<N: Namer, A: Allocator + Copy>(
     marks: &mut [bool],
 ) -> Result<(), RevFault>
     requires { length marks.old ≡ length (values_of repo.now.1) }
-    ensures included { (rest : List Bool) → MarksRange N.name_of repo.now
+    ensures included { (rest : List Bool) → MarksWord (N.name_of repo.now.0) repo.now.1
         (words.WithAncestors revision.now) (marks.old, rest) (marks.new, rest) result }
-    ensures excluded { (rest : List Bool) → MarksRange N.name_of repo.now
+    ensures excluded { (rest : List Bool) → MarksWord (N.name_of repo.now.0) repo.now.1
         (words.WithoutAncestors revision.now) (rest, marks.old) (rest, marks.new) result }
 {
     let commit = eval_commit(repo, revision)?;
@@ -208,7 +206,7 @@ fn mark_all_parents<N: Namer, A: Allocator + Copy>(
     included: &mut [bool],
 ) -> Result<(), RevFault>
     requires { length included.old ≡ length (values_of repo.now.1) }
-    ensures { (excluded : List Bool) → MarksRange N.name_of repo.now
+    ensures { (excluded : List Bool) → MarksWord (N.name_of repo.now.0) repo.now.1
         (words.AllParents revision.now) (included.old, excluded) (included.new, excluded) result }
 {
     let commit = eval_commit(repo, revision)?;
@@ -225,7 +223,7 @@ fn mark_alone<N: Namer, A: Allocator + Copy>(
 ) -> Result<(), RevFault>
     requires included { length included.old ≡ length (values_of repo.now.1) }
     requires excluded { length excluded.old ≡ length (values_of repo.now.1) }
-    ensures { MarksRange N.name_of repo.now (words.Alone revision.now)
+    ensures { MarksWord (N.name_of repo.now.0) repo.now.1 (words.Alone revision.now)
         (included.old, excluded.old) (included.new, excluded.new) result }
 {
     let commit = eval_commit(repo, revision)?;
@@ -244,7 +242,7 @@ fn mark_between<N: Namer, A: Allocator + Copy>(
 ) -> Result<(), RevFault>
     requires included { length included.old ≡ length (values_of repo.now.1) }
     requires excluded { length excluded.old ≡ length (values_of repo.now.1) }
-    ensures marks { MarksRange N.name_of repo.now (words.Between left.now right.now)
+    ensures marks { MarksWord (N.name_of repo.now.0) repo.now.1 (words.Between left.now right.now)
         (included.old, excluded.old) (included.new, excluded.new) result }
     ensures memory { NeedsNoMemory RevFault.OutOfMemory result }
 {
@@ -265,7 +263,7 @@ fn mark_without_one<N: Namer, A: Allocator + Copy>(
 ) -> Result<(), RevFault>
     requires included { length included.old ≡ length (values_of repo.now.1) }
     requires excluded { length excluded.old ≡ length (values_of repo.now.1) }
-    ensures marks { MarksRange N.name_of repo.now (words.WithoutOne revision.now number)
+    ensures marks { MarksWord (N.name_of repo.now.0) repo.now.1 (words.WithoutOne revision.now number)
         (included.old, excluded.old) (included.new, excluded.new) result }
     ensures memory { NeedsNoMemory RevFault.OutOfMemory result }
 {
@@ -290,7 +288,7 @@ fn mark_apart<N: Namer, A: Allocator + Copy>(
     requires excluded { length excluded.old ≡ length (values_of repo.now.1) }
     requires holds { HoldsParents repo.now.1 parents.old }
     ensures holds { HoldsParents repo.now.1 parents.new }
-    ensures marks { MarksRange N.name_of repo.now (words.Apart left.now right.now)
+    ensures marks { MarksWord (N.name_of repo.now.0) repo.now.1 (words.Apart left.now right.now)
         (included.old, excluded.old) (included.new, excluded.new) result }
 {
     let left = eval_commit(repo, left)?;
@@ -299,46 +297,4 @@ fn mark_apart<N: Namer, A: Allocator + Copy>(
     mark(repo, included, &left);
     mark(repo, included, &right);
     Ok(())
-}
-
-/// The names of the commits that the included tips reach and the excluded ones don't, the last one first.
-fn names_listed<N: Namer, A: Allocator + Copy>(
-    alloc: A,
-    repo: &Repo<N, A>,
-    parents: &mut Parents<A>,
-    included: &mut [bool],
-    excluded: &mut [bool],
-) -> Result<Vec<Name, A>, AllocError>
-    requires included { HasTips repo.now.1 included.old }
-    requires excluded { HasTips repo.now.1 excluded.old }
-    requires holds { HoldsParents repo.now.1 parents.old }
-    ensures { IfOk result (AreListed (N.name_of repo.now.0) repo.now.1 included.old excluded.old) }
-{
-    spread_by(repo, parents, included)?;
-    spread_by(repo, parents, excluded)?;
-    let names = names_marked(alloc, repo, included, excluded)?;
-    Ok(names)
-}
-
-/// The names of the objects that are marked as included and not as excluded, the last one first.
-fn names_marked<N: Namer, A: Allocator + Copy>(
-    alloc: A,
-    repo: &Repo<N, A>,
-    included: &[bool],
-    excluded: &[bool],
-) -> Result<Vec<Name, A>, AllocError>
-    requires included { length included.now ≡ length (values_of repo.now.1) }
-    requires excluded { length excluded.now ≡ length (values_of repo.now.1) }
-    ensures { IfOk result (AreMarkedAlone N.name_of repo.now included.now excluded.now) }
-{
-    repo.sound();
-    let mut names = Vec::new(alloc);
-    let mut left = included.len();
-    while left > 0 {
-        left -= 1;
-        if included[left] && !excluded[left] {
-            names.push(name_at(repo, left))?;
-        }
-    }
-    Ok(names)
 }

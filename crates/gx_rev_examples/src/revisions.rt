@@ -77,6 +77,8 @@ grows read main~2^@
 grows read main^^!
 grows read main^-2
 grows read main:a
+grows show main~1:test.txt
+grows tree main^
 grows refs
 grows reach 214ef2942bfb85ae7d526134066a055e9a80917d 214ef2942bfb85ae7d526134066a055e9a80917d
 grows walk y
@@ -95,8 +97,8 @@ fn refused_growths_are_answered(rt: HostRuntime) -> Result<(), Fail> {
     make_all(rt.alloc(), state, GROWING)
 }
 
-/// What calls answer: the number of a file's bytes, of a commit's parents, of the commits that are listed or reached,
-/// or why there is none.
+/// What calls answer: the number of a file's bytes, of a commit's parents, of a tree's entries, of the commits that are
+/// listed or reached, whether a submodule is shown, or why there is none.
 const ANSWERED: &str = "
 BadRevision revision a b
 BadPath revision a:b\0
@@ -121,6 +123,17 @@ WrongKind commit main:test.txt
 WrongKind commit main^{tree}
 WrongKind commit link:sub
 NoParent commit main~2
+0 show main
+0 show v1:test.txt
+1 show link:sub
+BadRevision show a b
+NoSuchPath show main:none
+3 tree main
+1 tree main:bak
+1 tree v1
+BadPath tree main:bak\0
+WrongKind tree main:test.txt
+WrongKind tree link:sub
 0 tell
 0 walk
 6 refs

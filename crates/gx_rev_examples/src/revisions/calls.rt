@@ -8,7 +8,8 @@ use crate::trees::desk::Heap;
 use gx_object::{Kind, Name, Namer};
 use gx_repo::Repo;
 use gx_rev::{
-    Range, RevFault, Revision, answers_tell_values, commit, look, reached_from_refs, reaches, walk,
+    Parents, Range, RevFault, Revision, Shown, answers_tell_values, commit, entries_of,
+    is_ancestor, look, reached_from_refs, tree_of_text, walk,
 };
 use gx_text::TreePath;
 use std::alloc::{AllocError, Allocator};
@@ -143,6 +144,8 @@ fn told<'a>(
     match call {
         "read" => read_as_range(heap, words),
         "revision" => read_as_revision(heap, words),
+        "show" => shown(heap, repo, words),
+        "tree" => counted_entries(heap, repo, words),
         "refs" => counted_marks(heap, repo),
         "tell" => {
             answers_tell_values(repo);
@@ -171,6 +174,23 @@ fn read_as_revision(heap: &Heap, word: &str) -> Result<usize, RevFault> {
     }
 }
 
+/// Whether a text shows a submodule.
+fn shown<'a>(heap: &'a Heap, repo: &Records<'a>, word: &str) -> Result<usize, RevFault> {
+    match Revision::eval_text(heap, repo, word.as_bytes()) {
+        Ok(Shown::Object(_, _)) => Ok(0),
+        Ok(Shown::Submodule(_)) => Ok(1),
+        Err(fault) => Err(fault),
+    }
+}
+
+/// How many entries the tree of a text has.
+fn counted_entries<'a>(heap: &'a Heap, repo: &Records<'a>, word: &str) -> Result<usize, RevFault> {
+    match tree_of_text(heap, repo, word.as_bytes()) {
+        Ok(tree) => Ok(entries_of(repo, &tree).count()),
+        Err(fault) => Err(fault),
+    }
+}
+
 /// How many objects the refs reach.
 fn counted_marks<'a>(heap: &'a Heap, repo: &Records<'a>) -> Result<usize, RevFault> {
     match reached_from_refs(heap, repo) {
@@ -189,7 +209,8 @@ fn reached<N: Namer, A: Allocator + Copy>(
     let from = Name::read(from.as_bytes())?;
     let to = Name::read(to.as_bytes())?;
     if is_held(repo, Kind::Commit, &from) && is_held(repo, Kind::Commit, &to) {
-        Some(reaches(alloc, repo, &from, &to))
+        let mut parents = Parents::new(alloc);
+        Some(is_ancestor(alloc, repo, &mut parents, &to, &from))
     } else {
         None
     }

@@ -1,12 +1,13 @@
-use Rattle.std.proofs.Common.{◌≡◌, ◌<◌, ◌+◌, ◌-◌, ◌∙◌, sym, ap, arith, length, true, false, drop, map, List, ◌++◌, ◌∷◌, [], append-nil}
+use Rattle.std.proofs.Common.{◌≡◌, ◌<◌, ◌+◌, ◌-◌, ◌∙◌, sym, ap, arith, length, Bool, true, false, drop, map, List, ◌++◌, ◌∷◌, [], append-nil}
 use Rattle.std.specs.Prelude.{◌&&◌, not, slice_index_or}
 use Rattle.std.proofs.lemmas.List.{map-append}
+use Rattle.gx_model.specs.Histories.Marks.{marks_of}
+use Rattle.gx_model.specs.Histories.Values.{Commit}
 use Rattle.gx_model.specs.Laws.RepositoryLaws.{values_of}
 use Rattle.gx_object.specs.declared.name.Name.{Name}
 use Rattle.gx_rev.specs.Objects.{value_at}
-use Rattle.gx_rev.specs.Walking.{names_back}
 use Rattle.gx_model.proofs.Records.HeldValues.{held_is}
-use Rattle.gx_rev.proofs.WordMarks.{names_end, names_step, value_there}
+use Rattle.gx_rev.proofs.WordMarks.{marks_long, marks_without, names_back, names_end, names_listed, names_step, value_there}
 use Rattle.gx_rev.proofs.walking.names_marked.Goals as goal
 use Rattle.gx_rev.proofs.walking.names_marked.Goals.{else-included-left-via-then-included-left+else-not-excluded-left, else-included-left-via-else-included-left}
 
@@ -54,3 +55,13 @@ loop-left-preserved g c =
           let step = names_step name (values_of r) marks at there.0 false (omega (arith, within, l)) there.1 (w at ∙ passed) in
           c.loop-left.invariant.named marks l w ∙ ap (λ k. names_back name (drop k (values_of r)) (drop k marks)) next ∙ sym (step ∙ append-nil _);
     }
+
+pub returns : goal.returns
+returns g c = λ wanted unwanted e f.
+    let vs = values_of c.args.repo.now.1 in
+    let alone : Commit → Bool = λ made. wanted made && not (unwanted made) in
+    let none : c.loop-left.left ≡ 0 = omega arith in
+    let named = c.loop-left.invariant.named (marks_of alone vs) (marks_long vs alone ∙ sym c.requires.included)
+    (λ place. marks_without vs wanted unwanted place ∙ (λ i. slice_index_or (sym e i) place false && not (slice_index_or (sym f i) place false))) in
+    named ∙ ap (λ k. names_back (g.N.Namer.name_of c.args.repo.now.0) (drop k vs) (drop k (marks_of alone vs))) none
+    ∙ names_listed (g.N.Namer.name_of c.args.repo.now.0) vs alone

@@ -1,6 +1,7 @@
 use Rattle.std.proofs.Common.{◌≡◌, ◌≤◌, Bool, List, drop, length, map}
 use Rattle.gx_model.specs.Laws.RepositoryLaws.{values_of}
-use Rattle.gx_rev.specs.Walking.{AreWithout, names_back}
+use Rattle.gx_rev.specs.Walking.{AreWithout}
+use Rattle.gx_rev.proofs.WordMarks.{names_back}
 use Rattle.gx_rev.proofs.walking.names_marked.Given as goal
 
 abbrev pub invariant-loop-left : goal.invariant-loop-left

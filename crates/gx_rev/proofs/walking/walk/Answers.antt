@@ -1,16 +1,21 @@
-use Rattle.std.proofs.Common.{sym, subst}
-use Rattle.gx_model.specs.Revisions.Ranges.{no_commit}
-use Rattle.gx_rev.specs.Tips.{AreTips}
+use Rattle.std.proofs.Common.{◌∙◌, ap, length, map}
+use Rattle.gx_model.specs.Laws.RangeLaws.{is_excluded}
+use Rattle.gx_model.specs.Laws.RepositoryLaws.{values_of}
+use Rattle.gx_model.specs.Records.HistoryOf.{history_of}
+use Rattle.gx_rev.specs.Views.{shown_range}
+use Rattle.gx_rev.specs.Walking.{is_included}
+use Rattle.gx_rev.proofs.Listings.{names_are}
+use Rattle.gx_rev.proofs.WordMarks.{marks_long}
 use Rattle.gx_rev.proofs.walking.walk.Goals as goal
 
-pub walk_marking-requires-clause-included : goal.walk_marking-requires-clause-included
-walk_marking-requires-clause-included g c = subst (AreTips c.args.repo.now.1 no_commit) (sym c.deref_mut.ensures.value) c.in_ok-included.ensures
+pub names_marked-requires-clause-included : goal.names_marked-requires-clause-included
+names_marked-requires-clause-included g c = let w = c.in_ok-walked.ensures in ap length w.2 ∙ marks_long (values_of c.args.repo.now.1) (is_included w.0)
 
-pub walk_marking-requires-clause-excluded : goal.walk_marking-requires-clause-excluded
-walk_marking-requires-clause-excluded g c = subst (AreTips c.args.repo.now.1 no_commit) (sym c.deref_mut-2.ensures.value) c.in_ok-excluded.ensures
-
-pub walk_marking-requires-clause-holds : goal.walk_marking-requires-clause-holds
-walk_marking-requires-clause-holds g c = c.new-parents.ensures c.args.repo.now.1
+pub names_marked-requires-clause-excluded : goal.names_marked-requires-clause-excluded
+names_marked-requires-clause-excluded g c = let w = c.in_ok-walked.ensures in ap length w.3 ∙ marks_long (values_of c.args.repo.now.1) (is_excluded w.0)
 
 pub returns : goal.returns
-returns g c = c.walk_marking.ensures
+returns g c =
+    let w = c.in_ok-walked.ensures in
+    names_are (g.N.Namer.name_of c.args.repo.now.0) (history_of c.args.repo.now.1) (map shown_range c.args.words.now) w.0 (map (λ n. n.bytes) c.in_ok-names.names.items) w.1
+    (c.in_ok-names.ensures (is_included w.0) (is_excluded w.0) w.2 w.3)

@@ -25,6 +25,7 @@ pub mod WrittenHomes
 pub mod InPlace
 pub mod TakenOut
 pub mod Changed
+pub mod Relisted
 pub mod Renamed
 pub mod Parted
 pub mod Above

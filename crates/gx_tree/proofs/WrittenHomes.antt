@@ -1,5 +1,5 @@
 -- Directories that are at home while trees are written.
-use Rattle.std.proofs.Common.{◌≡◌, ℕ, ◌+◌, ◌<◌, zero, suc, Bool, true, cond, arith, get_or, List, [], ◌∷◌, ◌++◌, map, take, length, Option, Some, None, refl, sym, ap, ◌∙◌, subst}
+use Rattle.std.proofs.Common.{◌≡◌, ℕ, ◌+◌, ◌<◌, zero, suc, true, cond, arith, get_or, List, [], ◌∷◌, ◌++◌, map, take, length, Option, Some, None, refl, sym, ap, ◌∙◌, subst}
 use Rattle.std.specs.Prelude.{IsTrue}
 use Rattle.std.specs.Option.{is_some, option_and_then, unwrap_or}
 use Rattle.std.specs.List.{AllByRecursion}
@@ -23,7 +23,7 @@ use Rattle.gx_tree.specs.Nodes.{IsLevel, files}
 use Rattle.gx_object.specs.declared.name.Name.{Name}
 use Rattle.gx_tree.specs.Writes.{kept_leaf, kept_records, level_records, map_name}
 use Rattle.gx_tree.specs.Written.{AreWritten, IsWritten}
-use Rattle.gx_tree.specs.Views.{IsNamed, RememberAll, Remembers, item_names, shown_item, names_below, own_entry, own_leaf, shown_entries, tree_of}
+use Rattle.gx_tree.specs.Views.{RememberAll, Remembers, item_names, shown_item, names_below, own_entry, own_leaf, shown_entries, tree_of}
 use Rattle.gx_tree.specs.declared.directory.Item.{Item}
 use Rattle.gx_tree.specs.declared.directory.Item.TheVariants.{File, Folder}
 use Rattle.gx_tree.specs.declared.directory.Entry.{Entry}
@@ -100,23 +100,6 @@ all_more P (x ∷ xs) zero r l ir h p = (subst P ir p, tt)
 all_more P (x ∷ xs) (suc i) r l ir h p =
     let e : suc (i + 1) ≡ suc i + 1 = omega arith in
     subst (λ n. AllByRecursion P (take n (x ∷ xs))) e (h.0, all_more P xs i r (omega arith) ir h.1 p)
-
-remembers : {A : Type 0} (trusts : Bool) (i : Item A) → IsNamed trusts i → Remembers i
-remembers trusts (File m n) h = tt
-remembers trusts (Folder d) h = h.1
-
-pub named_remember : {A : Type 0} (trusts : Bool) (es : List (Entry A)) → AllByRecursion (λ e. IsNamed trusts e.item) es → AllByRecursion (λ e. Remembers e.item) es
-named_remember trusts [] h = tt
-named_remember trusts (e ∷ es) h = (remembers trusts e.item h.0, named_remember trusts es h.1)
-
-module _ (name : Kind → Bytes → Bytes) (rs : List Record) where
-  named_item : {A : Type 0} (trusts : Bool) (i : Item A) → IsNamed trusts i → (IsTrue trusts → IsItemAtHome name rs i) → IsItemAtHome name rs i
-  named_item trusts (File m n) h k = tt
-  named_item trusts (Folder d) h k = k h.0
-
-  pub named_home : {A : Type 0} (trusts : Bool) (es : List (Entry A)) → AllByRecursion (λ e. IsNamed trusts e.item) es → (IsTrue trusts → AreAtHome name rs es) → AreAtHome name rs es
-  named_home trusts [] h k = tt
-  named_home trusts (e ∷ es) h k = (named_item trusts e.item h.0 (λ t. (k t).0), named_home trusts es h.1 (λ t. (k t).1))
 
 -- ---- entries that remember their names
 

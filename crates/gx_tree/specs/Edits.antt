@@ -1,5 +1,5 @@
 -- What an edit makes of a directory's entries, of what stands at one of them, and of the files below.
-use Rattle.std.specs.Prelude.{◌≡◌, ℕ, ◌+◌, Bool, IsTrue, drop, false, get_or, not, ◌||◌, List, [], ◌∷◌, ◌++◌, Option, None, Some}
+use Rattle.std.specs.Prelude.{◌≡◌, ℕ, ◌+◌, Bool, IsTrue, drop, false, get_or, not, ◌||◌, List, [], ◌∷◌, Option, None, Some}
 use Rattle.std.specs.declared.rc.Rc.{Rc}
 use Rattle.std.specs.declared.vec.Vec.{Vec}
 use Rattle.gx_model.specs.Histories.Edits.{removed}

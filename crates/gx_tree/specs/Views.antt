@@ -1,5 +1,5 @@
 -- What the fields of a directory are seen as.
-use Rattle.std.specs.Prelude.{◌≢◌, ℕ, Bool, List, [], ◌∷◌, map, Option, Some, None, IsTrue, ⊤}
+use Rattle.std.specs.Prelude.{ℕ, List, [], ◌∷◌, map, Option, Some, None, IsTrue, ⊤}
 use Rattle.std.specs.List.{flat_map, AllByRecursion}
 use Rattle.std.specs.Option.{unwrap_or}
 use Rattle.std.specs.Borrow.{Bor}
@@ -45,11 +45,6 @@ abbrev pub root_tree : Option NamedTree → NamedTree
 root_tree None = no_files
 root_tree (Some d) = d
 
--- a root without files is no directory
-abbrev pub IsRoot : Option NamedTree → Type 0
-IsRoot None = ⊤
-IsRoot (Some d) = d.files ≢ []
-
 -- the names that are remembered at and below an entry
 abbrev pub item_names : {A : Type 0} → Bytes → Item A → List (Path × Bytes)
 item_names c (File m n) = []
@@ -92,8 +87,3 @@ RemembersBelow (Some n) es = RememberAll es
 -- the entries stand in their order, their names are remembered where that of the whole is, and they reach as far as is kept
 abbrev pub IsDirectory : {A : Type 0} → Option Name → ℕ → List (Entry A) → Type 0
 IsDirectory remembered reach es = IsLevel (shown_entries es) × RemembersBelow remembered es × IsReach reach (files (shown_entries es))
-
--- a file, or a directory with a remembered name, where such names are trusted
-abbrev pub IsNamed : {A : Type 0} → Bool → Item A → Type 0
-IsNamed trusts (File m n) = ⊤
-IsNamed trusts (Folder d) = IsTrue trusts × IsTrue (is_named d.names)

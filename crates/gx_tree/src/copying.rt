@@ -1,13 +1,15 @@
 //! What a copy or a rename takes from one path to another.
-ghost use Rattle.std.specs.Prelude.{◌≡◌, ◌≤◌, IfOk, IsTrue};
+ghost use Rattle.std.specs.Prelude.{◌≡◌, ◌≤◌, IfErr, IfOk, IsTrue, None};
 ghost use Rattle.std.specs.List.{list_all};
 ghost use Rattle.std.specs.Option.{option_map};
+ghost use Rattle.gx_model.specs.Histories.Files.{sub_map};
 ghost use Rattle.gx_text.specs.TreePaths.{is_path};
-ghost use Rattle.gx_tree.specs.Copies.{graft_fault, shown_held};
+ghost use Rattle.gx_tree.specs.Copies.{IsCopyFault, IsHeldAt, graft_fault, shown_held, shown_held_if};
 ghost use Rattle.gx_tree.specs.Faults.{fault_of};
-ghost use Rattle.gx_tree.specs.Homes.{Keeps, IsHeldAtHome, IsItemAtHome};
+ghost use Rattle.gx_tree.specs.Homes.{IfThere, Keeps, IsHeldAtHome, IsItemAtHome};
 ghost use Rattle.gx_tree.specs.Lists.{are_short, below};
-ghost use Rattle.gx_tree.specs.Nodes.{IsKept, folder};
+ghost use Rattle.gx_tree.specs.Named.{IsAtHome};
+ghost use Rattle.gx_tree.specs.Nodes.{IsKept, IsKeptAt, folder, map_if};
 ghost use Rattle.gx_tree.specs.Rooms.{is_within};
 ghost use Rattle.gx_tree.specs.Views.{shown_item};
 
@@ -52,6 +54,46 @@ impl<'a, A: Allocator + Copy> Held<'a, A> {
 }
 
 impl<A: Allocator + Copy> Directory<A> {
+    /// What stands at a path, if it may be put at another.
+    pub(crate) fn held_for(
+        &self,
+        source: &TreePath<A>,
+        destination: &TreePath<A>,
+    ) -> Result<Held<'_, A>, TreeFault>
+        ensures held { IfOk result (λ held. IsHeldAt self.now.files source.now (shown_held held)) }
+        ensures fits { IfOk result (λ held. graft_fault (shown_held held) destination.now ≡ None) }
+        ensures refused { IfErr result (IsCopyFault self.now.files source.now destination.now) }
+        ensures path { IfOk result (λ _. IsTrue (is_path destination.now)) }
+        ensures home { IfOk result (Keeps IsAtHome IsHeldAtHome self.now) }
+    {
+        let Some(held) = self.held_at(source) else {
+            return Err(TreeFault::NoSuchPath);
+        };
+        match held.refusal(destination) {
+            Some(fault) => Err(fault),
+            None => Ok(held),
+        }
+    }
+
+    // What stands at a path. At the root that is this directory, if it has files.
+    fn held_at(&self, path: &TreePath<A>) -> Option<Held<'_, A>>
+        ensures held { sub_map self.now.files path.now ≡ map_if (shown_held_if result) }
+        ensures kept { IsKeptAt (shown_held_if result) }
+        ensures home { Keeps IsAtHome (IfThere IsHeldAtHome) self.now result }
+    {
+        if path.len() == 0 {
+            if self.is_empty() {
+                return None;
+            }
+            self.order();
+            return Some(Held::Folder(self));
+        }
+        match self.item_at(path, 0)? {
+            Item::File(mode, name) => Some(Held::File(*mode, *name)),
+            Item::Folder(below) => Some(Held::Folder(below)),
+        }
+    }
+
     // Whether the paths of the files are short below a path.
     fn fits_below(&self, path: &TreePath<A>) -> bool
         requires { IsKept (folder self.now.files) }

@@ -1,6 +1,6 @@
 //! Putting an item into a directory: the directories on its path change, and no other. Where no other tree has their entries,
 //! these change in place; else new ones share them first.
-ghost use Rattle.std.specs.Prelude.{◌≡◌, ◌≢◌, ◌<◌, ◌+◌, [], IfOk, OnErr, OnOk, IsTrue, None, drop, get_or, length, Some};
+ghost use Rattle.std.specs.Prelude.{◌≡◌, ◌<◌, ◌+◌, [], IfOk, OnErr, OnOk, IsTrue, None, drop, get_or, length, Some};
 ghost use Rattle.gx_model.specs.Texts.Paths.{is_component};
 ghost use Rattle.gx_tree.specs.Edits.{Grafts, GraftsFiles, GraftsItem, ReplacesItem, files_below, level_in};
 ghost use Rattle.gx_tree.specs.Homes.{BelowKeepHome, EntriesKeepHome, GraftKeepsHome, IsItemAtHome, ItemKeepsHome, Keeps};
@@ -31,7 +31,6 @@ impl<A: Allocator + Copy> Directory<A> {
         requires within { depth < length path.now }
         requires kept { IsKept (shown_item item.now) }
         ensures files { OnOk result (Grafts (drop depth path.now) (shown_item item.now) self.old self.new) }
-        ensures filled { OnOk result (self.new.files ≢ []) }
         ensures unchanged { OnErr result (self.new ≡ self.old) }
         ensures home { OnOk result (GraftKeepsHome item.now self.old self.new) }
     {
@@ -52,7 +51,6 @@ impl<A: Allocator + Copy> Directory<A> {
         requires within { depth < length path.now }
         requires kept { IsKept (shown_item item.now) }
         ensures files { IfOk result (Grafts (drop depth path.now) (shown_item item.now) no_files) }
-        ensures filled { IfOk result (λ d. d.files ≢ []) }
         ensures home { IfOk result (Keeps IsItemAtHome IsAtHome item.now) }
     {
         let mut directory = Directory::new(alloc)?;

@@ -2,6 +2,7 @@
 //! Its edits are set operations on that map, and it writes and loads the canonical trees.
 #![tactic(auto)]
 
+mod carrying;
 mod component;
 mod copying;
 mod directory;
@@ -18,7 +19,6 @@ mod placing;
 mod reach;
 mod removing;
 mod renaming;
-mod root;
 mod search;
 mod writing;
 

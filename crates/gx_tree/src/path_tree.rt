@@ -5,7 +5,7 @@ ghost use Rattle.gx_model.specs.Histories.Edits.{copied, modified, removed, rena
 ghost use Rattle.gx_model.specs.Faults.{Gives};
 ghost use Rattle.gx_model.specs.Records.Growth.{tree_records};
 ghost use Rattle.gx_model.specs.Objects.{is_name};
-ghost use Rattle.gx_tree.specs.Calls.{Becomes, LoadsFiles};
+ghost use Rattle.gx_tree.specs.Calls.{Becomes, GivesFiles, LoadsFiles};
 ghost use Rattle.gx_tree.specs.Faults.{fault_of, Refuses};
 ghost use Rattle.gx_model.specs.Objects.NameMaps.{IsNameMap};
 ghost use Rattle.gx_tree.specs.HeldTrees.{HoldsTree, NamesHeldTree};
@@ -18,10 +18,10 @@ ghost use Rattle.gx_tree.specs.Standings.{standing_of, standing_at};
 ghost use Rattle.gx_model.specs.declared.objects.Mode.TheVariants as modes;
 ghost use Rattle.gx_tree.specs.declared.fault.TreeFault.TheVariants as faults;
 
-use crate::directory::{Directory, Item};
+use crate::directory::{Directory, Entry, Item};
 use crate::fault::TreeFault;
 use crate::loaded::LoadedTrees;
-use crate::root::Root;
+use crate::writing::put_tree;
 use gx_object::{Mode, Name, Namer};
 use gx_store::Store;
 use gx_text::{MOST_BYTES, TreePath};
@@ -40,7 +40,8 @@ pub enum Found {
 /// Files by their paths, each with its mode and the name of its content.
 #[derive(Drop)]
 pub struct PathTree<A: Allocator> {
-    root: Root<A>,
+    /// The root, and none where no file was put.
+    root: Option<Directory<A>>,
     alloc: A,
 }
 
@@ -50,10 +51,11 @@ impl<A: Allocator> Model for PathTree<A> {
     ghost Value = { NamedTree };
 
     ghost use Rattle.gx_model.specs.Objects.NameMaps.{IsNameMap};
+    ghost use Rattle.gx_tree.specs.Views.{root_tree};
 
-    ghost view = { λ a. a.root };
+    ghost view = { λ a. root_tree a.root };
 
-    ghost invariant = { λ a. IsNameMap a.root.files };
+    ghost invariant = { λ a. IsNameMap (root_tree a.root).files };
 }
 
 impl<A: Allocator + Copy> PathTree<A> {
@@ -61,10 +63,7 @@ impl<A: Allocator + Copy> PathTree<A> {
     pub fn empty(alloc: A) -> PathTree<A>
         ensures { result ≡ no_files }
     {
-        PathTree {
-            root: Root::none(),
-            alloc,
-        }
+        PathTree { root: None, alloc }
     }
 
     /// The files of a tree in the store, which holds the tree and all trees below it, as after `write`. What files and
@@ -107,15 +106,17 @@ impl<A: Allocator + Copy> PathTree<A> {
     {
         loaded.make_room();
         let directory = Directory::load(alloc, store, name, MOST_BYTES, loaded)?;
-        let root = Root::of(directory);
-        Ok(PathTree { root, alloc })
+        Ok(PathTree {
+            root: Some(directory),
+            alloc,
+        })
     }
 
     /// Removes each file. Takes no memory. Source: git-fast-import(1), "filedeleteall".
     pub fn clear(&mut self)
         ensures { self.new ≡ no_files }
     {
-        self.root = Root::none();
+        self.root = None;
     }
 
     /// Each tree is a file map of files' modes and names. Takes no memory.
@@ -132,7 +133,11 @@ impl<A: Allocator + Copy> PathTree<A> {
     pub fn entry(&self, path: &TreePath<A>) -> Option<Found>
         ensures { option_map standing_of result ≡ standing_at self.now.files path.now }
     {
-        self.root.entry(path)
+        match &self.root {
+            Some(root) => root.entry(path, 0),
+            None if path.len() == 0 => Some(Found::Directory),
+            None => None,
+        }
     }
 
     /// The same files once more: later edits of one change nothing in the other. The one error is `OutOfMemory`, where
@@ -143,8 +148,12 @@ impl<A: Allocator + Copy> PathTree<A> {
     pub fn duplicate(&self) -> Result<PathTree<A>, TreeFault>
         ensures { Gives fault_of (λ copy. copy) result (Ok self.now) }
     {
+        let root = match &self.root {
+            Some(root) => Some(root.shared()?),
+            None => None,
+        };
         Ok(PathTree {
-            root: self.root.shared()?,
+            root,
             alloc: self.alloc,
         })
     }
@@ -156,7 +165,9 @@ impl<A: Allocator + Copy> PathTree<A> {
         ensures { Gives fault_of (λ files. map shown_listed files.items) result (Ok self.now.files) }
     {
         let mut files = Vec::new(self.alloc);
-        self.root.list_into(self.alloc, &mut files)?;
+        if let Some(root) = &self.root {
+            root.list_into(self.alloc, &TreePath::root(self.alloc), &mut files)?;
+        }
         Ok(files)
     }
 
@@ -181,7 +192,12 @@ impl<A: Allocator + Copy> PathTree<A> {
             return Err(TreeFault::RootNotTree);
         }
         is_name(name.bytes.as_slice());
-        self.root.graft(self.alloc, path, &Item::File(mode, name))?;
+        let file = Item::File(mode, name);
+        let Some(root) = &mut self.root else {
+            self.root = Some(Directory::of_item(self.alloc, path, 0, &file)?);
+            return Ok(());
+        };
+        root.graft(self.alloc, path, 0, &file)?;
         Ok(())
     }
 
@@ -198,7 +214,17 @@ impl<A: Allocator + Copy> PathTree<A> {
         ensures unchanged { OnErr result (self.new ≡ self.old) }
         ensures home { KeepsHome self.old self.new }
     {
-        self.root.remove(self.alloc, path)?;
+        if self.entry(path).is_none() {
+            return Ok(());
+        }
+        if path.len() == 0 {
+            self.clear();
+            return Ok(());
+        }
+        let Some(root) = &mut self.root else {
+            return Ok(());
+        };
+        root.remove(self.alloc, path, 0)?;
         Ok(())
     }
 
@@ -217,7 +243,13 @@ impl<A: Allocator + Copy> PathTree<A> {
         ensures unchanged { OnErr result (self.new ≡ self.old) }
         ensures home { KeepsHome self.old self.new }
     {
-        self.root.copy(self.alloc, source, destination)
+        let Some(root) = &mut self.root else {
+            return Err(TreeFault::NoSuchPath);
+        };
+        let held = root.held_for(source, destination)?;
+        let item = held.item()?;
+        root.place(self.alloc, destination, item)?;
+        Ok(())
     }
 
     /// Takes out what stands at or below the source, and puts it at the destination, in place of what then stands there
@@ -237,7 +269,13 @@ impl<A: Allocator + Copy> PathTree<A> {
         ensures unchanged { OnErr result (self.new ≡ self.old) }
         ensures home { KeepsHome self.old self.new }
     {
-        self.root.rename(self.alloc, source, destination)
+        let Some(root) = &mut self.root else {
+            return Err(TreeFault::NoSuchPath);
+        };
+        let held = root.held_for(source, destination)?;
+        let item = held.item()?;
+        root.carry(self.alloc, source, destination, item)?;
+        Ok(())
     }
 
     /// Puts the tree of each directory into the store, those below a directory before its own, and answers the name of
@@ -246,8 +284,9 @@ impl<A: Allocator + Copy> PathTree<A> {
     ///
     /// `NameHeld` where a tree has the name of an object of another kind or with other bytes, and `OutOfMemory`: what was
     /// put by then stays, behind the records that the store had. The files stay as they were in any case.
-    /// Cost: the bytes of the trees, and for each directory a look-up in the store. Takes memory for the new records,
-    /// for directories that remember their names, and for one body at a time. Source: gitglossary(7), "tree object".
+    /// Cost: the bytes of all paths and of the trees, and for each directory a look-up in the store. Takes memory for the
+    /// list of the files, for two trees of them, for the new records, and for one body at a time. Source: gitglossary(7),
+    /// "tree object".
     pub fn write<N: Namer>(&mut self, store: &mut Store<N, A>) -> Result<Name, TreeFault>
         ensures name { IfOk result (IsTreeName (N.name_of store.old.0) self.old.files) }
         ensures records { StoresAll N.name_of tree_records self.old.files store.old store.new result }
@@ -258,8 +297,9 @@ impl<A: Allocator + Copy> PathTree<A> {
         ensures unchanged { OnErr result (self.new ≡ self.old) }
         ensures home { IfOk result (λ _. IsAtHome (N.name_of store.old.0) store.new.1 self.new) }
     {
-        let (root, name) = self.root.written(self.alloc, store, false)?;
-        self.root = root;
+        let mut tree = self.without_names()?;
+        let name = tree.write_shared(store)?;
+        *self = tree;
         Ok(name)
     }
 
@@ -279,9 +319,28 @@ impl<A: Allocator + Copy> PathTree<A> {
         ensures unchanged { OnErr result (self.new ≡ self.old) }
         ensures home { IfOk result (λ _. IsAtHome (N.name_of store.old.0) store.new.1 self.new) }
     {
-        let (root, name) = self.root.written(self.alloc, store, true)?;
-        self.root = root;
+        let mut body = Vec::new(self.alloc);
+        let Some(root) = &self.root else {
+            let none: Vec<Entry<A>, A> = Vec::new(self.alloc);
+            return put_tree(none.as_slice(), store, &mut body);
+        };
+        let root = root.written(self.alloc, store, &mut body)?;
+        let name = *root.tree_name();
+        self.root = Some(root);
         Ok(name)
+    }
+
+    // A tree of the same files that remembers no name. The one error is `OutOfMemory`.
+    fn without_names(&self) -> Result<PathTree<A>, TreeFault>
+        ensures files { GivesFiles result (Ok self.now.files) }
+        ensures home { IfOk result (KeepsHome no_files) }
+    {
+        let files = self.list()?;
+        let mut tree = PathTree::empty(self.alloc);
+        for file in files.as_slice() {
+            tree.modify(&file.0, file.1, file.2)?;
+        }
+        Ok(tree)
     }
 }
 

@@ -1,7 +1,7 @@
 //! Taking out what stands at one path, and putting an item at another, where neither path begins with the other. The
 //! directories on both change, and no other. Where no other tree has their entries, these change in place; else new ones share
 //! them first.
-ghost use Rattle.std.specs.Prelude.{◌≡◌, ◌≢◌, ◌<◌, ◌≤◌, ◌+◌, [], IfOk, OnErr, OnOk, IsTrue, drop, false, get_or, length};
+ghost use Rattle.std.specs.Prelude.{◌≡◌, ◌<◌, ◌≤◌, ◌+◌, [], IfOk, OnErr, OnOk, IsTrue, drop, false, get_or, length};
 ghost use Rattle.gx_tree.specs.Edits.{AreApart, Carries, CarriesBelow, CarriesAt, are_apart, files_below, level_in};
 ghost use Rattle.gx_tree.specs.Homes.{BelowKeepHome, EntriesKeepHome, GraftKeepsHome, IsItemAtHome, ItemKeepsHome};
 ghost use Rattle.gx_tree.specs.Nodes.{IsKept, IsLevel, files, is_folder, mark};
@@ -50,7 +50,6 @@ impl<A: Allocator + Copy> Directory<A> {
         requires apart { AreApart depth from.now to.now }
         requires kept { IsKept (shown_item item.now) }
         ensures files { OnOk result (Carries depth from.now to.now item.now self.old self.new) }
-        ensures filled { OnOk result (self.new.files ≢ []) }
         ensures unchanged { OnErr result (self.new ≡ self.old) }
         ensures home { OnOk result (GraftKeepsHome item.now self.old self.new) }
     {

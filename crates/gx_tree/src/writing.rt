@@ -7,7 +7,7 @@ ghost use Rattle.gx_tree.specs.Edits.{level_in};
 ghost use Rattle.gx_tree.specs.Homes.{EntriesKeepHome, HoldsIn, AreAtHome, IsItemAtHome};
 ghost use Rattle.gx_tree.specs.Named.{IsAtHome, is_named, own_name};
 ghost use Rattle.gx_tree.specs.Nodes.{IsLevel, files};
-ghost use Rattle.gx_tree.specs.Views.{IsNamed, shown_item, own_entry, shown_entries, shown_entry, RememberAll, Remembers};
+ghost use Rattle.gx_tree.specs.Views.{shown_item, own_entry, shown_entries, shown_entry, RememberAll, Remembers};
 ghost use Rattle.std.specs.List.{AllByRecursion};
 ghost use Rattle.gx_tree.specs.Writes.{Extends, IsTreeName, StoresAll, kept_records, level_records};
 ghost use Rattle.gx_tree.specs.Written.{AreWritten, AreWrittenIn, IsItemWritten, IsWritten, PushesItem, RemembersMore, Writes, record_above, records_below};
@@ -20,8 +20,8 @@ use std::alloc::{AllocError, Allocator};
 use std::rc::Rc;
 
 impl<A: Allocator + Copy> Directory<A> {
-    /// Puts the trees at and below the directory, and answers it with their names. Below a name that is remembered and
-    /// trusted nothing is put, since that is held. Each body is made in the one buffer straight from the entries, once those
+    /// Puts the trees at and below the directory, and answers it with their names. Below a name that is remembered nothing is
+    /// put, since that is held. Each body is made in the one buffer straight from the entries, once those
     /// below are put.
     #[cycle(write)]
     pub(crate) fn written<N: Namer>(
@@ -29,17 +29,16 @@ impl<A: Allocator + Copy> Directory<A> {
         alloc: A,
         store: &mut Store<N, A>,
         body: &mut Vec<u8, A>,
-        trusts: bool,
     ) -> Result<Directory<A>, TreeFault>
-        requires home { IsTrue trusts → HoldsIn N.name_of store.now IsAtHome self.now }
+        requires home { HoldsIn N.name_of store.now IsAtHome self.now }
         ensures extends { Extends store.old store.new }
         ensures puts { StoresAll N.name_of tree_records self.now.files store.old store.new result }
         ensures made { IfOk result (Writes N.name_of IsWritten store.old store.new self.now.files) }
     {
-        if self.is_trusted(trusts) {
+        if self.is_named() {
             return Ok(self.shared()?);
         }
-        let entries = written_entries(alloc, &self.entries, store, body, trusts)?;
+        let entries = written_entries(alloc, &self.entries, store, body)?;
         let name = put_tree(entries.as_slice(), store, body)?;
         Ok(Directory {
             entries,
@@ -59,27 +58,20 @@ impl<A: Allocator + Copy> Directory<A> {
         }
     }
 
-    // The name of its tree, where that is remembered.
-    fn remembered_name(&self) -> Option<Name>
-        ensures { IfSome result (λ name. own_name self.now.names ≡ Some name.bytes) }
+    // Whether it remembers the name of its tree.
+    fn is_named(&self) -> bool
+        ensures { IsTrue result → IsTrue (is_named self.now.names) }
     {
-        self.remembered
-    }
-
-    // Whether it remembers the name of its tree, and such names are trusted.
-    fn is_trusted(&self, trusts: bool) -> bool
-        ensures { IsTrue result → IsTrue trusts × IsTrue (is_named self.now.names) }
-    {
-        trusts && self.remembered_name().is_some()
+        self.remembered.is_some()
     }
 }
 
-// Whether each directory among the entries remembers a name, which is trusted.
-fn are_named<A: Allocator + Copy>(entries: &[Entry<A>], trusts: bool) -> bool
-    ensures { IsTrue result → AllByRecursion (λ e. IsNamed trusts e.item) entries.now }
+// Whether each directory among the entries remembers a name.
+fn remember_all<A: Allocator + Copy>(entries: &[Entry<A>]) -> bool
+    ensures { IsTrue result → RememberAll entries.now }
 {
     for entry in entries {
-        if !entry.item.is_named(trusts) {
+        if !entry.item.remembers() {
             return false;
         }
     }
@@ -93,20 +85,19 @@ fn written_entries<A: Allocator + Copy, N: Namer>(
     entries: &Rc<Vec<Entry<A>, A>, A>,
     store: &mut Store<N, A>,
     body: &mut Vec<u8, A>,
-    trusts: bool,
 ) -> Result<Rc<Vec<Entry<A>, A>, A>, TreeFault>
     requires level { IsLevel (level_in entries.now) }
-    requires home { IsTrue trusts → HoldsIn N.name_of store.now AreAtHome entries.now.value.items }
+    requires home { HoldsIn N.name_of store.now AreAtHome entries.now.value.items }
     ensures extends { Extends store.old store.new }
     ensures puts { StoresAll N.name_of level_records (level_in entries.now) store.old store.new result }
     ensures made { IfOk result (Writes N.name_of AreWrittenIn store.old store.new entries.now) }
 {
-    let shares = are_named(entries.as_slice(), trusts);
+    let shares = remember_all(entries.as_slice());
     if shares {
         return Ok(entries.clone()?);
     }
     let mut named = Vec::with_capacity(alloc, entries.len())?;
-    write_entries(alloc, entries.as_slice(), &mut named, store, body, trusts)?;
+    write_entries(alloc, entries.as_slice(), &mut named, store, body)?;
     let Ok(named) = Rc::new(alloc, named) else {
         return Err(TreeFault::OutOfMemory);
     };
@@ -121,17 +112,16 @@ fn write_entries<A: Allocator + Copy, N: Namer>(
     named: &mut Vec<Entry<A>, A>,
     store: &mut Store<N, A>,
     body: &mut Vec<u8, A>,
-    trusts: bool,
 ) -> Result<(), TreeFault>
     requires level { IsLevel (shown_entries entries.now) }
-    requires home { IsTrue trusts → HoldsIn N.name_of store.now AreAtHome entries.now }
+    requires home { HoldsIn N.name_of store.now AreAtHome entries.now }
     requires empty { named.old.items ≡ [] }
     ensures extends { Extends store.old store.new }
     ensures puts { StoresAll N.name_of records_below entries.now store.old store.new result }
     ensures made { OnOk result (Writes N.name_of AreWritten store.old store.new entries.now named.new.items) }
 {
     for entry in entries {
-        let item = entry.item.written(alloc, store, body, trusts)?;
+        let item = entry.item.written(alloc, store, body)?;
         entry.push_with(item, named)?;
     }
     Ok(())
@@ -196,13 +186,13 @@ impl<A: Allocator + Copy> Entry<A> {
 }
 
 impl<A: Allocator + Copy> Item<A> {
-    // Whether it is a file, or a directory that remembers a name, which is trusted.
-    fn is_named(&self, trusts: bool) -> bool
-        ensures { IsTrue result → IsNamed trusts self.now }
+    // Whether it is a file, or a directory that remembers a name.
+    fn remembers(&self) -> bool
+        ensures { IsTrue result → Remembers self.now }
     {
         match self {
             Item::File(_, _) => true,
-            Item::Folder(below) => below.is_trusted(trusts),
+            Item::Folder(below) => below.is_named(),
         }
     }
 
@@ -213,9 +203,8 @@ impl<A: Allocator + Copy> Item<A> {
         alloc: A,
         store: &mut Store<N, A>,
         body: &mut Vec<u8, A>,
-        trusts: bool,
     ) -> Result<Item<A>, TreeFault>
-        requires home { IsTrue trusts → HoldsIn N.name_of store.now IsItemAtHome self.now }
+        requires home { HoldsIn N.name_of store.now IsItemAtHome self.now }
         ensures extends { Extends store.old store.new }
         ensures puts { StoresAll N.name_of kept_records (shown_item self.now) store.old store.new result }
         ensures made { IfOk result (Writes N.name_of IsItemWritten store.old store.new self.now) }
@@ -223,7 +212,7 @@ impl<A: Allocator + Copy> Item<A> {
         match self {
             Item::File(mode, name) => Ok(Item::File(*mode, *name)),
             Item::Folder(below) => {
-                let below = below.written(alloc, store, body, trusts)?;
+                let below = below.written(alloc, store, body)?;
                 Ok(Item::Folder(below))
             }
         }

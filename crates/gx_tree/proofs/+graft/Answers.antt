@@ -11,16 +11,12 @@ use Rattle.gx_tree.specs.Views.{shown_item, shown_entries}
 use Rattle.gx_tree.proofs.Below.{no_root_before}
 use Rattle.gx_tree.proofs.Changed.{anew_end, anew_file, changed_at, grafted_at, grafted_new}
 use Rattle.gx_tree.proofs.EditSteps.{grafted_from, grafted_whole, inner_at, kept_grafted_folder}
-use Rattle.gx_tree.proofs.Grafts.{IsKept-grafted, grafted_some, kept_some}
+use Rattle.gx_tree.proofs.Grafts.{IsKept-grafted}
 use Rattle.gx_tree.proofs.Homes.{all_at, entries_at_home, files_same, items_are_those, made_at_home}
 use Rattle.gx_tree.proofs.InPlace.{all_set, standing}
 use Rattle.gx_tree.proofs.Rooms.{come}
 use Rattle.gx_tree.proofs.+graft.Goals as goal
 use Rattle.gx_tree.proofs.+graft.Goals.{grafting::graft_at-else-depth-length-via-then-depth-length+else-is_folder, grafting::graft_at-else-depth-length-via-else-depth-length}
-
-pub directory::Directory::graft-returns-clause-filled : goal.directory::Directory::graft-returns-clause-filled
-directory::Directory::graft-returns-clause-filled g t c = λ none.
-    grafted_some (drop c.args.depth c.args.path.now) (kept_map (shown_item c.args.item.now)) _ (kept_some (shown_item c.args.item.now) c.requires.kept) (sym c.in_ok-reach.ensures.files ∙ none)
 
 pub directory::Directory::graft-returns-clause-home : goal.directory::Directory::graft-returns-clause-home
 directory::Directory::graft-returns-clause-home g t c = λ name rs h.

@@ -9,16 +9,11 @@ use Rattle.gx_tree.specs.Steps.{kept_grafted, kept_removed}
 use Rattle.gx_tree.specs.Views.{shown_item, shown_entries}
 use Rattle.gx_tree.proofs.Below.{no_root_before}
 use Rattle.gx_tree.proofs.Changed.{changed_at, read_twice}
-use Rattle.gx_tree.proofs.Grafts.{grafted_some, kept_some}
 use Rattle.gx_tree.proofs.Homes.{all_at, entries_at_home, items_are_those, made_at_home}
 use Rattle.gx_tree.proofs.InPlace.{all_set, standing}
 use Rattle.gx_tree.proofs.Renamed.{file_there, kept_renamed_folder, nothing_there, put_alone, renamed_at, apart_below, apart_longer}
 use Rattle.gx_tree.proofs.Texts.{bytes_are}
 use Rattle.gx_tree.proofs.+rename.Goals as goal
-
-pub directory::Directory::rename-returns-clause-filled : goal.directory::Directory::rename-returns-clause-filled
-directory::Directory::rename-returns-clause-filled g t c = λ none.
-    grafted_some (drop c.args.depth c.args.to.now) (kept_map (shown_item c.args.item.now)) _ (kept_some (shown_item c.args.item.now) c.requires.kept) (sym c.in_ok-reach.ensures.files ∙ none)
 
 pub directory::Directory::rename-returns-clause-home : goal.directory::Directory::rename-returns-clause-home
 directory::Directory::rename-returns-clause-home g t c = λ name rs h.

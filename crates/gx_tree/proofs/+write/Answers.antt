@@ -1,13 +1,12 @@
 use Rattle.std.proofs.Common.{Vec, ◌≡◌, [], ◌∷◌, ◌++◌, Err, Some, refl, sym, ap, ◌∙◌, subst, arith}
 use Rattle.std.specs.Prelude.{⊤}
-use Rattle.std.specs.List.{AllByRecursion}
 use Rattle.gx_model.specs.Records.Growth.{put_all, tree_records}
 use Rattle.gx_object.specs.declared.name.Name.{Name}
 use Rattle.gx_tree.specs.Homes.{AreAtHome, IsItemAtHome}
 use Rattle.gx_tree.specs.Named.{NamedTree}
 use Rattle.gx_tree.specs.Nodes.{IsLevel, components, files, folder}
 use Rattle.gx_tree.specs.Rooms.{IsReach}
-use Rattle.gx_tree.specs.Views.{IsNamed, shown_item, shown_entry, shown_entries, RememberAll}
+use Rattle.gx_tree.specs.Views.{shown_item, shown_entry, shown_entries, RememberAll}
 use Rattle.gx_tree.specs.Written.{AreWritten}
 use Rattle.gx_tree.specs.Writes.{PutsAll, kept_records, level_records, map_name, own_record}
 use Rattle.std.specs.declared.rc.Rc.{Rc}
@@ -18,20 +17,20 @@ use Rattle.gx_tree.proofs.Copies.{alike_all, alike_more}
 use Rattle.gx_tree.proofs.HeldRecords.{all_held, still_held}
 use Rattle.gx_tree.proofs.Homes.{items_are_those, all_at, entries_at_home, files_same}
 use Rattle.gx_tree.proofs.Measures.{item_less, item_measure}
-use Rattle.gx_tree.proofs.WrittenHomes.{below_held, directory_written, entries_longer, item_longer, named_held, named_home, named_remember, put_all_again, shared_written}
+use Rattle.gx_tree.proofs.WrittenHomes.{below_held, directory_written, entries_longer, item_longer, named_held, put_all_again, shared_written}
 use Rattle.gx_tree.proofs.WrittenRecords.{all_written, below_stops, extends_same, extends_trans, made_of_none, own_put, own_stops, passed_on, writing_more, writing_stops}
 use Rattle.gx_tree.proofs.+write.Goals as goal
 
-pub directory::Directory::written-returns-then-is_trusted-clause-puts : goal.directory::Directory::written-returns-then-is_trusted-clause-puts
-directory::Directory::written-returns-then-is_trusted-clause-puts g t c =
+pub directory::Directory::written-returns-then-is_named-clause-puts : goal.directory::Directory::written-returns-then-is_named-clause-puts
+directory::Directory::written-returns-then-is_named-clause-puts g t c =
     let name = g.N.Namer.name_of c.args.store.now.0 in
-    let named = c.is_trusted.ensures c.if-is_trusted.true in
-    put_all_again c.args.store.now.1 (tree_records name c.args.self.now.files) (named_held name c.args.store.now.1 c.args.self.now named.1 (c.requires.home named.0))
+    let named = c.is_named.ensures c.if-is_named.true in
+    put_all_again c.args.store.now.1 (tree_records name c.args.self.now.files) (named_held name c.args.store.now.1 c.args.self.now named c.requires.home)
 
-pub directory::Directory::written-returns-then-is_trusted-clause-made : goal.directory::Directory::written-returns-then-is_trusted-clause-made
-directory::Directory::written-returns-then-is_trusted-clause-made g t c =
-    let named = c.is_trusted.ensures c.if-is_trusted.true in
-    shared_written (g.N.Namer.name_of c.args.store.now.0) c.args.store.now.1 c.args.self.now c.in_ok-shared.field-0 c.in_ok-shared.ensures named.1 (c.requires.home named.0)
+pub directory::Directory::written-returns-then-is_named-clause-made : goal.directory::Directory::written-returns-then-is_named-clause-made
+directory::Directory::written-returns-then-is_named-clause-made g t c =
+    let named = c.is_named.ensures c.if-is_named.true in
+    shared_written (g.N.Namer.name_of c.args.store.now.0) c.args.store.now.1 c.args.self.now c.in_ok-shared.field-0 c.in_ok-shared.ensures named c.requires.home
 
 pub directory::Directory::written-written_entries-requires : goal.directory::Directory::written-written_entries-requires
 directory::Directory::written-written_entries-requires g t c =
@@ -46,7 +45,7 @@ directory::Directory::written-written_entries-requires g t c =
           within.1,
           (
             c.self.invariant.0,
-            λ trusts. entries_at_home name c.args.store.now.1 c.self.inside.remembered es c.args.self.now c.self.view_is c.self.invariant.0 (c.requires.home trusts),
+            entries_at_home name c.args.store.now.1 c.self.inside.remembered es c.args.self.now c.self.view_is c.self.invariant.0 c.requires.home,
           ),
         ),
       ),
@@ -122,17 +121,15 @@ pub writing::written_entries-returns-then-shares-clause-puts : goal.writing::wri
 writing::written_entries-returns-then-shares-clause-puts g t c =
     let name = g.N.Namer.name_of c.args.store.now.0 in
     let es = c.args.entries.now.value.items in
-    let named = subst (AllByRecursion (λ e. IsNamed c.args.trusts e.item)) (items_are_those c.as_slice.ensures.value c.deref.ensures) (c.are_named-shares.ensures c.if-shares.true) in
-    let home = named_home name c.args.store.now.1 c.args.trusts es named c.requires.home in
-    put_all_again c.args.store.now.1 (level_records name (shown_entries es)) (below_held name c.args.store.now.1 es home (named_remember c.args.trusts es named))
+    let named = subst RememberAll (items_are_those c.as_slice.ensures.value c.deref.ensures) (c.remember_all-shares.ensures c.if-shares.true) in
+    put_all_again c.args.store.now.1 (level_records name (shown_entries es)) (below_held name c.args.store.now.1 es c.requires.home named)
 
 pub writing::written_entries-returns-then-shares-clause-made : goal.writing::written_entries-returns-then-shares-clause-made
 writing::written_entries-returns-then-shares-clause-made g t c =
     let name = g.N.Namer.name_of c.args.store.now.0 in
     let es = c.args.entries.now.value.items in
-    let named = subst (AllByRecursion (λ e. IsNamed c.args.trusts e.item)) (items_are_those c.as_slice.ensures.value c.deref.ensures) (c.are_named-shares.ensures c.if-shares.true) in
-    let home = named_home name c.args.store.now.1 c.args.trusts es named c.requires.home in
-    subst (λ v. AreWritten name c.args.store.now.1 es v.items) (sym c.in_ok-clone.ensures.cases) (record { seen = refl; home = home; remember = named_remember c.args.trusts es named })
+    let named = subst RememberAll (items_are_those c.as_slice.ensures.value c.deref.ensures) (c.remember_all-shares.ensures c.if-shares.true) in
+    subst (λ v. AreWritten name c.args.store.now.1 es v.items) (sym c.in_ok-clone.ensures.cases) (record { seen = refl; home = c.requires.home; remember = named })
 
 pub writing::write_entries-written-requires : goal.writing::write_entries-written-requires
 writing::write_entries-written-requires g t c =
@@ -147,10 +144,10 @@ writing::write_entries-written-requires g t c =
         within.0,
         (
           within.1,
-          λ trusts.
-              let one = all_at (λ e. IsItemAtHome name c.args.store.now.1 e.item) xs c.loop-entry.entry-index r c.loop-entry-test.true c.entry-item.is (c.requires.home trusts) in
+          (
+              let one = all_at (λ e. IsItemAtHome name c.args.store.now.1 e.item) xs c.loop-entry.entry-index r c.loop-entry-test.true c.entry-item.is c.requires.home in
               let longer = item_longer name c.args.store.now.1 mid (λ n s. still_held _ c.args.store.now.1 mid n s c.loop-entry.invariant.1) r.item one in
-              subst (λ n. IsItemAtHome (g.N.Namer.name_of n) mid r.item) (sym c.loop-entry.invariant.0.namer) longer,
+              subst (λ n. IsItemAtHome (g.N.Namer.name_of n) mid r.item) (sym c.loop-entry.invariant.0.namer) longer),
         ),
       ),
     )
@@ -213,8 +210,8 @@ directory::Directory::written-invariant_of-result g t c =
 pub directory::Directory::written-returns-in_err-shared-clause-extends : goal.directory::Directory::written-returns-in_err-shared-clause-extends
 directory::Directory::written-returns-in_err-shared-clause-extends g t c = extends_same c.args.store.now
 
-pub directory::Directory::written-returns-then-is_trusted-clause-extends : goal.directory::Directory::written-returns-then-is_trusted-clause-extends
-directory::Directory::written-returns-then-is_trusted-clause-extends g t c = extends_same c.args.store.now
+pub directory::Directory::written-returns-then-is_named-clause-extends : goal.directory::Directory::written-returns-then-is_named-clause-extends
+directory::Directory::written-returns-then-is_named-clause-extends g t c = extends_same c.args.store.now
 
 pub directory::Item::written-returns-in-File-clause-extends : goal.directory::Item::written-returns-in-File-clause-extends
 directory::Item::written-returns-in-File-clause-extends g t c = extends_same c.args.store.now
@@ -245,7 +242,7 @@ directory::Item::written-written-requires g t c =
     let name = g.N.Namer.name_of c.args.store.now.0 in
     λ κs within. (
       omega (arith, ap item_measure c.in-Folder.is, c.decreases),
-      (within.0, (within.1, λ trusts. subst (IsItemAtHome name c.args.store.now.1) c.in-Folder.is (c.requires.home trusts))),
+      (within.0, (within.1, subst (IsItemAtHome name c.args.store.now.1) c.in-Folder.is c.requires.home)),
     )
 
 pub directory::Item::written-returns-in_err-below-in-Folder-clause-made : goal.directory::Item::written-returns-in_err-below-in-Folder-clause-made
@@ -287,7 +284,7 @@ writing::written_entries-write_entries-requires g t c =
           within.1,
           (
             subst (λ z. IsLevel (shown_entries z)) (sym those) c.requires.level,
-            (λ trusts. subst (AreAtHome name c.args.store.now.1) (sym those) (c.requires.home trusts), c.in_ok-named.ensures.items),
+            (subst (AreAtHome name c.args.store.now.1) (sym those) c.requires.home, c.in_ok-named.ensures.items),
           ),
         ),
       ),

@@ -1,5 +1,4 @@
-use Rattle.std.proofs.Common.{Ok, sym, ap, ◌∙◌, subst}
-use Rattle.gx_model.specs.Objects.NameMaps.{IsNameMap}
+use Rattle.std.proofs.Common.{Ok, sym, ap}
 use Rattle.gx_tree.proofs.HeldLevels.{within_all}
 use Rattle.gx_tree.proofs.OneMap.{one_map}
 use Rattle.gx_tree.proofs.path_tree.PathTree.load_among.Goals as goal
@@ -11,12 +10,12 @@ load-requires g c = record {
 }
 
 pub invariant_of-result : goal.invariant_of-result
-invariant_of-result g c = subst IsNameMap (sym c.of-root.ensures.files) c.in_ok-directory.ensures.directory.held.map
+invariant_of-result g c = c.in_ok-directory.ensures.directory.held.map
 
 pub returns-clause-files : goal.returns-clause-files
 returns-clause-files g c = λ f h.
     let name = g.N.Namer.name_of c.args.store.now.0 in
-    ap Ok (sym (c.of-root.ensures.files ∙ one_map name c.args.store.now.1 (g.met.N.Namer.is_namer c.args.store.now.0) c.args.name.now.bytes _ f c.in_ok-directory.ensures.directory.held h))
+    ap Ok (sym (one_map name c.args.store.now.1 (g.met.N.Namer.is_namer c.args.store.now.0) c.args.name.now.bytes _ f c.in_ok-directory.ensures.directory.held h))
 
 pub returns-clause-home : goal.returns-clause-home
-returns-clause-home g c = c.of-root.ensures.home (g.N.Namer.name_of c.args.store.now.0) c.args.store.now.1 c.in_ok-directory.ensures.directory.home
+returns-clause-home g c = c.in_ok-directory.ensures.directory.home

@@ -3,7 +3,7 @@ use Rattle.gx_tree.specs.Nodes.{IsKept, kept_map}
 use Rattle.gx_tree.specs.Steps.{grafted}
 use Rattle.gx_tree.specs.Views.{shown_item}
 use Rattle.gx_tree.proofs.CopyLaws.{grafted_at_root}
-use Rattle.gx_tree.proofs.root.Root.place.Goals as goal
+use Rattle.gx_tree.proofs.directory.Directory.place.Goals as goal
 
 pub returns-clause-files : goal.returns-clause-files
 returns-clause-files g c =

@@ -6,7 +6,7 @@ use Rattle.gx_tree.specs.Steps.{grafted}
 use Rattle.gx_tree.specs.Views.{shown_item}
 use Rattle.gx_tree.proofs.Aligned.{kept_further, put_further}
 use Rattle.gx_tree.proofs.CopyLaws.{grafted_at_root}
-use Rattle.gx_tree.proofs.root.Root.carry_below.Goals as goal
+use Rattle.gx_tree.proofs.directory.Directory.carry_below.Goals as goal
 
 pub returns-then-len-eq0-clause-files : goal.returns-then-len-eq0-clause-files
 returns-then-len-eq0-clause-files g c =
@@ -16,12 +16,12 @@ returns-then-len-eq0-clause-files g c =
     let f = c.args.self.now.files in
     let hd = (and_parts _ _ c.len.ensures.path).0 in
     let at : c.in_ok-below.below.files ≡ grafted (drop (length s) d) (kept_map k) [] = c.in_ok-below.ensures.files ∙ ap (λ n. grafted (drop n d) (kept_map k) []) c.len-2.ensures.length in
-    c.of.ensures.files ∙ at
+    at
     ∙ sym (grafted_at_root s f (grafted (drop (length s) d) (kept_map k) []) (omega (arith, c.if-len-eq0.true, c.len-3.ensures.length)) (kept_further s d k c.requires.aligned c.requires.below hd c.requires.kept))
     ∙ put_further s d k f c.requires.aligned c.requires.below hd c.requires.kept c.order.ensures
 
 pub returns-then-len-eq0-clause-home : goal.returns-then-len-eq0-clause-home
-returns-then-len-eq0-clause-home g c = λ name rs h. c.of.ensures.home name rs (c.in_ok-below.ensures.home name rs h.0)
+returns-then-len-eq0-clause-home g c = λ name rs h. c.in_ok-below.ensures.home name rs h.0
 
 pub graft-requires-clause-kept : goal.graft-requires-clause-kept
 graft-requires-clause-kept g c =

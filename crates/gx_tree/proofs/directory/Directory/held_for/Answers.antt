@@ -1,7 +1,7 @@
 use Rattle.std.proofs.Common.{sym, ◌∙◌}
 use Rattle.gx_tree.specs.Copies.{shown_held}
 use Rattle.gx_tree.proofs.CopyLaws.{copy_fault_is, fault_none}
-use Rattle.gx_tree.proofs.root.Root.held_for.Goals as goal
+use Rattle.gx_tree.proofs.directory.Directory.held_for.Goals as goal
 
 pub returns-in_default-clause-refused : goal.returns-in_default-clause-refused
 returns-in_default-clause-refused g c = fault_none c.args.self.now.files c.args.source.now c.args.destination.now c.in_default.ensures.held

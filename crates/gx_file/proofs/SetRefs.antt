@@ -31,8 +31,7 @@ use Rattle.gx_repo.specs.Publishing.{fault_of as published_fault}
 use Rattle.gx_model.proofs.Records.SortedRefs.{order}
 use Rattle.gx_model.specs.declared.store_faults.FileFault.{FileFault}
 use Rattle.gx_model.specs.declared.store_faults.FileFault.TheVariants.{OutOfMemory}
-use Rattle.gx_repo.specs.FileFaults.{of_publish}
-use Rattle.gx_file.specs.Faults.{IsFaultOf, Reads}
+use Rattle.gx_file.specs.Faults.{IsFaultOf, Reads, refs_fault}
 use Rattle.gx_file.specs.Gathering.{Gathered, Gathers, before, first_ref, gathered, gathered_from, ref_of_line, with_rest}
 use Rattle.gx_file.proofs.GatheredRefs.{first_gathered, no_more}
 
@@ -256,7 +255,7 @@ module _ (r : Records) (none : r.refs ≡ []) (n : ℕ) (text : Bytes) (refs : L
 
   -- Where the refs aren't set, the first fault is answered.
   pub not_set : (answer : Result (Bor Bytes) FileFault) (fault : PublishFault) → Gathers (gathered n None text) refs answer
-      → RepoFaultOf (published_fault fault) (published r refs) → IsFaultOf (of_publish fault) (next_refs n r.records None text)
+      → RepoFaultOf (published_fault fault) (published r refs) → IsFaultOf (refs_fault fault) (next_refs n r.records None text)
   not_set answer publish.OutOfMemory h e = tt
   not_set answer publish.BadRefName h e = bad_ref answer _ h e
   not_set answer publish.UnknownObject h e = bad_ref answer _ h e

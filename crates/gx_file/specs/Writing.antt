@@ -18,7 +18,6 @@ use Rattle.gx_file.specs.Sending.{Sent}
 abbrev pub record_called : Name → Kind → Bytes → Bytes
 record_called name kind body = stored_record Two (record { name = name.bytes; kind = kind; body = body })
 
-
 -- a sink by what it took
 module _ {W : Type 0} (taken : W → Option Taken) where
   -- the number of the records and the records go out

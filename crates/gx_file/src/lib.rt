@@ -2,6 +2,7 @@
 //! What is read is a sound repository, and its text is the one that was read.
 #![tactic(auto)]
 
+mod faults;
 mod lines;
 mod reading;
 mod records;

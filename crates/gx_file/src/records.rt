@@ -12,6 +12,7 @@ ghost use Rattle.gx_file.specs.Texts.{shown_heading, shown_length};
 ghost use Rattle.gx_text.specs.Lent.{lent_pair};
 
 use crate::FileFault;
+use crate::faults::record_fault;
 use crate::lines::{read_line, read_number};
 use gx_model::Version;
 use gx_object::{Kind, Name, Namer};
@@ -83,7 +84,7 @@ fn add<N: Namer, A: Allocator + Copy>(
         Err(AddFault::OutOfMemory) => Err(FileFault::OutOfMemory),
         Err(fault) => {
             check_name(stated, &repo.store().name(kind, body))?;
-            Err(FileFault::from(fault))
+            Err(record_fault(fault))
         }
     }
 }

@@ -9,6 +9,7 @@ ghost use Rattle.gx_file.specs.Gathering.{Gathers, first_ref, gathered, shown_ch
 ghost use Rattle.gx_file.specs.Reading.{ReadsRefs};
 
 use crate::FileFault;
+use crate::faults::refs_fault;
 use crate::lines::read_line;
 use gx_object::{Name, Namer};
 use gx_repo::{RefChange, Repo};
@@ -31,8 +32,10 @@ pub(crate) fn read_refs<'a, N: Namer, A: Allocator + Copy>(
 {
     let mut changes = Vec::new(alloc);
     let gathered = gather(&mut changes, count, text);
-    repo.publish(changes.as_slice())?;
-    gathered
+    match repo.publish(changes.as_slice()) {
+        Ok(()) => gathered,
+        Err(fault) => Err(refs_fault(fault)),
+    }
 }
 
 /// Gathers the changes that set the refs up to the first whose line or order is bad, that one with them where its line is

@@ -1,11 +1,11 @@
 -- Refs that are dropped: which names are unknown, and what is left.
 use Rattle.std.proofs.Common.{◌≡◌, ℕ, ◌+◌, ◌<◌, ◌≤◌, Bool, true, false, cond, List, [], ◌∷◌, ◌++◌, length, map, take, drop, get_or, Option, Some, None, Ok, Err, refl, sym, ap, subst, ◌∙◌, arith, drop_of_length-le, Result}
-use Rattle.std.specs.Prelude.{not, ◌&&◌, ◌||◌, T}
+use Rattle.std.specs.Prelude.{not, ◌&&◌, ◌||◌, IsTrue, T}
 use Rattle.std.specs.Bool.{passes}
 use Rattle.std.specs.Borrow.{Bor}
 use Rattle.std.specs.BTreeMap.{is_at}
 use Rattle.std.specs.BTreeSet.{BTreeSet}
-use Rattle.std.specs.FinMap.Entries.{is_sorted-where_key}
+use Rattle.std.specs.FinMap.Entries.{is_sorted, is_sorted-where_key}
 use Rattle.std.specs.List.{AllByRecursion, filter, list_all, list_any}
 use Rattle.std.proofs.lemmas.List.{drop_more, length-map, length-take-le, map-append, take_all, take_more}
 use Rattle.std.proofs.lemmas.Map.Text.{is_eq-slice_cmp}
@@ -17,9 +17,9 @@ use Rattle.gx_model.specs.Laws.RepositoryLaws.{PartsChange, values_of, with_refs
 use Rattle.gx_model.specs.Records.Publishing.{Ref}
 use Rattle.gx_model.specs.Records.Sound.{IsSound, IsTarget}
 use Rattle.gx_model.proofs.Texts.PathTests.{both, first, second, is_true}
-use Rattle.gx_repo.specs.Dropping.{AreIn, DropsFrom, EntersNames, dropped, is_among, is_entered, unknown_behind, unless_unknown, without}
+use Rattle.gx_repo.specs.Dropping.{AreIn, Drops, EntersNames, dropped, is_among, is_entered, unknown_behind, unless_unknown, without}
 use Rattle.gx_text.specs.Lent.{lent_texts}
-use Rattle.gx_repo.specs.Refs.{is_ref_held, shown_ref}
+use Rattle.gx_repo.specs.Refs.{AreInOrder, is_ref_held, shown_ref}
 use Rattle.gx_repo.specs.declared.fault.DropFault.{DropFault}
 use Rattle.gx_repo.specs.declared.fault.DropFault.TheVariants.{OutOfMemory, UnknownRef}
 use Rattle.gx_repo.specs.declared.refs.Ref.{Ref as HeldRef}
@@ -142,17 +142,23 @@ are_left names refs left e = by (unknown_behind refs [] names) e where
 
 -- ---- a call
 
-module _ {A : Type 0} (seen refs now : List (HeldRef A)) (held : BTreeSet (Bor Bytes)) (names : List (Bor Bytes)) (same : seen ≡ refs) where
-  -- a name is unknown
-  pub none_dropped : (fault : DropFault) → EntersNames (map shown_ref seen) held names (Err fault) → DropsFrom refs now names (Err fault)
-  none_dropped OutOfMemory h = tt
-  none_dropped (UnknownRef number) h = one_unknown (lent_texts names) (map shown_ref refs) number (ap (λ rs. unknown_behind (map shown_ref rs) [] (lent_texts names)) (sym same) ∙ h)
+-- a name is unknown
+pub none_dropped : (old now : List Ref) (held : BTreeSet (Bor Bytes)) (names : List (Bor Bytes)) (fault : DropFault) → EntersNames old held names (Err fault) → Drops old now (lent_texts names) (Err fault)
+none_dropped old now held names OutOfMemory h = tt
+none_dropped old now held names (UnknownRef number) h = one_unknown (lent_texts names) old number h
 
-  -- and otherwise those of all names are dropped
-  pub all_dropped : EntersNames (map shown_ref seen) held names (Ok tt) → now ≡ filter (λ ref. not (is_entered held ref.name.items)) refs → dropped (lent_texts names) (map shown_ref refs) ≡ Ok (map shown_ref now)
-  all_dropped h e =
-      none_unknown (lent_texts names) (map shown_ref refs) (ap (λ rs. unknown_behind (map shown_ref rs) [] (lent_texts names)) (sym same) ∙ h.0)
-      ∙ ap Ok (sym (ap (map shown_ref) e ∙ kept held (lent_texts names) refs h.1))
+-- and otherwise those of all names are dropped
+module _ {A : Type 0} (refs now : List (HeldRef A)) (old : List Ref) (held : BTreeSet (Bor Bytes)) (names : List (Bor Bytes)) (seen : map shown_ref refs ≡ old)
+    (entered : EntersNames old held names (Ok tt)) (kept_are : now ≡ filter (λ ref. not (is_entered held ref.name.items)) refs) where
+  left : map shown_ref now ≡ without (lent_texts names) old
+  left = ap (map shown_ref) kept_are ∙ kept held (lent_texts names) refs entered.1 ∙ ap (without (lent_texts names)) seen
+
+  pub all_dropped : dropped (lent_texts names) old ≡ Ok (map shown_ref now)
+  all_dropped = none_unknown (lent_texts names) old entered.0 ∙ ap Ok (sym left)
+
+  pub left_in_order : AreInOrder refs → AreInOrder now
+  left_in_order sorted = subst (λ rs. IsTrue (is_sorted byte_cmp rs)) (sym (left ∙ ap (without (lent_texts names)) (sym seen)))
+      (is_true _ (is_sorted-where_key byte_cmp (λ n. not (is_among (lent_texts names) n)) (map shown_ref refs) (passes _ sorted)))
 
 -- ---- the repository
 

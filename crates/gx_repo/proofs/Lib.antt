@@ -1,4 +1,4 @@
-pub mod Additions
+pub mod PutRecords
 pub mod PublishedRefs
 pub mod DroppedRefs
 pub mod NamedRefs

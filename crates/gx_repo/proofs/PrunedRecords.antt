@@ -165,13 +165,13 @@ mark_is test (q ∷ rs) (suc k) r e = mark_is test rs k r e
 
 -- ---- tips
 
-tips_are : {A : Type 0} (refs : List (HeldRef A)) (n : Bytes) → among (objects_held refs) n ≡ is_tip (map shown_ref refs) n
+tips_are : (refs : List Ref) (n : Bytes) → among (objects_held refs) n ≡ is_tip refs n
 tips_are [] n = refl
-tips_are (r ∷ refs) n = ap (λ b. same_bytes n r.object.bytes || b) (tips_are refs n)
+tips_are (r ∷ refs) n = ap (λ b. same_bytes n r.1 || b) (tips_are refs n)
 
 -- besides none, what refs hold is marked
-pub tips_marked : {A : Type 0} (refs : List (HeldRef A)) (rs : List Record) (old new : List Bool) → old ≡ marks_by (λ n. false) rs → MarksNames rs (objects_held refs) old new → new ≡ marks_by (is_tip (map shown_ref refs)) rs
-tips_marked refs rs old new e h = h (λ n. false) e ∙ same_marks (λ n. false || among (objects_held refs) n) (is_tip (map shown_ref refs)) (λ n. tips_are refs n) rs
+pub tips_marked : (refs : List Ref) (rs : List Record) (old new : List Bool) → old ≡ marks_by (λ n. false) rs → MarksNames rs (objects_held refs) old new → new ≡ marks_by (is_tip refs) rs
+tips_marked refs rs old new e h = h (λ n. false) e ∙ same_marks (λ n. false || among (objects_held refs) n) (is_tip refs) (λ n. tips_are refs n) rs
 
 -- ---- bodies
 
@@ -236,8 +236,8 @@ weight_next (q ∷ rs) (suc k) r e = let more = weight_next rs k r e in
     ap (λ n. weight (take n (q ∷ rs))) next ∙ omega (arith, more)
 
 -- the first of the refs that are left
-pub next_held : {A : Type 0} (refs : List (HeldRef A)) (i : ℕ) (held : HeldRef A) → i < length refs → held ≡ get_or refs i held → objects_held (drop i refs) ≡ held.object.bytes ∷ objects_held (drop (i + 1) refs)
-next_held {A} refs i held l e = ap objects_held (drop_more refs i held l) ∙ ap (λ (r : HeldRef A). r.object.bytes ∷ objects_held (drop (i + 1) refs)) (sym e)
+pub next_held : {A : Type 0} (refs : List (HeldRef A)) (i : ℕ) (held : HeldRef A) → i < length refs → held ≡ get_or refs i held → objects_held (map shown_ref (drop i refs)) ≡ held.object.bytes ∷ objects_held (map shown_ref (drop (i + 1) refs))
+next_held {A} refs i held l e = ap (λ rs. objects_held (map shown_ref rs)) (drop_more refs i held l) ∙ ap (λ (r : HeldRef A). r.object.bytes ∷ objects_held (map shown_ref (drop (i + 1) refs))) (sym e)
 
 -- ---- one place after the other, from the last on
 

@@ -1,11 +1,10 @@
 -- The refs that differ between two times, one after the other.
-use Rattle.std.proofs.Common.{◌≡◌, ◌<◌, ◌≤◌, ◌+◌, Bool, true, false, cond, List, [], ◌∷◌, ◌++◌, append_assoc, append-nil, length, map, Option, Some, None, inl, inr, refl, sym, ap, subst, ◌∙◌, arith}
-use Rattle.std.specs.Prelude.{T, ◌⊎◌, ◌&&◌, is_some, IsTrue}
+use Rattle.std.proofs.Common.{◌≡◌, ◌≤◌, Bool, true, false, cond, List, [], ◌∷◌, ◌++◌, append_assoc, append-nil, length, map, Option, Some, None, inl, inr, refl, sym, ap, subst, ◌∙◌, arith}
+use Rattle.std.specs.Prelude.{T, ◌⊎◌, is_some, IsTrue}
 use Rattle.std.specs.Bool.{passes}
-use Rattle.std.specs.FinMap.Entries.{below_all, find, is_sorted}
+use Rattle.std.specs.FinMap.Entries.{below_all, is_sorted}
 use Rattle.std.specs.List.{flat_map, slice_get}
 use Rattle.std.specs.Map.{lookup}
-use Rattle.std.specs.Option.{option_eq}
 use Rattle.std.specs.Ordering.{is_lt, is_some_and, nat_cmp, ordering_reverse, partial_lt}
 use Rattle.std.specs.Cmp.Lexicographic.{lists_agrees, slice_partial_cmp}
 use Rattle.std.specs.declared.cmp.Ordering.{Ordering}
@@ -221,6 +220,10 @@ module _ {A : Type 0} where
         let not : is_lt (byte_cmp r.name.items n) ≡ false = (λ i. is_lt (byte_cmp (ap (λ (z : HeldRef A). z.name.items) (sym holds) i) (e i))) ∙ tested ∙ t in
         next_before (shown_ref s) (map shown_ref before) (shown_ref r ∷ map shown_ref after) n (e ∙ ap (λ (z : HeldRef A). z.name.items) held) (not_less n r.name.items not)
 
+-- what is known of refs as they are held is known of them as they are seen
+pub next_seen : {A : Type 0} (before after : List (HeldRef A)) (b a : List Ref) (n : Bytes) → map shown_ref before ≡ b → map shown_ref after ≡ a → IsNextName (map shown_ref before) (map shown_ref after) n → IsNextName b a n
+next_seen before after b a n e f h = subst (λ rs. IsNextName rs a n) e (subst (λ rs. IsNextName (map shown_ref before) rs n) f h)
+
 -- ---- all names
 
 pub no_changes : AreChanges [] [] []
@@ -228,14 +231,12 @@ no_changes = record { sorted = refl; objects = λ m. refl }
 
 -- these lines are written, and the changes of those refs are left
 pub record IsReportedTo (old new before after : List Ref) (report : Bytes) : Type 0 where
-  pub before_sorted : T (is_sorted byte_cmp before)
-  pub after_sorted : T (is_sorted byte_cmp after)
   pub done : List (Bytes × Objects)
   pub text : report ≡ flat_map change_line done
   pub rest : (cs : List (Bytes × Objects)) → AreChanges before after cs → AreChanges old new (done ++ cs)
 
-pub reported_none : (old new : List Ref) (report : Bytes) → IsTrue (is_sorted byte_cmp old) → IsTrue (is_sorted byte_cmp new) → report ≡ [] → IsReportedTo old new old new report
-reported_none old new report s t e = record { before_sorted = passes _ s; after_sorted = passes _ t; done = []; text = e; rest = λ cs h. h }
+pub reported_none : (old new : List Ref) (report : Bytes) → report ≡ [] → IsReportedTo old new old new report
+reported_none old new report e = record { done = []; text = e; rest = λ cs h. h }
 
 lines_both : (xs ys : List (Bytes × Objects)) → flat_map change_line (xs ++ ys) ≡ flat_map change_line xs ++ flat_map change_line ys
 lines_both [] ys = refl
@@ -245,16 +246,14 @@ line_of_one : (n : Bytes) (o : Option Objects) → line_where_they_differ n o �
 line_of_one n None = refl
 line_of_one n (Some objects) = sym (append-nil (change_line (n, objects)))
 
-pub reported_next : (old new before after : List Ref) (report more : Bytes) (n : Bytes) → IsReportedTo old new before after report → IsNextName before after n
+pub reported_next : (old new before after : List Ref) (report more : Bytes) (n : Bytes) → IsReportedTo old new before after report → IsTrue (is_sorted byte_cmp before) → IsTrue (is_sorted byte_cmp after) → IsNextName before after n
     → more ≡ report ++ line_where_they_differ n (where_they_differ (object_first before n) (object_first after n)) → IsReportedTo old new (behind before n) (behind after n) more
-reported_next old new before after report more n h next e =
+reported_next old new before after report more n h s t next e =
     let o = where_they_differ (object_first before n) (object_first after n) in
     record {
-      before_sorted = behind_sorted n before h.before_sorted;
-      after_sorted = behind_sorted n after h.after_sorted;
       done = h.done ++ one n o;
       text = e ∙ (λ i. h.text i ++ line_of_one n o i) ∙ sym (lines_both h.done (one n o));
-      rest = λ cs are. subst (AreChanges old new) (sym (append_assoc h.done (one n o) cs)) (h.rest (one n o ++ cs) (with_next n before after h.before_sorted h.after_sorted next.0 next.1 cs are));
+      rest = λ cs are. subst (AreChanges old new) (sym (append_assoc h.done (one n o) cs)) (h.rest (one n o ++ cs) (with_next n before after (passes _ s) (passes _ t) next.0 next.1 cs are));
     }
 
 pub reported_all : (old new before after : List Ref) (report : Bytes) → IsReportedTo old new before after report → before ≡ [] → after ≡ [] → IsReport old new report

@@ -1,15 +1,13 @@
 -- Which refs are left when some are dropped, all of them or none. Source: git-update-ref(1), "delete", and gitglossary(7), "ref".
-use Rattle.std.specs.Prelude.{◌≡◌, ℕ, ◌+◌, Bool, not, ◌&&◌, if◌then◌else◌, List, [], ◌∷◌, ◌++◌, length, map, Option, None, Some, Result, Ok, Err, ⊤}
+use Rattle.std.specs.Prelude.{◌≡◌, ℕ, ◌+◌, Bool, not, ◌&&◌, if◌then◌else◌, List, [], ◌∷◌, ◌++◌, length, Option, None, Some, Result, Ok, Err, ⊤}
 use Rattle.std.specs.Borrow.{Bor}
 use Rattle.std.specs.BTreeSet.{BTreeSet, contains_by}
 use Rattle.std.specs.List.{filter, list_any}
-use Rattle.gx_model.specs.Histories.{Records}
 use Rattle.gx_model.specs.Records.Publishing.{Ref}
 use Rattle.gx_model.specs.Texts.{Bytes, byte_cmp, same_bytes}
-use Rattle.gx_repo.specs.Refs.{is_ref_held, shown_ref}
+use Rattle.gx_repo.specs.Refs.{is_ref_held}
 use Rattle.gx_repo.specs.declared.fault.DropFault.{DropFault}
 use Rattle.gx_repo.specs.declared.fault.DropFault.TheVariants.{OutOfMemory, UnknownRef}
-use Rattle.gx_repo.specs.declared.refs.Ref.{Ref as HeldRef}
 use Rattle.gx_text.specs.Lent.{lent_texts}
 
 -- whether a name is one of these
@@ -42,14 +40,6 @@ abbrev pub Drops : List Ref → List Ref → List Bytes → Result (Unit {0}) Dr
 Drops old new names (Ok done) = dropped names old ≡ Ok new
 Drops old new names (Err OutOfMemory) = ⊤
 Drops old new names (Err (UnknownRef number)) = dropped names old ≡ Err number
-
--- the same of refs as they are held
-abbrev pub DropsFrom : {A : Type 0} → List (HeldRef A) → List (HeldRef A) → List (Bor Bytes) → Result (Unit {0}) DropFault → Type 0
-DropsFrom old new names answer = Drops (map shown_ref old) (map shown_ref new) (lent_texts names) answer
-
--- the same of a repository
-abbrev pub DropsRefs : Records → Records → List (Bor Bytes) → Result (Unit {0}) DropFault → Type 0
-DropsRefs old new names answer = Drops old.refs new.refs (lent_texts names) answer
 
 -- whether a name is held in a set
 abbrev pub is_entered : BTreeSet (Bor Bytes) → Bytes → Bool

@@ -10,6 +10,5 @@ pub mod Places
 pub mod Records
 pub mod Checking
 pub mod Earlier
-pub mod FileFaults
 pub mod Pruning
 pub mod Reporting

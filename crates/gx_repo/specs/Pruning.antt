@@ -5,7 +5,6 @@ use Rattle.gx_model.specs.Texts.{Bytes, same_bytes}
 use Rattle.gx_model.specs.Histories.{Record}
 use Rattle.gx_model.specs.Pruning.{is_reachable, is_tip}
 use Rattle.gx_model.specs.Records.Publishing.{Ref}
-use Rattle.gx_repo.specs.declared.refs.Ref.{Ref as HeldRef}
 
 -- by the places of the records, those whose names pass are marked
 abbrev pub marks_by : (Bytes → Bool) → List Record → List Bool
@@ -20,8 +19,8 @@ abbrev pub Spreads : List Record → List Bool → List Bool → Type 0
 Spreads records old new = (refs : List Ref) → old ≡ marks_by (is_tip refs) records → new ≡ marks_by (is_reachable refs records) records
 
 -- the names of the objects that refs hold
-abbrev pub objects_held : {A : Type 0} → List (HeldRef A) → List Bytes
-objects_held = map (λ ref. ref.object.bytes)
+abbrev pub objects_held : List Ref → List Bytes
+objects_held = map (λ ref. ref.1)
 
 -- the number of bytes in the bodies of records
 abbrev pub weight : List Record → ℕ

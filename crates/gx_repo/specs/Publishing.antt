@@ -5,14 +5,13 @@ use Rattle.std.specs.declared.vec.Vec.{Vec}
 use Rattle.gx_model.specs.declared.faults.Fault.{Fault}
 use Rattle.gx_model.specs.declared.faults.Fault.TheVariants as model
 use Rattle.gx_model.specs.Histories.{Record}
-use Rattle.gx_model.specs.Records.Publishing.{change_fault, changes_fault, with_changes}
+use Rattle.gx_model.specs.Records.Publishing.{change_fault, changes_fault}
 use Rattle.gx_model.specs.Texts.{Bytes, byte_cmp}
 use Rattle.gx_object.specs.declared.name.Name.{Name}
-use Rattle.gx_repo.specs.Refs.{ref_of, shown_update, shown_ref}
+use Rattle.gx_repo.specs.Refs.{ref_of, shown_update}
 use Rattle.gx_repo.specs.declared.fault.PublishFault.{PublishFault}
 use Rattle.gx_repo.specs.declared.fault.PublishFault.TheVariants.{OutOfMemory, BadRefName, UnknownObject, WrongKind}
 use Rattle.gx_repo.specs.declared.publishing.RefChange.{RefChange}
-use Rattle.gx_repo.specs.declared.refs.Ref.{Ref}
 
 -- a refusal to publish, as a fault of the model
 abbrev pub fault_of : PublishFault → Fault
@@ -28,10 +27,6 @@ IsAgainstChange records change fault = change_fault records (shown_update change
 -- this is against the first of these changes that is refused
 abbrev pub IsAgainstFirst : List Record → List RefChange → PublishFault → Type 0
 IsAgainstFirst records changes fault = changes_fault records (map shown_update changes) ≡ Some (fault_of fault)
-
--- the refs with these changes made in turn
-abbrev pub MakesChanges : {A : Type 0} → List (Ref A) → List (Ref A) → List RefChange → Type 0
-MakesChanges old new changes = map shown_ref new ≡ with_changes (map shown_ref old) (map shown_update changes)
 
 -- besides what was entered, an object is under a ref's name, in place of one that was
 abbrev pub Enters : {A : Type 0} → List (Vec ℕ A × Name) → List (Vec ℕ A × Name) → Bytes → Name → Type 0

@@ -1,12 +1,13 @@
 -- Refs and their changes without where their names lie in memory.
-use Rattle.std.specs.Prelude.{◌≡◌, ℕ, ◌<◌, Bool, List, length, get_or, Option, is_some}
+use Rattle.std.specs.Prelude.{◌≡◌, ℕ, Bool, List, map, Option, IsTrue, is_some}
+use Rattle.std.specs.FinMap.Entries.{is_sorted}
 use Rattle.std.specs.Borrow.{Bor}
 use Rattle.std.specs.List.{list_all}
 use Rattle.std.specs.Map.{lookup}
 use Rattle.std.specs.declared.vec.Vec.{Vec}
 use Rattle.gx_model.specs.declared.objects.Kind.{Kind}
 use Rattle.gx_model.specs.declared.objects.Kind.TheVariants as kind
-use Rattle.gx_model.specs.Texts.{Bytes, same_bytes}
+use Rattle.gx_model.specs.Texts.{Bytes, byte_cmp, same_bytes}
 use Rattle.gx_model.specs.Texts.RefNames.{tag_ref}
 use Rattle.gx_model.specs.Objects.{IsTagText, TagParts}
 use Rattle.gx_model.specs.Records.Lookups.{first_named}
@@ -31,9 +32,9 @@ shown_lent_ref ref = (ref.0.now, ref.1.bytes)
 abbrev pub shown_update : RefChange → Bytes × Bytes
 shown_update change = (change.name.now, change.target.bytes)
 
--- the ref at this place has this name
-abbrev pub IsNamedAt : {A : Type 0} → List (Ref A) → Bytes → ℕ → Type 0
-IsNamedAt {A} refs name place = (place < length refs) × ((past : Ref A) → (get_or refs place past).name.items ≡ name)
+-- these refs stand in the byte order of their names, each of which has its own
+abbrev pub AreInOrder : {A : Type 0} → List (Ref A) → Type 0
+AreInOrder refs = IsTrue (is_sorted byte_cmp (map shown_ref refs))
 
 -- the object of the ref of this name
 abbrev pub object_named : List (Bytes × Bytes) → Bytes → Option Bytes

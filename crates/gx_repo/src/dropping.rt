@@ -1,14 +1,12 @@
 //! Refs that are dropped. Source: git-update-ref(1), "delete".
-ghost use Rattle.std.specs.Prelude.{◌≡◌, ◌+◌, ◌<◌, ◌^◌, [], map, IsTrue, OnErr};
-ghost use Rattle.std.specs.FinMap.Entries.{is_sorted};
-ghost use Rattle.gx_model.specs.Texts.{byte_cmp};
-ghost use Rattle.gx_repo.specs.Dropping.{DropsFrom, DropsRefs, EntersNames, is_entered};
-ghost use Rattle.gx_repo.specs.Refs.{shown_ref};
+ghost use Rattle.std.specs.Prelude.{◌≡◌, ◌+◌, ◌<◌, ◌^◌, [], OnErr};
+ghost use Rattle.gx_repo.specs.Dropping.{Drops, EntersNames, is_entered};
+ghost use Rattle.gx_text.specs.Lent.{lent_texts};
 ghost use Rattle.gx_repo.specs.declared.fault.DropFault.TheVariants.{UnknownRef};
 ghost use Rattle.gx_model.specs.Laws.RepositoryLaws.{values_of};
 
 use crate::fault::DropFault;
-use crate::refs::{Ref, is_held};
+use crate::ref_list::RefList;
 use crate::repo::Repo;
 use gx_model::repository_laws::parts_change;
 use gx_object::Namer;
@@ -25,44 +23,41 @@ impl<N: Namer, A: Allocator + Copy> Repo<N, A> {
     pub fn drop_refs(&mut self, names: &[&[u8]]) -> Result<(), DropFault>
         ensures namer { self.new.0 ≡ self.old.0 }
         ensures records { self.new.1.records ≡ self.old.1.records }
-        ensures refs { DropsRefs self.old.1 self.new.1 names.now result }
+        ensures refs { Drops self.old.1.refs self.new.1.refs (lent_texts names.now) result }
         ensures values { values_of self.new.1 ≡ values_of self.old.1 }
         ensures unchanged { OnErr result (self.new ≡ self.old) }
     {
         parts_change();
-        drop_refs(self.alloc, &mut self.refs, names)?;
+        self.refs.drop_named(self.alloc, names)?;
         Ok(())
     }
 }
 
-/// Drops the refs of these names, or tells the first name that is unknown. After a fault the refs are as they were.
-pub(crate) fn drop_refs<A: Allocator + Copy>(
-    alloc: A,
-    refs: &mut Vec<Ref<A>, A>,
-    names: &[&[u8]],
-) -> Result<(), DropFault>
-    requires sorted { IsTrue (is_sorted byte_cmp (map shown_ref refs.now.items)) }
-    ensures dropped { DropsFrom refs.old.items refs.new.items names.now result }
-    ensures unchanged { OnErr result (refs.new ≡ refs.old) }
-{
-    let mut dropped = BTreeSet::new(alloc);
-    enter_names(&mut dropped, refs.as_slice(), names)?;
-    refs.retain(|held| !is_in(&dropped, held.name.as_slice()));
-    Ok(())
+impl<A: Allocator + Copy> RefList<A> {
+    /// Drops the refs of these names, or tells the first name that is unknown. After a fault the refs are as they were.
+    fn drop_named(&mut self, alloc: A, names: &[&[u8]]) -> Result<(), DropFault>
+        ensures dropped { Drops self.old self.new (lent_texts names.now) result }
+        ensures unchanged { OnErr result (self.new ≡ self.old) }
+    {
+        let mut dropped = BTreeSet::new(alloc);
+        enter_names(&mut dropped, self, names)?;
+        self.refs
+            .retain(|held| !is_in(&dropped, held.name.as_slice()));
+        Ok(())
+    }
 }
 
 /// Enters these names, or tells the first that no ref has, or that was entered before.
 fn enter_names<'a, A: Allocator + Copy>(
     entered: &mut BTreeSet<&'a [u8], A>,
-    refs: &[Ref<A>],
+    refs: &RefList<A>,
     names: &[&'a [u8]],
 ) -> Result<(), DropFault>
     requires none { entered.old.keys ≡ [] }
-    requires sorted { IsTrue (is_sorted byte_cmp (map shown_ref refs.now)) }
-    ensures { EntersNames (map shown_ref refs.now) entered.new names.now result }
+    ensures { EntersNames refs.now entered.new names.now result }
 {
     for (place, name) in names.iter().enumerate() {
-        if !is_held(refs, name) {
+        if !refs.is_held(name) {
             return Err(unknown(place));
         }
         if !entered.insert(*name)? {

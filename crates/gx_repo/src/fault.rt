@@ -1,7 +1,6 @@
 //! Why a repository refuses a call.
 ghost use Rattle.gx_repo.specs.declared.fault.PublishFault.TheVariants as fault;
 
-use gx_model::FileFault;
 use std::alloc::{AllocError, AllocFailed};
 use std::fmt;
 use thiserror::Error;
@@ -88,36 +87,5 @@ impl<T: Drop> From<AllocFailed<T>> for DropFault {
 
     fn from(_error: AllocFailed<T>) -> DropFault {
         DropFault::OutOfMemory
-    }
-}
-
-impl From<AddFault> for FileFault {
-    ghost use Rattle.std.specs.Prelude.{◌≡◌};
-    ghost use Rattle.gx_repo.specs.Records.{add_fault};
-
-    ghost from_gives = { λ from fault. fault ≡ add_fault from };
-
-    fn from(fault: AddFault) -> FileFault {
-        match fault {
-            AddFault::OutOfMemory => FileFault::OutOfMemory,
-            AddFault::BadObject => FileFault::BadObject,
-            AddFault::Dangling => FileFault::Dangling,
-            AddFault::DuplicateObject => FileFault::DuplicateObject,
-        }
-    }
-}
-
-impl From<PublishFault> for FileFault {
-    ghost use Rattle.std.specs.Prelude.{◌≡◌};
-    ghost use Rattle.gx_repo.specs.FileFaults.{of_publish};
-
-    ghost from_gives = { λ from fault. fault ≡ of_publish from };
-
-    fn from(fault: PublishFault) -> FileFault {
-        match fault {
-            PublishFault::OutOfMemory => FileFault::OutOfMemory,
-            PublishFault::BadRefName | PublishFault::UnknownObject | PublishFault::WrongKind =>
-                FileFault::BadRef,
-        }
     }
 }

@@ -2,6 +2,7 @@
 //! Whatever is called, each object's links are held, and a list of refs is published or dropped whole or not at all.
 #![tactic(auto)]
 
+mod additions;
 mod checking;
 mod dropping;
 mod earlier;

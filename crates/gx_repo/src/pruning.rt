@@ -1,15 +1,14 @@
 //! Objects that no ref reaches. The objects that refs hold are marked by their places, and one pass from the newest record on
 //! spreads the marks: what an object names stands before it. Source: git-prune(1), and gitglossary(7), "reachable".
-ghost use Rattle.std.specs.Prelude.{◌≡◌, ◌+◌, [], ◌∷◌, false, length, map, replicate, IfOk, OnErr, OnOk};
+ghost use Rattle.std.specs.Prelude.{◌≡◌, ◌+◌, [], ◌∷◌, false, length, replicate, IfOk, OnErr, OnOk};
 ghost use Rattle.gx_model.specs.declared.objects.Kind.TheVariants as kinds;
 ghost use Rattle.gx_model.specs.Laws.StoreLaws.{IsBody};
 ghost use Rattle.gx_model.specs.Pruning.{is_reachable, links_of, pruned};
 ghost use Rattle.gx_repo.specs.Pruning.{MarksNames, Spreads, marks_by, objects_held, weight};
-ghost use Rattle.gx_repo.specs.Refs.{shown_ref};
 ghost use Rattle.gx_repo.specs.Repositories.{IsSoundStore};
 
 use crate::fault::OutOfMemory;
-use crate::refs::Ref;
+use crate::ref_list::RefList;
 use crate::repo::Repo;
 use gx_model::pruning_laws::pruned_stands;
 use gx_object::{Kind, Mode, Name, Namer, decode_commit, decode_tag, held_tree};
@@ -40,7 +39,7 @@ impl<N: Namer, A: Allocator + Copy> Repo<N, A> {
         ensures unchanged { OnErr result (self.new ≡ self.old) }
     {
         pruned_stands();
-        let marks = reachable_marks(self.alloc, &self.store, self.refs.as_slice())?;
+        let marks = reachable_marks(self.alloc, &self.store, &self.refs)?;
         let held = self.store.len();
         let weighed = weight(&self.store);
         self.store.retain(&marks);
@@ -58,10 +57,10 @@ impl<N: Namer, A: Allocator + Copy> Repo<N, A> {
 fn reachable_marks<N: Namer, A: Allocator + Copy>(
     alloc: A,
     store: &Store<N, A>,
-    refs: &[Ref<A>],
+    refs: &RefList<A>,
 ) -> Result<Vec<bool, A>, AllocError>
     requires { IsSoundStore N.name_of store.now }
-    ensures { IfOk result (λ marks. marks.items ≡ marks_by (is_reachable (map shown_ref refs.now) store.now.1) store.now.1) }
+    ensures { IfOk result (λ marks. marks.items ≡ marks_by (is_reachable refs.now store.now.1) store.now.1) }
 {
     let count = store.len();
     let mut marks = vec![in alloc; false; count]?;
@@ -73,11 +72,11 @@ fn reachable_marks<N: Namer, A: Allocator + Copy>(
 fn mark_reachable<N: Namer, A: Allocator + Copy>(
     store: &Store<N, A>,
     marks: &mut [bool],
-    refs: &[Ref<A>],
+    refs: &RefList<A>,
 )
     requires sound { IsSoundStore N.name_of store.now }
     requires none { marks.old ≡ replicate (length store.now.1) false }
-    ensures { marks.new ≡ marks_by (is_reachable (map shown_ref refs.now) store.now.1) store.now.1 }
+    ensures { marks.new ≡ marks_by (is_reachable refs.now store.now.1) store.now.1 }
 {
     mark_tips(store, marks, refs);
     spread(store, marks);
@@ -101,13 +100,13 @@ fn weight<N: Namer, A: Allocator + Copy>(store: &Store<N, A>) -> u128
 fn mark_tips<N: Namer, A: Allocator + Copy>(
     store: &Store<N, A>,
     marks: &mut [bool],
-    refs: &[Ref<A>],
+    refs: &RefList<A>,
 )
     requires sound { IsSoundStore N.name_of store.now }
     requires long { length marks.old ≡ length store.now.1 }
     ensures { MarksNames store.now.1 (objects_held refs.now) marks.old marks.new }
 {
-    for held in refs {
+    for held in refs.refs.as_slice() {
         mark(store, marks, &held.object);
     }
 }

@@ -1,13 +1,20 @@
 //! Changes of refs. Source: git-check-ref-format(1).
-ghost use Rattle.std.specs.Prelude.{◌≡◌, [], map, IsTrue, IfOk, OnErr, OnOk};
+ghost use Rattle.std.specs.Prelude.{◌≡◌, [], map, IsTrue, IfOk, OnErr, OnOk, None, IfErr};
 ghost use Rattle.std.specs.FinMap.Entries.{is_sorted};
 ghost use Rattle.gx_model.specs.Texts.{byte_cmp};
-ghost use Rattle.gx_repo.specs.Refs.{are_held, shown_update, shown_ref, ref_of};
-ghost use Rattle.gx_repo.specs.Publishing.{Enters, MakesChanges};
-ghost use Rattle.gx_model.specs.Records.Publishing.{with_changes};
+ghost use Rattle.gx_repo.specs.Refs.{are_held, shown_update, shown_ref, ref_of, HasTagParts, TellsOwnRef};
+ghost use Rattle.gx_repo.specs.Publishing.{Enters, IsAgainstChange, IsAgainstFirst, fault_of};
+ghost use Rattle.gx_model.specs.Records.Publishing.{with_changes, change_fault, changes_fault, published};
+ghost use Rattle.gx_model.specs.Faults.{Gives};
+ghost use Rattle.gx_model.specs.Stores.StoreReading.{is_target_of_kind};
 
-use crate::refs::{Ref, is_held, set_object};
-use gx_object::Name;
+use crate::fault::PublishFault;
+use crate::ref_list::RefList;
+use crate::refs::Ref;
+use crate::repo::Repo;
+use gx_model::repository_laws::parts_change;
+use gx_object::{Kind, Name, Namer, decode_tag};
+use gx_text::is_ref_name;
 use std::alloc::{AllocError, Allocator};
 use std::collections::BTreeMap;
 
@@ -18,94 +25,147 @@ pub struct RefChange<'a> {
     pub target: Name,
 }
 
-/// Makes the changes in turn. Where a growth is refused the refs are as they were; none is needed where all are held.
-pub(crate) fn set_refs<A: Allocator + Copy>(
-    alloc: A,
-    refs: &mut Vec<Ref<A>, A>,
-    changes: &[RefChange<'_>],
-) -> Result<(), AllocError>
-    requires sorted { IsTrue (is_sorted byte_cmp (map shown_ref refs.now.items)) }
-    ensures set { OnOk result (MakesChanges refs.old.items refs.new.items changes.now) }
-    ensures unchanged { OnErr result (refs.new ≡ refs.old) }
-{
-    if are_held(refs.as_slice(), changes) {
-        set_objects(refs.as_mut_slice(), changes);
-        return Ok(());
+impl<N: Namer, A: Allocator + Copy> Repo<N, A> {
+    /// Sets all of these refs, or none. A later change of one name wins, and refs that are not named stay.
+    ///
+    /// The first change that is refused is answered: `BadRefName`: the name isn't that of a ref. `UnknownObject`: the
+    /// object isn't held. `WrongKind`: it is neither a commit nor a tag whose own name makes the ref's.
+    /// `OutOfMemory`: a growth was refused. After a fault the repository is as it was.
+    /// Cost: for each change a look-up of its object, and two binary searches among the refs. Where a change names a ref that
+    /// isn't held, in proportion to the refs and changes, times the logarithm of their number. No growth is needed otherwise.
+    /// Source: git-check-ref-format(1), and gitglossary(7), "ref".
+    #[tactic(auto, unfolding(gx_model::specs::Records::Publishing::published))]
+    pub fn publish(&mut self, changes: &[RefChange<'_>]) -> Result<(), PublishFault>
+        ensures namer { self.new.0 ≡ self.old.0 }
+        ensures records { self.new.1.records ≡ self.old.1.records }
+        ensures refs { Gives fault_of (λ _. self.new.1.refs) result
+            (published self.old.1 (map shown_update changes.now)) }
+        ensures unchanged { OnErr result (self.new ≡ self.old) }
+    {
+        parts_change();
+        self.check_all(changes)?;
+        self.refs.change(self.alloc, changes)?;
+        Ok(())
     }
-    *refs = with_changes(alloc, refs.as_slice(), changes)?;
-    Ok(())
-}
 
-/// Whether each of these changes is one of a ref that is held.
-fn are_held<A: Allocator + Copy>(refs: &[Ref<A>], changes: &[RefChange<'_>]) -> bool
-    requires sorted { IsTrue (is_sorted byte_cmp (map shown_ref refs.now)) }
-    ensures { result ≡ are_held (map shown_ref refs.now) (map shown_update changes.now) }
-{
-    for change in changes {
-        if !is_held(refs, change.name) {
-            return false;
+    /// Answers why the first of these changes that is refused is.
+    fn check_all(&self, changes: &[RefChange<'_>]) -> Result<(), PublishFault>
+        ensures ok { OnOk result (changes_fault self.now.1.records (map shown_update changes.now) ≡ None) }
+        ensures fault { IfErr result (IsAgainstFirst self.now.1.records changes.now) }
+    {
+        for change in changes {
+            self.check(change)?;
+        }
+        Ok(())
+    }
+
+    /// Answers why a change is refused.
+    fn check(&self, change: &RefChange<'_>) -> Result<(), PublishFault>
+        ensures ok { OnOk result (change_fault self.now.1.records (shown_update change.now) ≡ None) }
+        ensures fault { IfErr result (IsAgainstChange self.now.1.records change.now) }
+    {
+        if !is_ref_name(change.name) {
+            return Err(PublishFault::BadRefName);
+        }
+        let Some((kind, body)) = self.store.get(&change.target) else {
+            return Err(PublishFault::UnknownObject);
+        };
+        if is_target(change.name, kind, body) {
+            Ok(())
+        } else {
+            Err(PublishFault::WrongKind)
         }
     }
-    true
 }
 
-/// Makes the changes in turn, which are of refs that are held. Takes no memory.
-fn set_objects<A: Allocator + Copy>(refs: &mut [Ref<A>], changes: &[RefChange<'_>])
-    requires sorted { IsTrue (is_sorted byte_cmp (map shown_ref refs.now)) }
-    requires held { IsTrue (are_held (map shown_ref refs.now) (map shown_update changes.now)) }
-    ensures { MakesChanges refs.old refs.new changes.now }
+/// Whether a ref may hold an object of this kind and body: a commit, or a tag whose own name makes the ref's.
+fn is_target(name: &[u8], kind: Kind, body: &[u8]) -> bool
+    ensures { HasTagParts kind body.now → result ≡ is_target_of_kind name.now kind body.now }
 {
-    for change in changes {
-        set_object(refs, change.name, change.target);
+    match kind {
+        Kind::Commit => true,
+        Kind::Tag => is_own_ref(name, body),
+        _ => false,
     }
 }
 
-/// Copies of these refs, with the changes made in turn.
-fn with_changes<A: Allocator + Copy>(
-    alloc: A,
-    refs: &[Ref<A>],
-    changes: &[RefChange<'_>],
-) -> Result<Vec<Ref<A>, A>, AllocError>
-    requires sorted { IsTrue (is_sorted byte_cmp (map shown_ref refs.now)) }
-    ensures { IfOk result (λ made. MakesChanges refs.now made.items changes.now) }
+/// Whether a ref's name is made by the own name of the tag with this body.
+fn is_own_ref(name: &[u8], body: &[u8]) -> bool
+    ensures { TellsOwnRef name.now body.now result }
 {
-    let mut objects = BTreeMap::new(alloc);
-    enter_changed(alloc, &mut objects, refs, changes)?;
-    in_order(alloc, objects)
+    let Ok(tag) = decode_tag(body) else {
+        return false;
+    };
+    match name.strip_prefix(b"refs/tags/") {
+        Some(rest) => rest == tag.name(),
+        None => false,
+    }
 }
 
-/// Enters the objects of refs by their names, with the changes made in turn, where none is entered before.
-fn enter_changed<A: Allocator + Copy>(
-    alloc: A,
-    objects: &mut BTreeMap<Vec<u8, A>, Name, A>,
-    refs: &[Ref<A>],
-    changes: &[RefChange<'_>],
-) -> Result<(), AllocError>
-    requires none { objects.old.entries ≡ [] }
-    requires sorted { IsTrue (is_sorted byte_cmp (map shown_ref refs.now)) }
-    ensures { OnOk result (map ref_of objects.new.entries ≡ with_changes (map shown_ref refs.now) (map shown_update changes.now)) }
-{
-    enter_refs(alloc, objects, refs)?;
-    for change in changes {
-        enter(alloc, objects, change.name, change.target)?;
+impl<A: Allocator + Copy> RefList<A> {
+    /// Makes the changes in turn. Where a growth is refused the refs are as they were; none is needed where all are held.
+    pub(crate) fn change(&mut self, alloc: A, changes: &[RefChange<'_>]) -> Result<(), AllocError>
+        ensures set { OnOk result (self.new ≡ with_changes self.old (map shown_update changes.now)) }
+        ensures unchanged { OnErr result (self.new ≡ self.old) }
+    {
+        if self.are_held(changes) {
+            self.set_objects(changes);
+            return Ok(());
+        }
+        *self = self.with_changes(alloc, changes)?;
+        Ok(())
     }
-    Ok(())
-}
 
-/// Enters the objects of refs, each by a copy of its ref's name, where none is entered before.
-fn enter_refs<A: Allocator + Copy>(
-    alloc: A,
-    objects: &mut BTreeMap<Vec<u8, A>, Name, A>,
-    refs: &[Ref<A>],
-) -> Result<(), AllocError>
-    requires none { objects.old.entries ≡ [] }
-    requires sorted { IsTrue (is_sorted byte_cmp (map shown_ref refs.now)) }
-    ensures { OnOk result (map ref_of objects.new.entries ≡ map shown_ref refs.now) }
-{
-    for held in refs {
-        enter(alloc, objects, held.name.as_slice(), held.object)?;
+    /// Whether each of these changes is one of a ref that is held.
+    fn are_held(&self, changes: &[RefChange<'_>]) -> bool
+        ensures { result ≡ are_held self.now (map shown_update changes.now) }
+    {
+        for change in changes {
+            if !self.is_held(change.name) {
+                return false;
+            }
+        }
+        true
     }
-    Ok(())
+
+    /// Makes the changes in turn, which are of refs that are held. Takes no memory.
+    fn set_objects(&mut self, changes: &[RefChange<'_>])
+        requires held { IsTrue (are_held self.now (map shown_update changes.now)) }
+        ensures { self.new ≡ with_changes self.old (map shown_update changes.now) }
+    {
+        for change in changes {
+            self.set_object(change.name, change.target);
+        }
+    }
+
+    /// Copies of these refs, with the changes made in turn.
+    fn with_changes(&self, alloc: A, changes: &[RefChange<'_>]) -> Result<RefList<A>, AllocError>
+        ensures { IfOk result (λ made. made ≡ with_changes self.now (map shown_update changes.now)) }
+    {
+        let mut objects = BTreeMap::new(alloc);
+        self.enter_into(alloc, &mut objects)?;
+        for change in changes {
+            enter(alloc, &mut objects, change.name, change.target)?;
+        }
+        let refs = in_order(alloc, objects)?;
+        Ok(RefList { refs })
+    }
+
+    /// Enters the objects of refs, each by a copy of its ref's name, where none is entered before.
+    fn enter_into(
+        &self,
+        alloc: A,
+        objects: &mut BTreeMap<Vec<u8, A>, Name, A>,
+    ) -> Result<(), AllocError>
+        requires none { objects.old.entries ≡ [] }
+        ensures entered { OnOk result (map ref_of objects.new.entries ≡ self.now) }
+        ensures sorted { IsTrue (is_sorted byte_cmp self.now) }
+    {
+        for held in self.refs.as_slice() {
+            enter(alloc, objects, held.name.as_slice(), held.object)?;
+        }
+        Ok(())
+    }
 }
 
 /// Enters an object by a copy of a ref's name.

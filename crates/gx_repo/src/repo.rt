@@ -1,46 +1,24 @@
 //! Repositories: a store of objects, and refs that hold some of them.
-ghost use Rattle.std.specs.Prelude.{◌≡◌, [], map, take, Some, None, IsTrue, IfOk, IfErr, IsOkAnd, OnOk, OnErr};
+ghost use Rattle.std.specs.Prelude.{◌≡◌, [], take, Some, IsTrue, IfOk, IsOkAnd};
 ghost use Rattle.std.specs.FinMap.Entries.{is_sorted};
-ghost use Rattle.gx_model.specs.declared.objects.Kind.TheVariants as kinds;
 ghost use Rattle.gx_model.specs.Texts.{byte_cmp};
 ghost use Rattle.gx_model.specs.Revisions.Denotation.{ref_names};
 ghost use Rattle.gx_model.specs.Objects.{IsTagText, TagParts as Parts};
-ghost use Rattle.gx_model.specs.Stores.StoreReading.{is_target_of_kind};
 ghost use Rattle.gx_model.specs.Records.Lookups.{commit_named};
-ghost use Rattle.gx_model.specs.Records.RecordFaults.{content_fault};
-ghost use Rattle.gx_model.specs.Texts.RefNames.{is_tag_name};
 ghost use Rattle.gx_model.specs.Laws.RepositoryLaws.{with_records};
-ghost use Rattle.gx_model.specs.Records.Sound.{Holds, IsLinked, IsNamedMap, IsSound, Keeps};
-ghost use Rattle.gx_model.specs.Faults.{Gives};
-ghost use Rattle.gx_model.specs.Histories.Values.{blob_value, is_optional_encoding};
-ghost use Rattle.gx_object.specs.Parts.{bytes_if, commit_parts, tag_parts};
-ghost use Rattle.gx_store.specs.Bodies.{bytes_of};
-ghost use Rattle.gx_tree.specs.Named.{IsAtHome};
-ghost use Rattle.gx_tree.specs.StoreFaults.{tree_fault};
-ghost use Rattle.gx_repo.specs.Additions.{Adds, IsWriteFault, commit_record, tag_record, value_among};
-ghost use Rattle.gx_repo.specs.Publishing.{IsAgainstChange, IsAgainstFirst, fault_of};
-ghost use Rattle.gx_model.specs.Records.Publishing.{change_fault, changes_fault, published};
-ghost use Rattle.gx_repo.specs.Refs.{FindsFirst, FindsObject, HasTagParts, TellsOwnRef, shown_update, shown_ref};
-ghost use Rattle.gx_repo.specs.Rooms.{room_below};
-ghost use Rattle.gx_repo.specs.Calls.{AddsAnew, AddsObject, AddsTree, GainsObject, GainsTree, GainsValue, HasShortPathsBelow, NamesValue, commit_given, tag_given, tree_given};
-ghost use Rattle.gx_repo.specs.Objects.{AreTargets, HoldsEach};
-ghost use Rattle.gx_repo.specs.Checking.{MayRefuse};
+ghost use Rattle.gx_model.specs.Records.Sound.{IsSound};
+ghost use Rattle.gx_object.specs.Parts.{bytes_if};
+ghost use Rattle.gx_repo.specs.Refs.{FindsFirst, FindsObject};
+ghost use Rattle.gx_repo.specs.Objects.{AreTargets};
 
-use crate::checking::entered_room;
 use crate::earlier::Hints;
-use crate::fault::{AddFault, OutOfMemory, PublishFault};
-use crate::publishing::{RefChange, set_refs};
-use crate::refs::{Ref, Refs, find_by_names, find_near};
-use crate::rooms::enter_room;
-use gx_model::repository_laws::{
-    links_tell_values, parts_change, puts_add_values, trees_add_file_maps,
-};
-use gx_model::store_laws::records_are_taken;
-use gx_object::{CommitParts, Kind, Name, Namer, TagParts, decode_tag, encode_commit, encode_tag};
-use gx_store::{Body, Store, StoreFault};
-use gx_text::is_ref_name;
-use gx_tree::{PathTree, TreeFault};
-use std::alloc::{AllocError, Allocator};
+use crate::fault::OutOfMemory;
+use crate::ref_list::RefList;
+use crate::refs::Refs;
+use gx_model::repository_laws::parts_change;
+use gx_object::{Kind, Name, Namer, decode_tag};
+use gx_store::Store;
+use std::alloc::Allocator;
 use std::hash::RandomState;
 use std::marker::Model;
 
@@ -52,8 +30,8 @@ pub struct Repo<N: Namer, A: Allocator> {
     pub(crate) store: Store<N, A>,
     /// Of each record, by its place.
     pub(crate) rooms: Vec<usize, A>,
-    hints: Hints<A>,
-    pub(crate) refs: Vec<Ref<A>, A>,
+    pub(crate) hints: Hints<A>,
+    pub(crate) refs: RefList<A>,
     pub(crate) alloc: A,
 }
 
@@ -63,9 +41,9 @@ impl<N: Namer, A: Allocator> Model for Repo<N, A> {
 
     ghost Value = { N × Records };
 
-    ghost view = { λ s. (s.store.0, held_in s.store.1 s.refs.items) };
+    ghost view = { λ s. (s.store.0, held_in s.store.1 s.refs) };
 
-    ghost invariant = { λ s. IsRepository N.name_of s.store s.refs.items s.rooms.items };
+    ghost invariant = { λ s. IsRepository N.name_of s.store s.refs s.rooms.items };
 }
 
 impl<N: Namer, A: Allocator + Copy> Repo<N, A> {
@@ -77,7 +55,7 @@ impl<N: Namer, A: Allocator + Copy> Repo<N, A> {
             store: Store::new(alloc, namer, state),
             rooms: Vec::new(alloc),
             hints: Hints::new(alloc),
-            refs: Vec::new(alloc),
+            refs: RefList::new(alloc),
             alloc,
         }
     }
@@ -103,9 +81,7 @@ impl<N: Namer, A: Allocator + Copy> Repo<N, A> {
         ensures sorted { IsTrue (is_sorted byte_cmp result) }
         ensures sound { IsSound (N.name_of self.now.0) self.now.1 }
     {
-        Refs {
-            rest: self.refs.as_slice(),
-        }
+        self.refs.refs()
     }
 
     /// The commit that a held commit is, or that a held tag names; none for any other name.
@@ -131,7 +107,7 @@ impl<N: Namer, A: Allocator + Copy> Repo<N, A> {
     pub fn find_ref(&self, name: &[u8]) -> Result<Option<Name>, OutOfMemory>
         ensures { IsOkAnd result (FindsFirst self.now.1.refs (ref_names name.now)) }
     {
-        Ok(find_by_names(self.refs.as_slice(), name))
+        Ok(self.refs.find_by_names(name))
     }
 
     /// The object of the ref of this name, and the place behind the ref's own among all refs.
@@ -142,221 +118,16 @@ impl<N: Namer, A: Allocator + Copy> Repo<N, A> {
     pub fn ref_near(&self, place: usize, name: &[u8]) -> (usize, Option<Name>)
         ensures { FindsObject self.now.1.refs name.now result.1 }
     {
-        find_near(self.refs.as_slice(), place, name)
+        self.refs.find_near(place, name)
     }
 
-    /// Adds a blob, and answers its name. One that is held already is not added again.
+    /// Copies of its refs.
     ///
-    /// NameHeld comes only where the name is held for another object; after a fault the repository is as it was.
-    /// Cost: that of `add_blob_owned`, and a copy of the bytes. Source: gitglossary(7), "blob object".
-    pub fn add_blob(&mut self, body: &[u8]) -> Result<Name, StoreFault>
-        ensures namer { self.new.0 ≡ self.old.0 }
-        ensures adds { AddsObject N.name_of self.old self.new kinds.Blob body.now result }
-        ensures refs { self.new.1.refs ≡ self.old.1.refs }
-        ensures history { GainsValue self.old self.new (blob_value body.now) result }
-        ensures value { NamesValue N.name_of self.old (blob_value body.now) result }
-        ensures held { IfOk result (λ name. Holds self.new.1.records kinds.Blob name.bytes) }
-        ensures keeps { Keeps self.old.1.records self.new.1.records }
+    /// `OutOfMemory`: a growth was refused. Cost and memory: the refs. Source: gitglossary(7), "ref".
+    pub fn copy_refs(&self) -> Result<RefList<A>, OutOfMemory>
+        ensures { IfOk result (λ refs. refs ≡ self.now.1.refs) }
     {
-        let Ok(copy) = Vec::from_slice(self.alloc, body) else {
-            return Err(StoreFault::OutOfMemory);
-        };
-        self.add_blob_owned(copy)
-    }
-
-    /// Does what `add_blob` does, but takes no copy of the bytes: the repository keeps these, or drops them where the blob
-    /// is held already or isn't added.
-    ///
-    /// The errors are those of `add_blob`. Cost: that of `Store::put_body`. Source: gitglossary(7), "blob object".
-    pub fn add_blob_owned(&mut self, body: Vec<u8, A>) -> Result<Name, StoreFault>
-        ensures namer { self.new.0 ≡ self.old.0 }
-        ensures adds { AddsObject N.name_of self.old self.new kinds.Blob body.items result }
-        ensures refs { self.new.1.refs ≡ self.old.1.refs }
-        ensures history { GainsValue self.old self.new (blob_value body.items) result }
-        ensures value { NamesValue N.name_of self.old (blob_value body.items) result }
-        ensures held { IfOk result (λ name. Holds self.new.1.records kinds.Blob name.bytes) }
-        ensures keeps { Keeps self.old.1.records self.new.1.records }
-    {
-        self.add(Kind::Blob, Body::Own(body), 0)
-    }
-
-    /// Adds the canonical trees of a tree's files, those below first, and answers the name of the root's.
-    /// The files that are no gitlinks are held as blobs. What is held already is not added again.
-    ///
-    /// NameHeld comes only where one of these trees has the name of another object; after a fault the repository is as it was.
-    /// Cost: that of `PathTree::write`, and a look-up for each entry of the new trees. Source: gitglossary(7), "tree object".
-    pub fn add_tree(&mut self, tree: &mut PathTree<A>) -> Result<Name, StoreFault>
-        requires named { IsNamedMap self.now.1.records tree.now.files }
-        ensures namer { self.new.0 ≡ self.old.0 }
-        ensures adds { AddsTree N.name_of self.old self.new tree.old result }
-        ensures refs { self.new.1.refs ≡ self.old.1.refs }
-        ensures history { GainsTree self.old self.new tree.old result }
-        ensures value { NamesValue N.name_of self.old (tree_given self.old tree.old) result }
-        ensures held { IfOk result (λ name. Holds self.new.1.records kinds.Tree name.bytes) }
-        ensures keeps { Keeps self.old.1.records self.new.1.records }
-        ensures map { tree.new.files ≡ tree.old.files }
-        ensures home { IfOk result (λ _. IsAtHome (N.name_of self.old.0) self.new.1.records tree.new) }
-    {
-        trees_add_file_maps();
-        puts_add_values();
-        let held = self.store.len();
-        let name = match tree.write(&mut self.store) {
-            Ok(name) => name,
-            Err(fault) => {
-                self.store.truncate(held);
-                return Err(store_fault(fault));
-            }
-        };
-        Ok(name)
-    }
-
-    /// Does what `add_tree` does, for a tree that is at home here: each name that it remembers is that of a tree which is
-    /// held with all trees below it. So it doesn't look below a remembered name.
-    ///
-    /// The errors are those of `add_tree`; after a fault the repository and the tree's files are as they were, and what the
-    /// tree remembers may be held no longer: it is added by `add_tree` then, or dropped.
-    /// Cost: the bodies of the trees without a remembered name, and for each of them the number of records. Source:
-    /// gitglossary(7), "tree object".
-    pub fn add_tree_shared(&mut self, tree: &mut PathTree<A>) -> Result<Name, StoreFault>
-        requires named { IsNamedMap self.now.1.records tree.now.files }
-        requires home { IsAtHome (N.name_of self.now.0) self.now.1.records tree.now }
-        ensures namer { self.new.0 ≡ self.old.0 }
-        ensures adds { AddsTree N.name_of self.old self.new tree.old result }
-        ensures refs { self.new.1.refs ≡ self.old.1.refs }
-        ensures history { GainsTree self.old self.new tree.old result }
-        ensures value { NamesValue N.name_of self.old (tree_given self.old tree.old) result }
-        ensures held { IfOk result (λ name. Holds self.new.1.records kinds.Tree name.bytes) }
-        ensures keeps { Keeps self.old.1.records self.new.1.records }
-        ensures map { tree.new.files ≡ tree.old.files }
-        ensures home { IfOk result (λ _. IsAtHome (N.name_of self.old.0) self.new.1.records tree.new) }
-    {
-        trees_add_file_maps();
-        puts_add_values();
-        let held = self.store.len();
-        let name = match tree.write_shared(&mut self.store) {
-            Ok(name) => name,
-            Err(fault) => {
-                self.store.truncate(held);
-                return Err(store_fault(fault));
-            }
-        };
-        Ok(name)
-    }
-
-    /// Adds a commit whose tree and parents are held, and answers its name. One that is held already is not added again.
-    ///
-    /// NameHeld comes only where the name is held for another object; after a fault the repository is as it was.
-    /// Cost: that of `Store::put_body`, and a copy of the body. Source: gitglossary(7), "commit object".
-    pub fn add_commit(&mut self, parts: &CommitParts<'_>) -> Result<Name, StoreFault>
-        requires encoding { IsTrue (is_optional_encoding (commit_parts parts.now).text.encoding) }
-        requires tree { Holds self.now.1.records kinds.Tree (commit_parts parts.now).tree }
-        requires parents { HoldsEach self.now.1.records kinds.Commit (commit_parts parts.now).parents }
-        ensures namer { self.new.0 ≡ self.old.0 }
-        ensures adds { Adds self.old.1.records self.new.1.records (commit_record (N.name_of self.old.0) (commit_parts parts.now)) result }
-        ensures refs { self.new.1.refs ≡ self.old.1.refs }
-        ensures history { GainsValue self.old self.new (commit_given self.old parts.now) result }
-        ensures value { NamesValue N.name_of self.old (commit_given self.old parts.now) result }
-        ensures held { IfOk result (λ name. Holds self.new.1.records kinds.Commit name.bytes) }
-        ensures keeps { Keeps self.old.1.records self.new.1.records }
-    {
-        let Ok(body) = encode_commit(self.alloc, parts) else {
-            return Err(StoreFault::OutOfMemory);
-        };
-        let Ok(copy) = copied(self.alloc, &body) else {
-            return Err(StoreFault::OutOfMemory);
-        };
-        self.add(Kind::Commit, copy, 0)
-    }
-
-    /// Adds a tag whose commit is held, and answers its name. One that is held already is not added again.
-    ///
-    /// NameHeld comes only where the name is held for another object; after a fault the repository is as it was.
-    /// Cost: that of `Store::put_body`, and a copy of the body. Source: gitglossary(7), "tag object".
-    pub fn add_tag(&mut self, parts: &TagParts<'_>) -> Result<Name, StoreFault>
-        requires name { IsTrue (is_tag_name (tag_parts parts.now).name) }
-        requires object { Holds self.now.1.records kinds.Commit (tag_parts parts.now).object }
-        ensures namer { self.new.0 ≡ self.old.0 }
-        ensures adds { Adds self.old.1.records self.new.1.records (tag_record (N.name_of self.old.0) (tag_parts parts.now)) result }
-        ensures refs { self.new.1.refs ≡ self.old.1.refs }
-        ensures history { GainsValue self.old self.new (tag_given self.old parts.now) result }
-        ensures value { NamesValue N.name_of self.old (tag_given self.old parts.now) result }
-        ensures held { IfOk result (λ name. Holds self.new.1.records kinds.Tag name.bytes) }
-        ensures keeps { Keeps self.old.1.records self.new.1.records }
-    {
-        let Ok(body) = encode_tag(self.alloc, parts) else {
-            return Err(StoreFault::OutOfMemory);
-        };
-        let Ok(copy) = copied(self.alloc, &body) else {
-            return Err(StoreFault::OutOfMemory);
-        };
-        self.add(Kind::Tag, copy, 0)
-    }
-
-    /// Adds a record of which nothing is known, and answers its name.
-    ///
-    /// The errors are those of `add_body`. Cost: that of it, and a copy of the bytes. Source: Pro Git, "Git Objects".
-    pub fn add_record(&mut self, kind: Kind, body: &[u8]) -> Result<Name, AddFault>
-        ensures namer { self.new.0 ≡ self.old.0 }
-        ensures adds { AddsAnew N.name_of self.old self.new kind body.now result }
-        ensures refs { self.new.1.refs ≡ self.old.1.refs }
-        ensures history { GainsObject self.old self.new kind body.now result }
-    {
-        let Ok(copy) = Vec::from_slice(self.alloc, body) else {
-            return Err(AddFault::OutOfMemory);
-        };
-        self.add_body(kind, Body::Own(copy))
-    }
-
-    /// Adds a record of which nothing is known, and answers its name. The repository keeps the body, and no copy of it; or
-    /// drops it where it isn't added.
-    ///
-    /// What it has against it is answered in this order. `BadObject`: the body isn't a canonical one of its kind.
-    /// `Dangling`: a link isn't held, or is held as another kind. `BadObject`: an entry names a tree without entries, or
-    /// a path below the tree has more than 4,095 bytes. `DuplicateObject`: the name is held, whatever its bytes.
-    /// `OutOfMemory`: a growth was refused. After a fault the repository is as it was.
-    /// Cost: that of `Store::put_body`, and a look-up for each link, but for a file's that stands alike in the tree
-    /// beside which a new one is looked at: one that was added here, with the same first or the same last entry, and not
-    /// much over twice as long. Each entry of both is looked at once, and so are those of the trees that were added since
-    /// the last such call. Source: Pro Git, "Git Objects".
-    pub fn add_body(&mut self, kind: Kind, body: Body<A>) -> Result<Name, AddFault>
-        ensures namer { self.new.0 ≡ self.old.0 }
-        ensures adds { AddsAnew N.name_of self.old self.new kind (bytes_of body) result }
-        ensures refs { self.new.1.refs ≡ self.old.1.refs }
-        ensures history { GainsObject self.old self.new kind (bytes_of body) result }
-    {
-        records_are_taken();
-        let room = self.room_of(kind, body.as_slice())?;
-        let held = self.store.len();
-        let name = match self.add(kind, body, room) {
-            Ok(name) => name,
-            Err(StoreFault::NameHeld) => return Err(AddFault::DuplicateObject),
-            Err(StoreFault::OutOfMemory) => return Err(AddFault::OutOfMemory),
-        };
-        if self.store.len() == held {
-            return Err(AddFault::DuplicateObject);
-        }
-        Ok(name)
-    }
-
-    /// Sets all of these refs, or none. A later change of one name wins, and refs that are not named stay.
-    ///
-    /// The first change that is refused is answered: `BadRefName`: the name isn't that of a ref. `UnknownObject`: the
-    /// object isn't held. `WrongKind`: it is neither a commit nor a tag whose own name makes the ref's.
-    /// `OutOfMemory`: a growth was refused. After a fault the repository is as it was.
-    /// Cost: for each change a look-up of its object, and two binary searches among the refs. Where a change names a ref that
-    /// isn't held, in proportion to the refs and changes, times the logarithm of their number. No growth is needed otherwise.
-    /// Source: git-check-ref-format(1), and gitglossary(7), "ref".
-    #[tactic(auto, unfolding(gx_model::specs::Records::Publishing::published))]
-    pub fn publish(&mut self, changes: &[RefChange<'_>]) -> Result<(), PublishFault>
-        ensures namer { self.new.0 ≡ self.old.0 }
-        ensures records { self.new.1.records ≡ self.old.1.records }
-        ensures refs { Gives fault_of (λ _. self.new.1.refs) result (published self.old.1 (map shown_update changes.now)) }
-        ensures unchanged { OnErr result (self.new ≡ self.old) }
-    {
-        parts_change();
-        self.check_all(changes)?;
-        set_refs(self.alloc, &mut self.refs, changes)?;
-        Ok(())
+        self.refs.copied(self.alloc)
     }
 
     /// Keeps the first `len` objects alone, and all where there are no more. The refs' objects are among these.
@@ -370,84 +141,6 @@ impl<N: Namer, A: Allocator + Copy> Repo<N, A> {
         self.store.truncate(len);
         self.rooms.truncate(len);
     }
-
-    /// The room of what is below an object, or what its body has against it. The rooms of all records are entered before,
-    /// and the place at which a tree is to stand behind.
-    fn room_of(&mut self, kind: Kind, body: &[u8]) -> Result<usize, AddFault>
-        ensures same { self.new ≡ self.old }
-        ensures ok { IfOk result (λ _. content_fault self.old.1.records kind body.now ≡ None) }
-        ensures room { IfOk result (λ room. room ≡ room_below self.old.1.records kind body.now) }
-        ensures fault { IfErr result (MayRefuse self.old.1.records kind body.now) }
-    {
-        parts_change();
-        if self.hints.make_room(kind).is_err() {
-            return Err(AddFault::OutOfMemory);
-        }
-        let room = entered_room(&self.store, &mut self.rooms, &self.hints, kind, body)?;
-        self.hints.enter(kind, body, self.store.len());
-        Ok(room)
-    }
-
-    /// Puts an object whose links are held, with the room of what is below it where all before it have theirs.
-    fn add(&mut self, kind: Kind, body: Body<A>, room: usize) -> Result<Name, StoreFault>
-        requires linked { IsLinked self.now.1.records kind (bytes_of body) }
-        requires short { HasShortPathsBelow N.name_of self.now kind (bytes_of body) }
-        requires room { room ≡ room_below self.now.1.records kind (bytes_of body) }
-        ensures namer { self.new.0 ≡ self.old.0 }
-        ensures adds { AddsObject N.name_of self.old self.new kind (bytes_of body) result }
-        ensures refs { self.new.1.refs ≡ self.old.1.refs }
-        ensures history { GainsObject self.old self.new kind (bytes_of body) result }
-        ensures value { NamesValue N.name_of self.old (value_among self.old.1.records kind (bytes_of body)) result }
-        ensures held { IfOk result (λ name. Holds self.new.1.records kind name.bytes) }
-        ensures keeps { Keeps self.old.1.records self.new.1.records }
-    {
-        links_tell_values();
-        puts_add_values();
-        let held = self.store.len();
-        let name = self.store.put_body(kind, body)?;
-        let Ok(()) = enter_room(&self.store, &mut self.rooms, held, room) else {
-            self.store.truncate(held);
-            return Err(StoreFault::OutOfMemory);
-        };
-        Ok(name)
-    }
-
-    /// Answers why the first of these changes that is refused is.
-    fn check_all(&self, changes: &[RefChange<'_>]) -> Result<(), PublishFault>
-        ensures ok { OnOk result (changes_fault self.now.1.records (map shown_update changes.now) ≡ None) }
-        ensures fault { IfErr result (IsAgainstFirst self.now.1.records changes.now) }
-    {
-        for change in changes {
-            self.check(change)?;
-        }
-        Ok(())
-    }
-
-    /// Answers why a change is refused.
-    fn check(&self, change: &RefChange<'_>) -> Result<(), PublishFault>
-        ensures ok { OnOk result (change_fault self.now.1.records (shown_update change.now) ≡ None) }
-        ensures fault { IfErr result (IsAgainstChange self.now.1.records change.now) }
-    {
-        if !is_ref_name(change.name) {
-            return Err(PublishFault::BadRefName);
-        }
-        let Some((kind, body)) = self.store.get(&change.target) else {
-            return Err(PublishFault::UnknownObject);
-        };
-        if is_target(change.name, kind, body) {
-            Ok(())
-        } else {
-            Err(PublishFault::WrongKind)
-        }
-    }
-}
-
-/// A body of a copy of these bytes, which has no room behind them.
-fn copied<A: Allocator + Copy>(alloc: A, bytes: &[u8]) -> Result<Body<A>, AllocError>
-    ensures { IfOk result (λ body. bytes_of body ≡ bytes.now) }
-{
-    let copy = Vec::from_slice(alloc, bytes)?;
-    Ok(Body::Own(copy))
 }
 
 /// The commit that a tag's body names.
@@ -457,41 +150,5 @@ fn tag_object(body: &[u8]) -> Option<Name>
     match decode_tag(body) {
         Ok(tag) => Some(tag.object()),
         Err(_) => None,
-    }
-}
-
-/// Whether a ref may hold an object of this kind and body: a commit, or a tag whose own name makes the ref's.
-fn is_target(name: &[u8], kind: Kind, body: &[u8]) -> bool
-    ensures { HasTagParts kind body.now → result ≡ is_target_of_kind name.now kind body.now }
-{
-    match kind {
-        Kind::Commit => true,
-        Kind::Tag => is_own_ref(name, body),
-        _ => false,
-    }
-}
-
-/// Whether a ref's name is made by the own name of the tag with this body.
-fn is_own_ref(name: &[u8], body: &[u8]) -> bool
-    ensures { TellsOwnRef name.now body.now result }
-{
-    let Ok(tag) = decode_tag(body) else {
-        return false;
-    };
-    match name.strip_prefix(b"refs/tags/") {
-        Some(rest) => rest == tag.name(),
-        None => false,
-    }
-}
-
-/// A tree is written with no other fault than those of the store.
-fn store_fault(fault: TreeFault) -> StoreFault
-    requires { IsWriteFault fault }
-    ensures { tree_fault result ≡ fault }
-{
-    match fault {
-        TreeFault::OutOfMemory => StoreFault::OutOfMemory,
-        TreeFault::NameHeld => StoreFault::NameHeld,
-        _ => unreachable!(),
     }
 }

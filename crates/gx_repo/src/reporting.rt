@@ -1,13 +1,12 @@
 //! The refs that differ between two times, as a report. Source: githooks(5), "post-receive".
-ghost use Rattle.std.specs.Prelude.{◌≡◌, ◌++◌, ◌∷◌, [], map, IfOk, IsTrue, OnOk};
+ghost use Rattle.std.specs.Prelude.{◌≡◌, ◌++◌, ◌∷◌, [], IfOk, IsTrue, OnOk};
 ghost use Rattle.std.specs.FinMap.Entries.{is_sorted};
 ghost use Rattle.gx_model.specs.Texts.{byte_cmp};
-ghost use Rattle.gx_repo.specs.Refs.{shown_ref};
 ghost use Rattle.gx_object.specs.Parts.{bytes_if};
 ghost use Rattle.gx_repo.specs.Reporting.{IsNext, IsReport, behind, differing, digits_or_zeros, line_where_they_differ, object_first};
 
 use crate::fault::OutOfMemory;
-use crate::refs::{Ref, Refs};
+use crate::refs::Refs;
 use gx_object::Name;
 use std::alloc::{AllocError, Allocator};
 
@@ -21,48 +20,42 @@ pub fn report_changes<A: Allocator + Copy>(
     before: Refs<'_, A>,
     after: Refs<'_, A>,
 ) -> Result<Vec<u8, A>, OutOfMemory>
-    requires before { IsTrue (is_sorted byte_cmp before) }
-    requires after { IsTrue (is_sorted byte_cmp after) }
     ensures { IfOk result (λ report. IsReport before.entry after.entry report.items) }
 {
     let mut report = Vec::new(alloc);
-    put_changes(&mut report, before.rest, after.rest)?;
+    put_changes(&mut report, before, after)?;
     Ok(report)
 }
 
 /// Appends the lines of the refs that differ.
 fn put_changes<A: Allocator + Copy>(
     report: &mut Vec<u8, A>,
-    before: &[Ref<A>],
-    after: &[Ref<A>],
+    before: Refs<'_, A>,
+    after: Refs<'_, A>,
 ) -> Result<(), AllocError>
     requires empty { report.old.items ≡ [] }
-    requires before { IsTrue (is_sorted byte_cmp (map shown_ref before.now)) }
-    requires after { IsTrue (is_sorted byte_cmp (map shown_ref after.now)) }
-    ensures { OnOk result (IsReport (map shown_ref before.now) (map shown_ref after.now) report.new.items) }
+    ensures { OnOk result (IsReport before.entry after.entry report.new.items) }
 {
     let mut before = before;
     let mut after = after;
-    while let Some(name) = next_name(before, after) {
-        let (old, held) = taken(before, name);
-        let (new, holds) = taken(after, name);
+    while let Some(name) = next_name(&before, &after) {
+        let old = take_object(&mut before, name);
+        let new = take_object(&mut after, name);
         put_change(report, name, old, new)?;
-        before = held;
-        after = holds;
     }
     Ok(())
 }
 
 /// The first name of the refs at both times; none where there are no refs.
-fn next_name<'a, A: Allocator + Copy>(before: &'a [Ref<A>], after: &'a [Ref<A>]) -> Option<&'a [u8]>
-    requires before { IsTrue (is_sorted byte_cmp (map shown_ref before.now)) }
-    requires after { IsTrue (is_sorted byte_cmp (map shown_ref after.now)) }
-    ensures { IsNext (map shown_ref before.now) (map shown_ref after.now) result }
+fn next_name<'a, A: Allocator + Copy>(before: &Refs<'a, A>, after: &Refs<'a, A>) -> Option<&'a [u8]>
+    ensures first { IsNext before.now after.now result }
+    ensures before { IsTrue (is_sorted byte_cmp before.now) }
+    ensures after { IsTrue (is_sorted byte_cmp after.now) }
 {
-    let Some(held) = before.first() else {
-        return Some(after.first()?.name.as_slice());
+    let Some(held) = before.rest.first() else {
+        return Some(after.rest.first()?.name.as_slice());
     };
-    let Some(holds) = after.first() else {
+    let Some(holds) = after.rest.first() else {
         return Some(held.name.as_slice());
     };
     if holds.name.as_slice() < held.name.as_slice() {
@@ -72,18 +65,17 @@ fn next_name<'a, A: Allocator + Copy>(before: &'a [Ref<A>], after: &'a [Ref<A>])
     }
 }
 
-/// The object of the first ref, where it has this name, and the refs behind that.
-fn taken<'a, A: Allocator + Copy>(refs: &'a [Ref<A>], name: &[u8]) -> (Option<Name>, &'a [Ref<A>])
-    ensures object { bytes_if result.0 ≡ object_first (map shown_ref refs.now) name.now }
-    ensures behind { map shown_ref result.1.now ≡ behind (map shown_ref refs.now) name.now }
+/// Takes the first ref, where it has this name, and answers its object.
+fn take_object<A: Allocator + Copy>(refs: &mut Refs<'_, A>, name: &[u8]) -> Option<Name>
+    ensures object { bytes_if result ≡ object_first refs.old name.now }
+    ensures behind { refs.new ≡ behind refs.old name.now }
 {
-    let Some((first, rest)) = refs.split_first() else {
-        return (None, refs);
-    };
+    let (first, rest) = refs.rest.split_first()?;
     if first.name.as_slice() == name {
-        (Some(first.object), rest)
+        refs.rest = rest;
+        Some(first.object)
     } else {
-        (None, refs)
+        None
     }
 }
 

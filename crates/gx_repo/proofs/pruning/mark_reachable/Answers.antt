@@ -1,10 +1,8 @@
-use Rattle.std.proofs.Common.{◌∙◌, map, ap, length, arith}
-use Rattle.std.proofs.lemmas.List.{length-replicate}
-use Rattle.gx_repo.specs.Refs.{shown_ref}
+use Rattle.std.proofs.Common.{◌∙◌}
 use Rattle.gx_repo.proofs.PrunedRecords.{none_marked, tips_marked}
 use Rattle.gx_repo.proofs.pruning.mark_reachable.Goals as goal
 
 pub returns : goal.returns
 returns g c =
     let rs = c.args.store.now.1 in
-    c.spread.ensures (map shown_ref c.args.refs.now) (tips_marked c.args.refs.now rs c.args.marks.now c.mark_tips.new.marks (c.requires.none ∙ none_marked rs) c.mark_tips.ensures)
+    c.spread.ensures c.args.refs.now (tips_marked c.args.refs.now rs c.args.marks.now c.mark_tips.new.marks (c.requires.none ∙ none_marked rs) c.mark_tips.ensures)

@@ -1,4 +1,4 @@
-use Rattle.std.proofs.Common.{◌≡◌, ◌*◌, ◌^◌, ◌≤◌, take}
+use Rattle.std.proofs.Common.{◌≡◌, ◌*◌, ◌≤◌, take}
 use Rattle.gx_repo.specs.Pruning.{weight}
 use Rattle.gx_repo.proofs.pruning.weight.Given as goal
 

@@ -1,7 +1,6 @@
 use Rattle.std.proofs.Common.{◌≡◌, ℕ, ◌+◌, ◌<◌, ◌++◌, List, [], ◌∷◌, get_or, length, map, take, sym, ap, ◌∙◌}
 use Rattle.std.specs.declared.vec.Vec.{Vec}
 use Rattle.std.proofs.lemmas.List.{map-append, take_more}
-use Rattle.gx_object.specs.declared.name.Name.{Name}
 use Rattle.gx_model.specs.Texts.{Bytes}
 use Rattle.gx_repo.specs.Refs.{shown_ref}
 use Rattle.gx_repo.specs.declared.refs.Ref.{Ref}

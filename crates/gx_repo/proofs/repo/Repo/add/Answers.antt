@@ -1,4 +1,4 @@
-use Rattle.std.proofs.Common.{Ok, ◌++◌, ◌∷◌, [], map, take, sym, subst, ap, ◌∙◌}
+use Rattle.std.proofs.Common.{Ok, ◌++◌, ◌∷◌, [], take, sym, subst, ap, ◌∙◌}
 use Rattle.gx_model.specs.Histories.{Record, Records, record_for, with_one}
 use Rattle.gx_model.specs.Records.HistoryOf.{named_values, value_in}
 use Rattle.gx_model.specs.Laws.RepositoryLaws.{values_of}
@@ -6,9 +6,8 @@ use Rattle.gx_model.specs.Records.Sound.{Holds, IsSound, Keeps}
 use Rattle.gx_model.proofs.Records.Puts.{front_put}
 use Rattle.gx_store.specs.Bodies.{bytes_of}
 use Rattle.gx_repo.specs.Additions.{Adds, HasValues}
-use Rattle.gx_repo.specs.Refs.{shown_ref}
 use Rattle.gx_repo.specs.Rooms.{IsFront, rooms_of}
-use Rattle.gx_repo.proofs.Additions.{adds_refused, front_after, put_grown, put_is_sound}
+use Rattle.gx_repo.proofs.PutRecords.{adds_refused, front_after, put_grown, put_is_sound}
 use Rattle.gx_repo.proofs.HeldRecords.{keeps_front, keeps_same, put_holds, put_last}
 use Rattle.gx_repo.proofs.RecordRooms.{rooms_more}
 use Rattle.gx_repo.proofs.repo.Repo.add.Goals as goal
@@ -33,10 +32,10 @@ invariant_of-self g c =
     let names = g.N.Namer.name_of c.self.inside.store.0 in
     let namer = g.met.N.Namer.is_namer c.self.inside.store.0 in
     let rs = c.self.inside.store.1 in
-    let r : Records = record { records = rs; refs = map shown_ref c.self.inside.refs.items } in
+    let r : Records = record { records = rs; refs = c.self.inside.refs } in
     let l = rw (sym c.self.view_is) at c.requires.linked in
     let s = rw (sym c.self.view_is) at c.requires.short in (
-      subst (λ n. IsSound (g.N.Namer.name_of n) (record { records = c.put_body.new.self.1; refs = map shown_ref c.self.inside.refs.items })) (sym c.put_body.ensures.namer)
+      subst (λ n. IsSound (g.N.Namer.name_of n) (record { records = c.put_body.new.self.1; refs = c.self.inside.refs })) (sym c.put_body.ensures.namer)
           (put_is_sound names (c.links_tell_values.ensures names namer) (c.puts_add_values.ensures names namer) r c.self.invariant.0 c.args.kind (bytes_of c.args.body) l s c.put_body.new.self.1 c.put_body.result c.put_body.ensures.puts),
       front_after rs c.put_body.new.self.1 (record_for names c.args.kind (bytes_of c.args.body)) c.put_body.result c.put_body.ensures.puts c.self.inside.rooms.items c.self.invariant.1,
     )
@@ -51,10 +50,10 @@ invariant_of-self-in-Ok g c =
     let names = g.N.Namer.name_of c.self.inside.store.0 in
     let namer = g.met.N.Namer.is_namer c.self.inside.store.0 in
     let rs = c.self.inside.store.1 in
-    let r : Records = record { records = rs; refs = map shown_ref c.self.inside.refs.items } in
+    let r : Records = record { records = rs; refs = c.self.inside.refs } in
     let l = rw (sym c.self.view_is) at c.requires.linked in
     let s = rw (sym c.self.view_is) at c.requires.short in (
-      subst (λ n. IsSound (g.N.Namer.name_of n) (record { records = c.put_body.new.self.1; refs = map shown_ref c.self.inside.refs.items })) (sym c.put_body.ensures.namer)
+      subst (λ n. IsSound (g.N.Namer.name_of n) (record { records = c.put_body.new.self.1; refs = c.self.inside.refs })) (sym c.put_body.ensures.namer)
           (put_is_sound names (c.links_tell_values.ensures names namer) (c.puts_add_values.ensures names namer) r c.self.invariant.0 c.args.kind (bytes_of c.args.body) l s c.put_body.new.self.1 c.put_body.result c.put_body.ensures.puts),
       c.in-Ok.ensures.ok,
     )
@@ -65,8 +64,8 @@ invariant_of-self-in_default g c =
     let new : Record = record_for (g.N.Namer.name_of c.self.inside.store.0) c.args.kind (bytes_of c.args.body) in
     let old = ap (λ v. v.1) c.truncate.ensures ∙ ap (λ k. take k c.put_body.new.self.1) c.len-held.ensures.count ∙ front_put rs c.put_body.new.self.1 new c.in_ok-name.ensures.puts.1 in
     let namer = ap (λ v. v.0) c.truncate.ensures ∙ c.put_body.ensures.namer in (
-      subst (λ n. IsSound (g.N.Namer.name_of n) (record { records = c.truncate.new.self.1; refs = map shown_ref c.self.inside.refs.items })) (sym namer)
-          (subst (λ z. IsSound (g.N.Namer.name_of c.self.inside.store.0) (record { records = z; refs = map shown_ref c.self.inside.refs.items })) (sym old) c.self.invariant.0),
+      subst (λ n. IsSound (g.N.Namer.name_of n) (record { records = c.truncate.new.self.1; refs = c.self.inside.refs })) (sym namer)
+          (subst (λ z. IsSound (g.N.Namer.name_of c.self.inside.store.0) (record { records = z; refs = c.self.inside.refs })) (sym old) c.self.invariant.0),
       subst (λ xs. IsFront xs c.truncate.new.self.1) (sym c.in_default.ensures.err) (subst (IsFront c.self.inside.rooms.items) (sym old) c.self.invariant.1),
     )
 
@@ -97,10 +96,10 @@ pub returns-clause-history : goal.returns-clause-history
 returns-clause-history g c =
     let names = g.N.Namer.name_of c.self.inside.store.0 in
     let namer = g.met.N.Namer.is_namer c.self.inside.store.0 in
-    let r : Records = record { records = c.self.inside.store.1; refs = map shown_ref c.self.inside.refs.items } in
+    let r : Records = record { records = c.self.inside.store.1; refs = c.self.inside.refs } in
     let l = rw (sym c.self.view_is) at c.requires.linked in
     let s = rw (sym c.self.view_is) at c.requires.short in
-    subst (λ v. HasValues v.1 (record { records = c.put_body.new.self.1; refs = map shown_ref c.self.inside.refs.items }) (with_one (values_of v.1) (value_in (named_values v.1.records) c.args.kind (bytes_of c.args.body)))) c.self.view_is
+    subst (λ v. HasValues v.1 (record { records = c.put_body.new.self.1; refs = c.self.inside.refs }) (with_one (values_of v.1) (value_in (named_values v.1.records) c.args.kind (bytes_of c.args.body)))) c.self.view_is
     (put_grown names (c.links_tell_values.ensures names namer) (c.puts_add_values.ensures names namer) r c.self.invariant.0 c.args.kind (bytes_of c.args.body) l s c.put_body.new.self.1 c.in_ok-name.ensures.puts.1).1
 
 pub returns-in_err-name-clause-namer : goal.returns-in_err-name-clause-namer

@@ -1,4 +1,4 @@
-use Rattle.std.proofs.Common.{Ok, Err, ap, map, subst, sym, take, ◌∙◌}
+use Rattle.std.proofs.Common.{Ok, Err, ap, subst, sym, take, ◌∙◌}
 use Rattle.gx_model.specs.Histories.{Records, with_tree}
 use Rattle.gx_model.specs.Records.HistoryOf.{contents_of, named_values}
 use Rattle.gx_model.specs.Laws.RepositoryLaws.{values_of}
@@ -8,9 +8,8 @@ use Rattle.gx_model.specs.Records.Growth.{tree_records}
 use Rattle.gx_tree.specs.Named.{IsAtHome}
 use Rattle.gx_tree.specs.Writes.{map_name}
 use Rattle.gx_repo.specs.Additions.{AddsAll, HasValues}
-use Rattle.gx_repo.specs.Refs.{shown_ref}
 use Rattle.gx_repo.specs.Rooms.{IsFront}
-use Rattle.gx_repo.proofs.Additions.{trees_grown, writes_refused}
+use Rattle.gx_repo.proofs.PutRecords.{trees_grown, writes_refused}
 use Rattle.gx_repo.proofs.HeldRecords.{keeps_front, keeps_same, tree_holds}
 use Rattle.gx_repo.proofs.RecordRooms.{front_kept}
 use Rattle.gx_repo.proofs.repo.Repo.add_tree_shared.Goals as goal
@@ -19,9 +18,9 @@ pub invariant_of-self : goal.invariant_of-self
 invariant_of-self g c =
     let names = g.N.Namer.name_of c.self.inside.store.0 in
     let namer = g.met.N.Namer.is_namer c.self.inside.store.0 in
-    let r : Records = record { records = c.self.inside.store.1; refs = map shown_ref c.self.inside.refs.items } in
+    let r : Records = record { records = c.self.inside.store.1; refs = c.self.inside.refs } in
     let named = rw (sym c.self.view_is) at c.requires.named in (
-      subst (λ n. IsSound (g.N.Namer.name_of n) (record { records = c.write_shared.new.store.1; refs = map shown_ref c.self.inside.refs.items })) (sym c.write_shared.ensures.namer)
+      subst (λ n. IsSound (g.N.Namer.name_of n) (record { records = c.write_shared.new.store.1; refs = c.self.inside.refs })) (sym c.write_shared.ensures.namer)
           (trees_grown names (c.trees_add_file_maps.ensures names namer) (c.puts_add_values.ensures names namer) r c.self.invariant.0 c.args.tree.now.files named c.write_shared.new.store.1 c.in-Ok.ensures.records).0,
       front_kept c.self.inside.store.1 c.write_shared.new.store.1 c.self.inside.rooms.items c.self.invariant.1 c.write_shared.ensures.front,
     )
@@ -30,9 +29,9 @@ pub returns-clause-history : goal.returns-clause-history
 returns-clause-history g c =
     let names = g.N.Namer.name_of c.self.inside.store.0 in
     let namer = g.met.N.Namer.is_namer c.self.inside.store.0 in
-    let r : Records = record { records = c.self.inside.store.1; refs = map shown_ref c.self.inside.refs.items } in
+    let r : Records = record { records = c.self.inside.store.1; refs = c.self.inside.refs } in
     let named = rw (sym c.self.view_is) at c.requires.named in
-    subst (λ v. HasValues v.1 (record { records = c.write_shared.new.store.1; refs = map shown_ref c.self.inside.refs.items }) (with_tree (values_of v.1) (contents_of (named_values v.1.records) c.args.tree.now.files))) c.self.view_is
+    subst (λ v. HasValues v.1 (record { records = c.write_shared.new.store.1; refs = c.self.inside.refs }) (with_tree (values_of v.1) (contents_of (named_values v.1.records) c.args.tree.now.files))) c.self.view_is
     (trees_grown names (c.trees_add_file_maps.ensures names namer) (c.puts_add_values.ensures names namer) r c.self.invariant.0 c.args.tree.now.files named c.write_shared.new.store.1 c.in-Ok.ensures.records).1
 
 pub returns-clause-held : goal.returns-clause-held
@@ -45,7 +44,7 @@ returns-clause-keeps g c = subst (λ v. Keeps v.1.records c.write_shared.new.sto
 
 pub invariant_of-self-in-Err : goal.invariant_of-self-in-Err
 invariant_of-self-in-Err g c =
-    let refs = map shown_ref c.self.inside.refs.items in
+    let refs = c.self.inside.refs in
     let old = ap (λ v. v.1) c.truncate.ensures ∙ ap (λ k. take k c.write_shared.new.store.1) c.len-held.ensures.count ∙ c.write_shared.ensures.front in
     let namer = ap (λ v. v.0) c.truncate.ensures ∙ c.write_shared.ensures.namer in (
       subst (λ n. IsSound (g.N.Namer.name_of n) (record { records = c.truncate.new.self.1; refs = refs })) (sym namer)

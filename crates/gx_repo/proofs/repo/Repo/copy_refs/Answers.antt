@@ -1,12 +1,6 @@
-use Rattle.std.proofs.Common.{map, sym, ap, subst, ◌∙◌}
-use Rattle.std.specs.Prelude.{IsTrue}
-use Rattle.std.specs.FinMap.Entries.{is_sorted}
-use Rattle.gx_model.specs.Texts.{byte_cmp}
-use Rattle.gx_repo.specs.Refs.{shown_ref}
+use Rattle.std.proofs.Common.{subst}
+use Rattle.std.specs.Prelude.{◌≡◌, IfOk}
 use Rattle.gx_repo.proofs.repo.Repo.copy_refs.Goals as goal
 
-pub invariant_of-result : goal.invariant_of-result
-invariant_of-result g c = subst (λ refs. IsTrue (is_sorted byte_cmp refs)) (sym (c.in_ok-refs.ensures ∙ ap (map shown_ref) c.as_slice.ensures.value)) c.self.invariant.0.sorted
-
 pub returns : goal.returns
-returns g c = c.in_ok-refs.ensures ∙ ap (map shown_ref) c.as_slice.ensures.value ∙ ap (λ v. v.1.refs) c.self.view_is
+returns g c = subst (λ v. IfOk c.copied.result (λ refs. refs ≡ v.1.refs)) c.self.view_is c.copied.ensures

@@ -1,10 +1,9 @@
-use Rattle.std.proofs.Common.{◌≡◌, ◌+◌, [], length, map, refl, sym, ap, subst, ◌∙◌, arith}
+use Rattle.std.proofs.Common.{◌≡◌, length, refl, sym, ap, subst, ◌∙◌, arith}
 use Rattle.gx_model.specs.Histories.{Records}
 use Rattle.gx_model.specs.Pruning.{is_reachable, pruned}
 use Rattle.gx_model.specs.Records.Sound.{IsSound}
 use Rattle.gx_store.specs.Marked.{marked}
 use Rattle.gx_repo.specs.Pruning.{marks_by, weight}
-use Rattle.gx_repo.specs.Refs.{shown_ref}
 use Rattle.gx_repo.specs.Repositories.{held_in}
 use Rattle.gx_repo.specs.Rooms.{IsFront}
 use Rattle.gx_repo.proofs.PrunedRecords.{marked_less, pruned_is, pruned_sound, store_sound, weight_less}
@@ -12,7 +11,7 @@ use Rattle.gx_repo.proofs.repo.Repo.prune.Goals as goal
 
 pub reachable_marks-requires : goal.reachable_marks-requires
 reachable_marks-requires g c =
-    let r : Records = record { records = c.self.inside.store.1; refs = map shown_ref c.self.inside.refs.items } in
+    let r : Records = record { records = c.self.inside.store.1; refs = c.self.inside.refs } in
     store_sound (g.N.Namer.name_of c.self.inside.store.0) r c.self.invariant.0
 
 pub overflow_sub-objects : goal.overflow_sub-objects
@@ -31,9 +30,9 @@ pub invariant_of-self : goal.invariant_of-self
 invariant_of-self g c =
     let names = g.N.Namer.name_of c.self.inside.store.0 in
     let namer = g.met.N.Namer.is_namer c.self.inside.store.0 in
-    let r : Records = record { records = c.self.inside.store.1; refs = map shown_ref c.self.inside.refs.items } in
+    let r : Records = record { records = c.self.inside.store.1; refs = c.self.inside.refs } in
     let by_reach : c.deref.result.now ≡ marks_by (is_reachable r.refs r.records) r.records =
-    c.deref.ensures.value ∙ c.in_ok-marks.ensures ∙ ap (λ rs. marks_by (is_reachable (map shown_ref rs) r.records) r.records) c.as_slice.ensures.value in (
+    c.deref.ensures.value ∙ c.in_ok-marks.ensures in (
       subst (λ v. IsSound (g.N.Namer.name_of v.0) (record { records = v.1; refs = r.refs })) (sym c.retain.ensures) (pruned_sound names (c.pruned_stands.ensures names namer) r c.deref.result.now c.self.invariant.0 by_reach),
       subst (λ xs. IsFront xs c.retain.new.self.1) (sym c.clear.ensures.items) refl,
     )
@@ -43,10 +42,10 @@ returns-clause-namer g c = ap (λ v. v.0) c.retain.ensures ∙ ap (λ v. v.0) c.
 
 pub returns-clause-pruned : goal.returns-clause-pruned
 returns-clause-pruned g c =
-    let refs = c.self.inside.refs.items in
-    let r : Records = record { records = c.self.inside.store.1; refs = map shown_ref refs } in
+    let refs = c.self.inside.refs in
+    let r : Records = record { records = c.self.inside.store.1; refs = refs } in
     let by_reach : c.deref.result.now ≡ marks_by (is_reachable r.refs r.records) r.records =
-    c.deref.ensures.value ∙ c.in_ok-marks.ensures ∙ ap (λ rs. marks_by (is_reachable (map shown_ref rs) r.records) r.records) c.as_slice.ensures.value in
+    c.deref.ensures.value ∙ c.in_ok-marks.ensures in
     ap (λ v. held_in v.1 refs) c.retain.ensures ∙ pruned_is r c.deref.result.now by_reach ∙ ap (λ v. pruned v.1) c.self.view_is
 
 pub returns-clause-objects : goal.returns-clause-objects

@@ -1,12 +1,5 @@
-use Rattle.std.proofs.Common.{rules, map, subst, sym}
-use Rattle.std.specs.Prelude.{IsTrue}
-use Rattle.std.specs.FinMap.Entries.{is_sorted}
-use Rattle.gx_model.specs.Texts.{byte_cmp}
-use Rattle.gx_repo.specs.Refs.{shown_ref}
+use Rattle.std.proofs.Common.{ap, ◌∙◌}
 use Rattle.gx_repo.proofs.repo.Repo.refs.Goals as goal
 
 pub returns-clause-held : goal.returns-clause-held
-returns-clause-held g c = search rules
-
-pub returns-clause-sorted : goal.returns-clause-sorted
-returns-clause-sorted g c = subst (λ rs. IsTrue (is_sorted byte_cmp (map shown_ref rs))) (sym c.as_slice.ensures.value) c.self.invariant.0.sorted
+returns-clause-held g c = c.refs.ensures.held ∙ ap (λ v. v.1.refs) c.self.view_is

@@ -1,8 +1,7 @@
-use Rattle.std.proofs.Common.{◌≡◌, None, IfErr, [], map, refl, subst}
+use Rattle.std.proofs.Common.{◌≡◌, None, IfErr, [], refl, subst}
 use Rattle.gx_model.specs.Histories.{Records}
 use Rattle.gx_model.specs.Records.RecordFaults.{content_fault}
 use Rattle.gx_repo.specs.Checking.{MayRefuse}
-use Rattle.gx_repo.specs.Refs.{shown_ref}
 use Rattle.gx_repo.specs.Rooms.{room_below}
 use Rattle.gx_repo.proofs.ContentFaults.{refused_by}
 use Rattle.gx_repo.proofs.repo.Repo.room_of.Goals as goal
@@ -10,7 +9,7 @@ use Rattle.gx_repo.proofs.repo.Repo.room_of.Goals as goal
 pub entered_room-requires-clause-sound : goal.entered_room-requires-clause-sound
 entered_room-requires-clause-sound g c =
     let names = g.N.Namer.name_of c.self.inside.store.0 in
-    let r : Records = record { records = c.self.inside.store.1; refs = map shown_ref c.self.inside.refs.items } in
+    let r : Records = record { records = c.self.inside.store.1; refs = c.self.inside.refs } in
     ((c.parts_change.ensures names (g.met.N.Namer.is_namer c.self.inside.store.0)).refs r c.self.invariant.0 [] refl refl tt).0
 
 pub returns-in_err-room-clause-same : goal.returns-in_err-room-clause-same

@@ -1,7 +1,6 @@
-use Rattle.std.proofs.Common.{◌≡◌, ℕ, zero, suc, List, [], ◌∷◌, ◌++◌, take, drop, map, refl, sym, ap, subst, ◌∙◌}
+use Rattle.std.proofs.Common.{◌≡◌, ℕ, zero, suc, List, [], ◌∷◌, ◌++◌, take, drop, refl, sym, ap, subst, ◌∙◌}
 use Rattle.gx_model.specs.Records.Sound.{IsSound}
 use Rattle.gx_model.specs.Laws.RepositoryLaws.{with_records}
-use Rattle.gx_repo.specs.Refs.{shown_ref}
 use Rattle.gx_repo.specs.Repositories.{held_in}
 use Rattle.gx_repo.specs.Rooms.{IsFront}
 use Rattle.gx_repo.proofs.RecordRooms.{front_taken}
@@ -18,7 +17,7 @@ invariant_of-self g c =
     let names = g.N.Namer.name_of c.self.inside.store.0 in
     let namer = g.met.N.Namer.is_namer c.self.inside.store.0 in
     let rs = c.self.inside.store.1 in
-    let refs = map shown_ref c.self.inside.refs.items in
+    let refs = c.self.inside.refs in
     let whole = subst (λ z. IsSound names (record { records = z; refs = refs })) (sym (rejoined c.args.len rs)) c.self.invariant.0 in
     let held = rw (sym c.self.view_is) at c.requires.targets in
     let law = ((c.parts_change.ensures names namer).first (take c.args.len rs) (drop c.args.len rs) refs whole held).0 in (
@@ -28,5 +27,5 @@ invariant_of-self g c =
 
 pub returns : goal.returns
 returns g c =
-    let refs = c.self.inside.refs.items in
+    let refs = c.self.inside.refs in
     ap (λ s. (s.0, held_in s.1 refs)) c.truncate.ensures ∙ ap (λ v. (v.0, with_records v.1 (take c.args.len v.1.records))) c.self.view_is

@@ -1,6 +1,5 @@
 -- What a reader of lines is seen as, and what one call answers and leaves.
 use Rattle.std.specs.Prelude.{◌≡◌, ℕ, ◌+◌, ◌<◌, ◌≤◌, Bool, true, false, [], ◌∷◌, ◌++◌, length, slice_range, Option, None, Some, Result, Ok, Err, ⊤}
-use Rattle.std.specs.declared.vec.Vec.{Vec}
 use Rattle.gx_model.specs.Texts.{Bytes, lacks}
 use Rattle.gx_text.specs.Devices.{Coming}
 use Rattle.gx_stream.specs.Pulled.{shown_coming}

@@ -40,7 +40,8 @@ pub fn answer_lines<T: Answerer<A>, R: Source + Drop, W: Sink, A: Allocator + Co
     source: R,
     sink: &mut W,
 ) -> Result<(), BatchFault>
-    ensures { Answers (T.answer_to answerer.now) ending (R.coming source) (W.taken sink.old) (W.taken sink.new) result }
+    ensures { Answers (T.answer_to answerer.now) ending
+        (R.coming source) (W.taken sink.old) (W.taken sink.new) result }
 {
     let mut lines = LineReader::new(alloc, source)?;
     let mut line = Vec::new(alloc);

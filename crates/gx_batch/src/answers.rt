@@ -37,7 +37,8 @@ pub fn answer_revision<N: Namer, W: Sink, A: Allocator + Copy>(
     buffer: &mut Vec<u8, A>,
     sink: &mut W,
 ) -> Result<(), BatchFault>
-    ensures { SendsAnswer N.name_of W.taken repo.now check format.now.parts.items asked.now sink.old sink.new result }
+    ensures { SendsAnswer N.name_of W.taken repo.now check format.now.parts.items
+        asked.now sink.old sink.new result }
 {
     match eval_line(alloc, repo, asked) {
         Ok(Shown::Object(kind, name)) => {

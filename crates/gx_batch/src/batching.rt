@@ -66,7 +66,8 @@ pub fn batch<N: Namer, R: Source + Drop, W: Sink, A: Allocator + Copy>(
     source: R,
     sink: &mut W,
 ) -> Result<(), BatchFault>
-    ensures { SendsAnswers N.name_of W.taken repo.now check default_parts Lf (R.coming source) sink.old sink.new result }
+    ensures { SendsAnswers N.name_of W.taken repo.now check default_parts Lf
+        (R.coming source) sink.old sink.new result }
 {
     let format = Format::usual(alloc)?;
     let revisions = Revisions {

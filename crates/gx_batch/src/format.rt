@@ -64,7 +64,8 @@ impl<A: Allocator + Copy> Format<A> {
         size: usize,
         line: &mut Vec<u8, A>,
     ) -> Result<(), AllocError>
-        ensures { OnOk result (line.new.items ≡ object_line self.now.parts.items name.now.bytes kind size) }
+        ensures { OnOk result
+            (line.new.items ≡ object_line self.now.parts.items name.now.bytes kind size) }
     {
         line.clear();
         add_parts(&self.parts, name, kind, size, line)?;
@@ -131,7 +132,8 @@ fn add_parts<A: Allocator>(
     size: usize,
     line: &mut Vec<u8, A>,
 ) -> Result<(), AllocError>
-    ensures { OnOk result (line.new.items ≡ line.old.items ++ flat_map (part_text name.now.bytes kind size) parts.now) }
+    ensures { OnOk result
+        (line.new.items ≡ line.old.items ++ flat_map (part_text name.now.bytes kind size) parts.now) }
 {
     for part in parts {
         add_part(*part, name, kind, size, line)?;
@@ -147,7 +149,8 @@ fn add_part<A: Allocator>(
     size: usize,
     line: &mut Vec<u8, A>,
 ) -> Result<(), AllocError>
-    ensures { OnOk result (line.new.items ≡ line.old.items ++ part_text name.now.bytes kind size part) }
+    ensures { OnOk result
+        (line.new.items ≡ line.old.items ++ part_text name.now.bytes kind size part) }
 {
     match part {
         Part::Byte(byte) => line.push(byte)?,

@@ -31,7 +31,8 @@ impl<R: Source + Drop, A: Allocator + Copy> LineReader<R, A> {
     /// A reader of all the lines of a source. Nothing is pulled yet. Memory: one piece.
     pub(crate) fn new(alloc: A, source: R) -> Result<LineReader<R, A>, AllocError>
         ensures sound { IfOk result IsSound }
-        ensures seen { IfOk result (λ reader. shown_from R.coming reader ≡ option_map heard (R.coming source)) }
+        ensures seen { IfOk result
+            (λ reader. shown_from R.coming reader ≡ option_map heard (R.coming source)) }
     {
         let mut piece = Vec::new(alloc);
         piece.resize(PIECE, 0)?;
@@ -56,7 +57,8 @@ impl<R: Source + Drop, A: Allocator + Copy> LineReader<R, A> {
     ) -> Result<bool, BatchFault>
         requires { IsSound self.old }
         ensures sound { IsSound self.new }
-        ensures reads { Reads ending (shown_from R.coming self.old) (shown_from R.coming self.new) line.new.items result }
+        ensures reads { Reads ending
+            (shown_from R.coming self.old) (shown_from R.coming self.new) line.new.items result }
         ensures falls { Falls (most self.old) (most self.new) result }
     {
         let byte = ending.byte();
@@ -82,7 +84,8 @@ impl<R: Source + Drop, A: Allocator + Copy> LineReader<R, A> {
         ensures sound { IsSound self.new }
         ensures keeps { Passes [] (shown_from R.coming self.old) (shown_from R.coming self.new) }
         ensures most { most self.new ≤ most self.old }
-        ensures fewer { pulls_left self.new.state self.new.room < pulls_left self.old.state self.old.room }
+        ensures fewer { pulls_left self.new.state self.new.room
+            < pulls_left self.old.state self.old.room }
     {
         let (state, count) = pull_piece(&mut self.source, &mut self.piece, &mut self.room);
         self.state = state;

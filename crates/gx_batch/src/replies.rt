@@ -54,7 +54,8 @@ pub fn put_behind<W: Sink, A: Allocator>(
     buffer: &mut Vec<u8, A>,
     sink: &mut W,
 ) -> Result<(), BatchFault>
-    ensures { Sent (buffer.old.items ++ (text.now ++ 10 ∷ [])) (W.taken sink.old) (W.taken sink.new) result }
+    ensures { Sent (buffer.old.items ++ (text.now ++ 10 ∷ []))
+        (W.taken sink.old) (W.taken sink.new) result }
 {
     if text.len() < SMALL {
         buffer.extend_from_slice(text)?;

@@ -10,7 +10,7 @@ use Rattle.gx_model.specs.Histories.Files.{FileMap}
 use Rattle.gx_model.specs.Histories.Values.{Commit, Commits, Value, blob_value, commit_value, parents_of, tag_value, tree_value}
 use Rattle.gx_model.specs.Laws.RepositoryLaws.{values_of}
 use Rattle.gx_model.specs.Objects.{Entry, TagParts}
-use Rattle.gx_model.specs.Records.{body_of, entries, kind_of, name_of}
+use Rattle.gx_model.specs.Records.{body_of, kind_of, name_of}
 use Rattle.gx_model.specs.Histories.{Records}
 use Rattle.gx_model.specs.Records.HistoryOf.{commit_of_value, files_of_tree, value_of_name}
 use Rattle.gx_model.specs.Records.Growth.{record_named, same_kind}

@@ -2,7 +2,7 @@
 
 ghost use Rattle.std.specs.Prelude.{◌≡◌, ◌≤◌, ◌-◌, Ok, length};
 ghost use Rattle.std.specs.Option.{option_map};
-ghost use Rattle.gx_model.specs.Faults.{Gives, ◌>>=◌};
+ghost use Rattle.gx_model.specs.Faults.{Gives, ◌>>=◌ as ◌and_then◌};
 ghost use Rattle.gx_model.specs.Revisions.{cut_dots, digits_last, dotted, minus_of, minus_or_alone, number_or_one, pair_of, range_of, revision_of, side_of, undotted, without_parent};
 ghost use Rattle.gx_rev.specs.RevFaults.{fault_of};
 ghost use Rattle.gx_rev.specs.Ranges.{one_sided, two_sided};
@@ -145,7 +145,7 @@ fn read_alone<A: Allocator + Copy>(
     text: &[u8],
     shape: Shape,
 ) -> Result<Range<A>, RevFault>
-    ensures { Gives fault_of shown_range result (revision_of text.now >>= λ r. Ok (one_sided shape r)) }
+    ensures { Gives fault_of shown_range result (revision_of text.now and_then λ r. Ok (one_sided shape r)) }
 {
     let revision = Revision::read(alloc, text)?;
     match shape {
@@ -183,7 +183,7 @@ fn read_without_one<A: Allocator + Copy>(
     digits: &[u8],
 ) -> Result<Range<A>, RevFault>
     ensures { Gives fault_of shown_range result (revision_of text.now
-        >>= λ r. number_or_one digits.now >>= λ n. without_parent r n) }
+        and_then λ r. number_or_one digits.now and_then λ n. without_parent r n) }
 {
     let revision = Revision::read(alloc, text)?;
     let number = number_or_one(digits)?;

@@ -3,7 +3,7 @@
 ghost use Rattle.std.specs.Prelude.{◌≡◌, IfOk, Ok, Some};
 ghost use Rattle.gx_model.specs.declared.objects.Kind.TheVariants as kinds;
 ghost use Rattle.gx_model.specs.declared.objects.Mode.TheVariants as modes;
-ghost use Rattle.gx_model.specs.Faults.{Gives, NeedsNoMemory, ◌>>=◌};
+ghost use Rattle.gx_model.specs.Faults.{Gives, NeedsNoMemory, ◌>>=◌ as ◌and_then◌};
 ghost use Rattle.gx_model.specs.Revisions.{base_of, revision_of};
 ghost use Rattle.gx_model.specs.Revisions.Denotation.{commit_denoted, denoted, file_shown, files_in, looked_up, shown_at, value_denoted};
 ghost use Rattle.gx_model.specs.Records.{parts_of_commit};
@@ -39,7 +39,7 @@ impl<A: Allocator + Copy> Revision<A> {
     /// memory. Source: gitrevisions(7), "Specifying Revisions".
     pub fn eval_text<N: Namer>(alloc: A, repo: &Repo<N, A>, text: &[u8]) -> Result<Shown, RevFault>
         ensures shown { Gives fault_of (shown_by repo.now.1) result
-            (revision_of text.now >>= denoted (N.name_of repo.now.0) (history_of repo.now.1)) }
+            (revision_of text.now and_then denoted (N.name_of repo.now.0) (history_of repo.now.1)) }
         ensures named { IfOk result (IsNamed (N.name_of repo.now.0) repo.now.1) }
         ensures base { FaultsComeFirst result (base_of (base_text text.now)) }
     {
@@ -183,7 +183,7 @@ pub fn commit<'a, N: Namer, A: Allocator + Copy>(
 ) -> Result<CommitView<'a>, RevFault>
     ensures view { Gives fault_of (λ view. view) result
         (commit_denoted (N.name_of repo.now.0) (history_of repo.now.1) revision.now
-        >>= λ made. Ok (parts_of_commit (N.name_of repo.now.0) made)) }
+        and_then λ made. Ok (parts_of_commit (N.name_of repo.now.0) made)) }
     ensures memory { NeedsNoMemory RevFault.OutOfMemory result }
 {
     let commit = eval_commit(repo, revision)?;
@@ -199,7 +199,7 @@ pub fn tree<N: Namer, A: Allocator + Copy>(
     revision: &Revision<A>,
 ) -> Result<Name, RevFault>
     ensures files { Gives fault_of (files_at repo.now.1) result
-        (value_denoted (N.name_of repo.now.0) (history_of repo.now.1) revision.now >>= files_in) }
+        (value_denoted (N.name_of repo.now.0) (history_of repo.now.1) revision.now and_then files_in) }
     ensures held { IfOk result (IsHeldAs kinds.Tree repo.now.1) }
     ensures memory { NeedsNoMemory RevFault.OutOfMemory result }
 {
@@ -217,7 +217,7 @@ pub fn tree_of_text<N: Namer, A: Allocator + Copy>(
     text: &[u8],
 ) -> Result<Name, RevFault>
     ensures files { Gives fault_of (files_at repo.now.1) result (revision_of text.now
-        >>= λ r. value_denoted (N.name_of repo.now.0) (history_of repo.now.1) r >>= files_in) }
+        and_then λ r. value_denoted (N.name_of repo.now.0) (history_of repo.now.1) r and_then files_in) }
     ensures held { IfOk result (IsHeldAs kinds.Tree repo.now.1) }
     ensures base { FaultsComeFirst result (base_of (base_text text.now)) }
 {

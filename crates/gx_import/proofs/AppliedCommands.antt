@@ -111,11 +111,10 @@ module _ (name : Kind → Bytes → Bytes) {A : Type 0} where
     marks = h.marks;
     branches = h.branches;
     tags = h.tags;
-    branches_sorted = h.branches_sorted;
-    tags_sorted = h.tags_sorted;
     ref_names = h.ref_names;
     own = h.own;
     forced = h.forced;
+    published = h.published;
   }
 
   -- a command that changes nothing

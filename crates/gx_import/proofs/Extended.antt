@@ -8,11 +8,14 @@ use Rattle.gx_object.specs.declared.name.Name.{Name}
 use Rattle.gx_store.specs.declared.fault.StoreFault.{StoreFault}
 use Rattle.gx_store.specs.declared.fault.StoreFault.TheVariants.{NameHeld, OutOfMemory}
 use Rattle.gx_repo.specs.Additions.{Adds, AddsAll}
-use Rattle.gx_import.specs.Standing.{Extends}
+use Rattle.gx_repo.specs.Repositories.{Repository}
+use Rattle.gx_import.specs.Standing.{Extends, OnlyAdds}
 
-extended_same : (old new : List Record) → new ≡ old → Extends old new
+-- the same records
+pub extended_same : (old new : List Record) → new ≡ old → Extends old new
 extended_same old new e = ([], e ∙ sym (append-nil old))
 
+-- records with more behind them, and with more behind these
 pub extended_more : (old mid new : List Record) → Extends old mid → Extends mid new → Extends old new
 extended_more old mid new h k = (h.0 ++ k.0, k.1 ∙ ap (λ rs. rs ++ k.0) h.1 ∙ append_assoc old h.0 k.0)
 
@@ -44,3 +47,15 @@ pub extended_all : (old new rs : List Record) (called : Bytes) (answer : Result 
 extended_all old new rs called (Ok n) h = extended_puts old rs new h.1
 extended_all old new rs called (Err NameHeld) h = extended_same old new h.1
 extended_all old new rs called (Err OutOfMemory) h = extended_same old new h
+
+-- nothing changes
+pub only_same : {N : Type 0} (repo : Repository N) → OnlyAdds repo repo
+only_same repo = record { namer = refl; refs = refl; extends = extended_same repo.1.records repo.1.records refl }
+
+-- what is added in two steps
+pub only_more : {N : Type 0} (old mid new : Repository N) → OnlyAdds old mid → OnlyAdds mid new → OnlyAdds old new
+only_more old mid new h k = record {
+  namer = k.namer ∙ h.namer;
+  refs = k.refs ∙ h.refs;
+  extends = extended_more old.1.records mid.1.records new.1.records h.extends k.extends;
+}

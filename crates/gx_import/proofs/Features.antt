@@ -20,11 +20,10 @@ forced_now name r tables s h = (
       marks = h.marks;
       branches = h.branches;
       tags = h.tags;
-      branches_sorted = h.branches_sorted;
-      tags_sorted = h.tags_sorted;
       ref_names = h.ref_names;
       own = h.own;
       forced = refl;
+      published = h.published;
     };
     progress = refl;
     held = refl;

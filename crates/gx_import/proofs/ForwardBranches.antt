@@ -27,7 +27,7 @@ use Rattle.gx_import.specs.declared.branches.Tip.{Tip}
 use Rattle.gx_import.specs.declared.tables.Tables.{Tables}
 use Rattle.gx_import.specs.Objects.{IsCommitOf}
 use Rattle.gx_import.specs.RefChanges.{IsHeldByRef, is_at}
-use Rattle.gx_import.specs.Rows.{AreBoth, AreRows, rows_of}
+use Rattle.gx_import.specs.Rows.{AreBoth, AreRows}
 use Rattle.gx_import.specs.Standing.{IsTip, Stands}
 use Rattle.gx_import.proofs.Parents.{commit_by_name}
 use Rattle.gx_model.proofs.Records.HeldValues.{value_held}
@@ -72,7 +72,7 @@ pub record IsAsked (name : Kind → Bytes → Bytes) {A : Type 0} (s : State) (r
   pub so : is_fast_forward s ≡ (s.is_forced || (is_forward (ref_at s.history row.0) made && list_all (λ b. is_forward (ref_at s.history b.0) b.1) rest))
 
 module _ (name : Kind → Bytes → Bytes) {A : Type 0} (s : State) where
-  pub all_left : (r : Records) (tables : Tables A) → Stands name r tables s → AreLeft name s (rows_of tables.branches)
+  pub all_left : (r : Records) (tables : Tables A) → Stands name r tables s → AreLeft name s tables.branches
   all_left r tables h = (s.branches, h.branches, refl, all_branches (IsBranchOf s) s.branches (λ b i. i))
 
   pub first_asked : (row : Bytes × Tip A) (rows : List (Bytes × Tip A)) → AreLeft name s (row ∷ rows) → IsAsked name s row rows

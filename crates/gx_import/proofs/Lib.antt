@@ -15,7 +15,6 @@ pub mod Losses
 pub mod SetRefs
 pub mod PublishedNames
 pub mod AddedAnswers
-pub mod Extensions
 pub mod Clashes
 pub mod Contents
 pub mod KeptFiles
@@ -49,6 +48,6 @@ pub mod ExportedAgain
 pub mod RefusedExports
 pub mod LoadFaults
 pub mod TipHomes
-pub mod FoundRows
+pub mod CountedRows
 pub mod MovedChanges
 pub mod StoppedImports

@@ -4,7 +4,7 @@ use Rattle.std.specs.Prelude.{IsTrue}
 use Rattle.std.specs.Bool.{passes}
 use Rattle.std.specs.List.{AllByRecursion}
 use Rattle.std.specs.declared.cmp.Ordering.TheVariants.{Less, Equal, Greater}
-use Rattle.std.specs.FinMap.Entries.{by_order, is_sorted, is_sorted-put, put}
+use Rattle.std.specs.FinMap.Entries.{by_order, put}
 use Rattle.gx_model.specs.declared.objects.Kind.{Kind}
 use Rattle.gx_model.specs.declared.objects.Kind.TheVariants as kinds
 use Rattle.gx_model.specs.Texts.{Bytes, byte_cmp}
@@ -21,10 +21,12 @@ use Rattle.gx_import.specs.declared.branches.Tip.{Tip}
 use Rattle.gx_import.specs.declared.tables.Tables.{Tables}
 use Rattle.gx_import.specs.Marks.{marked_object, object_at}
 use Rattle.gx_import.specs.Objects.{IsCommitOf, IsOf, IsTagOf}
-use Rattle.gx_import.specs.Rows.{AreBoth, AreRows, rows_of}
-use Rattle.gx_import.specs.Standing.{AreMarks, AreTipFiles, Follows, IsTip, Stands}
+use Rattle.gx_import.specs.Rows.{AreBoth, AreRows}
+use Rattle.gx_tree.specs.Named.{NamedTree}
+use Rattle.gx_import.specs.Standing.{AreTipFiles, Follows, IsTip, Stands, tip_at}
+use Rattle.gx_import.proofs.PublishedNames.{published_tags}
 use Rattle.gx_import.proofs.RelatedRows.{related_put}
-use Rattle.gx_model.proofs.Records.SortedRefs.{order, same_text}
+use Rattle.gx_model.proofs.Records.SortedRefs.{same_text}
 use Rattle.gx_import.proofs.Standings.{marked_one, moved_branch}
 
 pub marked_history : (mark : Option ℕ) (v : Value) (s : State) → (marked mark v s).history ≡ s.history
@@ -50,20 +52,19 @@ own_put n tag e (t ∷ ts) h =
 
 module _ (name : Kind → Bytes → Bytes) {A : Type 0} where
   -- a tag that is set
-  moved_tag : (r : Records) (tables now : Tables A) (s : State) → Stands name r tables s → (tag : Tag) (called : Name) → IsTagOf name s.history.values tag called
-      → now.marks ≡ tables.marks → now.branches ≡ tables.branches → now.is_forced ≡ tables.is_forced → rows_of now.tags ≡ put byte_cmp (tag_ref tag.name) called (rows_of tables.tags)
-      → Stands name r now (record s { tags = put byte_cmp (tag_ref tag.name) tag s.tags })
-  moved_tag r tables now s h tag called is marks branches forced rows =
+  moved_tag : (r : Records) (tables : Tables A) (s : State) → Stands name r tables s → (tag : Tag) (called : Name) → IsTagOf name s.history.values tag called
+      → (rows : List (Bytes × Name)) → rows ≡ put byte_cmp (tag_ref tag.name) called tables.tags
+      → Stands name r (record tables { tags = rows }) (record s { tags = put byte_cmp (tag_ref tag.name) tag s.tags })
+  moved_tag r tables s h tag called is rows set =
       record {
         history = h.history;
-        marks = subst (AreMarks name s.history.values s.marks) (sym marks) h.marks;
-        branches = subst (λ t. AreRows (IsTip name s.history.values) s.branches (rows_of t)) (sym branches) h.branches;
-        tags = subst (AreRows (IsTagOf name s.history.values) (put byte_cmp (tag_ref tag.name) tag s.tags)) (sym rows) (related_put (IsTagOf name s.history.values) (tag_ref tag.name) tag called is s.tags (rows_of tables.tags) h.tags);
-        branches_sorted = subst (λ t. IsTrue (is_sorted byte_cmp (rows_of t))) (sym branches) h.branches_sorted;
-        tags_sorted = subst (λ rs. IsTrue (is_sorted byte_cmp rs)) (sym rows) (is_true _ (is_sorted-put byte_cmp order (tag_ref tag.name) called (rows_of tables.tags) (passes _ h.tags_sorted)));
+        marks = h.marks;
+        branches = h.branches;
+        tags = subst (AreRows (IsTagOf name s.history.values) (put byte_cmp (tag_ref tag.name) tag s.tags)) (sym set) (related_put (IsTagOf name s.history.values) (tag_ref tag.name) tag called is s.tags tables.tags h.tags);
         ref_names = h.ref_names;
         own = own_put (tag_ref tag.name) tag refl s.tags h.own;
-        forced = h.forced ∙ sym forced;
+        forced = h.forced;
+        published = published_tags s.published s.tags tables.branches (tag_ref tag.name) tag h.published;
       }
 
   -- a value that was added is marked
@@ -79,15 +80,15 @@ module _ (name : Kind → Bytes → Bytes) {A : Type 0} where
   -- a tag that was added is marked and set
   pub tag_set : (r : Records) (tables : Tables A) (before s : State) → Follows name r tables before s → (tag : Tag) (called : Name) → IsIn s.history.values (tag_value tag) → called.bytes ≡ name_of name (tag_value tag)
       → (mark : Option ℕ) (marks : Marks A) (object : Object) → object.kind ≡ kinds.Tag → object.name ≡ called → ((n : ℕ) → object_at marks n ≡ marked_object mark object n (object_at tables.marks n))
-      → (now : Tables A) → now.marks ≡ marks → now.branches ≡ tables.branches → now.is_forced ≡ tables.is_forced → rows_of now.tags ≡ put byte_cmp (tag_ref tag.name) called (rows_of tables.tags)
-      → Follows name r now before (let t : State = marked mark (tag_value tag) s in record t { tags = put byte_cmp (tag_ref tag.name) tag t.tags })
-  tag_set r tables before s f tag called i named mark marks object kind same set now at_marks at_branches at_forced at_tags =
+      → (rows : List (Bytes × Name)) → rows ≡ put byte_cmp (tag_ref tag.name) called tables.tags
+      → Follows name r (record tables { marks = marks; tags = rows }) before (let t : State = marked mark (tag_value tag) s in record t { tags = put byte_cmp (tag_ref tag.name) tag t.tags })
+  tag_set r tables before s f tag called i named mark marks object kind same set rows at_tags =
       let t = marked mark (tag_value tag) s in
       let held : IsOf name s.history.values (tag_value tag) object = record { stands = i; kind = kind; named = ap (λ n. n.bytes) same ∙ named } in
       let one = marked_one name r tables marks s f.stands (tag_value tag) object held mark set in
       let is = subst (λ h. IsTagOf name h.values tag called) (sym (marked_history mark (tag_value tag) s)) (record { stands = i; named = named }) in
       record {
-        stands = moved_tag r (record tables { marks = marks }) now t one tag called is at_marks at_branches at_forced at_tags;
+        stands = moved_tag r (record tables { marks = marks }) t one tag called is rows at_tags;
         progress = marked_progress mark (tag_value tag) s ∙ f.progress;
         held = marked_held mark (tag_value tag) s ∙ f.held;
       }
@@ -95,17 +96,18 @@ module _ (name : Kind → Bytes → Bytes) {A : Type 0} where
   -- a commit that was added is marked and put on its branch
   pub commit_set : (r : Records) (tables : Tables A) (before s : State) → Follows name r tables before s → (c : Commit) (called : Name) → IsIn s.history.values (commit_value c) → called.bytes ≡ name_of name (commit_value c)
       → (mark : Option ℕ) (marks : Marks A) (object : Object) → object.kind ≡ kinds.Commit → object.name ≡ called → ((n : ℕ) → object_at marks n ≡ marked_object mark object n (object_at tables.marks n))
-      → (ref : Bytes) → IsTrue (is_ref_name ref) → (tip : Tip A) → tip.commit ≡ Some called → AreTipFiles name (Some c) tip.files
-      → (now : Tables A) → now.marks ≡ marks → now.tags ≡ tables.tags → now.is_forced ≡ tables.is_forced → rows_of now.branches ≡ put byte_cmp ref tip (rows_of tables.branches)
+      → (ref : Bytes) → IsTrue (is_ref_name ref) → (files : Option NamedTree) → AreTipFiles name (Some c) files
+      → (now : Tables A) → now ≡ record tables { marks = marks; branches = now.branches; at_hand = now.at_hand } → now.branches ≡ put byte_cmp ref (tip_at (Some called) files tables.branches ref) tables.branches
       → Follows name r now before (on_branch ref (Some c) (marked mark (commit_value c) s))
-  commit_set r tables before s f c called i named mark marks object kind same set ref proper tip at_commit are now at_marks at_tags at_forced at_branches =
+  commit_set r tables before s f c called i named mark marks object kind same set ref proper files are now others at_branches =
       let t = marked mark (commit_value c) s in
       let held : IsOf name s.history.values (commit_value c) object = record { stands = i; kind = kind; named = ap (λ n. n.bytes) same ∙ named } in
       let one = marked_one name r tables marks s f.stands (commit_value c) object held mark set in
       let is = subst (λ h. IsCommitOf name h.values c called) (sym (marked_history mark (commit_value c) s)) (record { stands = i; named = named }) in
-      let of_tip : IsTip name t.history.values (Some c) tip = record { commit = subst (AreBoth (IsCommitOf name t.history.values) (Some c)) (sym at_commit) is; files = are } in
+      let tip = tip_at (Some called) files tables.branches ref in
+      let of_tip : IsTip name t.history.values (Some c) tip = record { commit = is; files = are } in
       record {
-        stands = moved_branch name r (record tables { marks = marks }) now t one ref proper (Some c) tip of_tip at_marks at_tags at_forced at_branches;
+        stands = moved_branch name r (record tables { marks = marks }) now t one ref proper (Some c) tip of_tip refl others at_branches;
         progress = marked_progress mark (commit_value c) s ∙ f.progress;
         held = marked_held mark (commit_value c) s ∙ f.held;
       }

@@ -4,7 +4,7 @@ use Rattle.std.specs.Prelude.{IsTrue, T, is_some, not, ◌||◌}
 use Rattle.std.specs.Bool.{passes}
 use Rattle.std.specs.List.{AllByRecursion, filter, fold}
 use Rattle.std.specs.Map.{lookup}
-use Rattle.std.specs.Ordering.{is_lt}
+use Rattle.std.specs.Ordering.{is_eq, is_lt, ordering_reverse}
 use Rattle.std.specs.FinMap.Entries.{below_all, find, find-put, is_sorted, is_sorted-put, put}
 use Rattle.std.proofs.lemmas.Bool.{true≢false}
 use Rattle.std.proofs.lemmas.List.Sums.{fold-append}
@@ -14,15 +14,18 @@ use Rattle.gx_model.specs.Texts.{Bytes, byte_cmp, same_bytes}
 use Rattle.gx_model.specs.Histories.{Record}
 use Rattle.gx_model.specs.Records.Publishing.{Change, Ref, change_fault, changes_fault, with_change, with_changes}
 use Rattle.std.specs.Option.{option_or}
+use Rattle.gx_model.proofs.Histories.PathRuns.{less_is}
 use Rattle.gx_model.proofs.Texts.PathTests.{both, first, second, same_is}
 use Rattle.gx_object.specs.declared.name.Name.{Name}
 use Rattle.gx_import.specs.declared.branches.Tip.{Tip}
 use Rattle.gx_import.specs.declared.tables.Tables.{Tables}
 use Rattle.gx_import.specs.RefChanges.{branch_changes, branch_then, changes_of, is_at, is_due, is_moved, moved_of, tag_changes}
-use Rattle.gx_import.specs.Rows.{IsSorted, rows_of}
-use Rattle.gx_import.proofs.FoundRows.{name_apart}
 use Rattle.gx_import.proofs.PublishedNames.{found, put_there}
 use Rattle.gx_model.proofs.Records.SortedRefs.{order}
+
+-- a name behind another is not the same
+name_apart : (n m : Bytes) → T (is_lt (byte_cmp n m)) → is_eq (byte_cmp m n) ≡ false
+name_apart n m h = ap is_eq (order.antisymm m n ∙ ap ordering_reverse (less_is (byte_cmp n m) h))
 
 -- ---- one branch after the other
 
@@ -174,13 +177,13 @@ sorted_tags [] h = tt
 sorted_tags (row ∷ rows) h = both _ _ (below_tags row.0 rows (first (below_all byte_cmp row.0 rows) _ h)) (sorted_tags rows (second (below_all byte_cmp row.0 rows) _ h))
 
 -- the moved branches and the tags that are to be set give what all branches and tags give
-pub moved_set : {A : Type 0} (refs : List Ref) (tables : Tables A) → IsTrue (is_sorted byte_cmp refs) → IsSorted tables.branches → IsSorted tables.tags → with_changes refs (moved_of refs tables) ≡ with_changes refs (changes_of tables)
+pub moved_set : {A : Type 0} (refs : List Ref) (tables : Tables A) → IsTrue (is_sorted byte_cmp refs) → IsTrue (is_sorted byte_cmp tables.branches) → IsTrue (is_sorted byte_cmp tables.tags) → with_changes refs (moved_of refs tables) ≡ with_changes refs (changes_of tables)
 moved_set refs tables s t u =
-    let branches = branch_changes (rows_of tables.branches) in
-    let tags = tag_changes (rows_of tables.tags) in
-    let due = is_due (rows_of tables.branches) refs in
-    let set = sym (others_set refs refs branches (passes _ s) (sorted_changes (rows_of tables.branches) (passes _ t)) (hold_same refs branches)) in
-    let rest = left_set due (with_changes refs branches) tags (sorted_with refs branches (passes _ s)) (sorted_tags (rows_of tables.tags) (passes _ u)) (tags_stand (rows_of tables.branches) refs tags) in
+    let branches = branch_changes tables.branches in
+    let tags = tag_changes tables.tags in
+    let due = is_due tables.branches refs in
+    let set = sym (others_set refs refs branches (passes _ s) (sorted_changes tables.branches (passes _ t)) (hold_same refs branches)) in
+    let rest = left_set due (with_changes refs branches) tags (sorted_with refs branches (passes _ s)) (sorted_tags tables.tags (passes _ u)) (tags_stand tables.branches refs tags) in
     fold-append with_change refs (filter (is_moved refs) branches) (filter due tags) ∙ ap (λ rs. fold with_change rs (filter due tags)) set ∙ sym rest ∙ sym (fold-append with_change refs branches tags)
 
 -- ---- changes that are refused

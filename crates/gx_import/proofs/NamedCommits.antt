@@ -18,7 +18,7 @@ use Rattle.gx_import.specs.declared.tables.Tables.{Tables}
 use Rattle.gx_model.specs.declared.faults.Fault.{Fault}
 use Rattle.gx_import.specs.Answers.{GivesAs}
 use Rattle.gx_import.specs.Objects.{IsCommitOf, IsOf, branch_object}
-use Rattle.gx_import.specs.Rows.{AreBoth, rows_of}
+use Rattle.gx_import.specs.Rows.{AreBoth}
 use Rattle.gx_import.specs.Standing.{IsTip, Stands}
 use Rattle.gx_import.specs.Steps.{or_revision, value_named}
 use Rattle.gx_import.proofs.RelatedRows.{related_found}
@@ -45,19 +45,19 @@ module _ (name : Kind → Bytes → Bytes) {A : Type 0} where
   found_gives values (Some made) tip h given = branch_gives name values made tip.commit h.commit given
 
   -- a text that names a branch
-  pub branch_named : (r : Records) (tables : Tables A) (s : State) → Stands name r tables s → (text : Bytes) (tip : Tip A) → Some tip ≡ lookup (same_bytes text) (rows_of tables.branches)
+  pub branch_named : (r : Records) (tables : Tables A) (s : State) → Stands name r tables s → (text : Bytes) (tip : Tip A) → Some tip ≡ lookup (same_bytes text) tables.branches
       → GivesAs (IsOf name s.history.values) (branch_object tip.commit) (value_named name s (Named text))
   branch_named r tables s h text tip e =
       found_gives s.history.values (lookup (same_bytes text) s.branches) tip
-      (subst (AreBoth (IsTip name s.history.values) (lookup (same_bytes text) s.branches)) (sym e) (related_found (IsTip name s.history.values) (same_bytes text) s.branches (rows_of tables.branches) h.branches))
+      (subst (AreBoth (IsTip name s.history.values) (lookup (same_bytes text) s.branches)) (sym e) (related_found (IsTip name s.history.values) (same_bytes text) s.branches tables.branches h.branches))
       (revision_value name s text)
 
   -- and one that names none
-  pub revision_named : (r : Records) (tables : Tables A) (s : State) → Stands name r tables s → (text : Bytes) → None ≡ lookup (same_bytes text) (rows_of tables.branches)
+  pub revision_named : (r : Records) (tables : Tables A) (s : State) → Stands name r tables s → (text : Bytes) → None ≡ lookup (same_bytes text) tables.branches
       → (result : Result Object Fault) → GivesAs (IsOf name (history_of r).values) result (revision_of text >>= λ v. value_denoted name (history_of r) v)
       → GivesAs (IsOf name s.history.values) result (value_named name s (Named text))
   revision_named r tables s h text e result k =
       let none = none_found name A s.history.values (lookup (same_bytes text) s.branches)
-      (subst (AreBoth (IsTip name s.history.values) (lookup (same_bytes text) s.branches)) (sym e) (related_found (IsTip name s.history.values) (same_bytes text) s.branches (rows_of tables.branches) h.branches)) in
+      (subst (AreBoth (IsTip name s.history.values) (lookup (same_bytes text) s.branches)) (sym e) (related_found (IsTip name s.history.values) (same_bytes text) s.branches tables.branches h.branches)) in
       subst (λ o. GivesAs (IsOf name s.history.values) result (or_revision o (revision_value name s text))) (sym none)
       (subst (λ z. GivesAs (IsOf name z.values) result (revision_of text >>= λ v. value_denoted name z v)) h.history k)

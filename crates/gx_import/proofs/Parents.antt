@@ -19,9 +19,10 @@ use Rattle.gx_model.proofs.Records.HeldValues.{value_held}
 use Rattle.gx_import.specs.declared.branches.Tip.{Tip}
 use Rattle.gx_import.specs.declared.tables.Tables.{Tables}
 use Rattle.gx_import.specs.Objects.{IsCommitOf, IsTagOf}
-use Rattle.gx_import.specs.Rows.{AreBoth, AreRows, rows_of}
+use Rattle.gx_import.specs.Rows.{AreBoth, AreRows}
 use Rattle.gx_tree.specs.Named.{NamedTree}
 use Rattle.gx_import.specs.Standing.{AreMarks, AreTipFiles, IsTaken, IsTip, Stands, WereFiles}
+use Rattle.gx_import.proofs.PublishedNames.{published_same, tips_same}
 use Rattle.gx_import.proofs.RelatedRows.{related_found, related_through}
 
 module _ (name : Kind → Bytes → Bytes) where
@@ -56,27 +57,25 @@ module _ (name : Kind → Bytes → Bytes) {A : Type 0} where
 
   tip_taken : (values : List Value) (c : Option Commit) (old new : Tip A) → IsTip name values c old → IsTaken old new → IsTip name values c new
   tip_taken values c old new h k =
-      record { commit = subst (AreBoth (IsCommitOf name values) c) (sym k.0) h.commit; files = left k.1 }
+      record { commit = subst (AreBoth (IsCommitOf name values) c) (sym k.0) h.commit; files = left k.2 }
     where
       left : (new.files ≡ old.files) ⊎ (new.files ≡ None) → AreTipFiles name c new.files
       left (inl e) = subst (AreTipFiles name c) (sym e) h.files
       left (inr e) = subst (AreTipFiles name c) (sym e) tt
 
   -- where files were taken, the tables stand for the same state
-  pub taken_stands : (r : Records) (tables now : Tables A) (s : State) → Stands name r tables s → now.marks ≡ tables.marks → now.tags ≡ tables.tags → now.is_forced ≡ tables.is_forced
-      → AreRows IsTaken (rows_of tables.branches) (rows_of now.branches) → IsTrue (is_sorted byte_cmp (rows_of now.branches)) → Stands name r now s
-  taken_stands r tables now s h marks tags forced taken sorted =
-      record {
-        history = h.history;
-        marks = subst (AreMarks name s.history.values s.marks) (sym marks) h.marks;
-        branches = related_through (IsTip name s.history.values) IsTaken (IsTip name s.history.values) (tip_taken s.history.values) s.branches (rows_of tables.branches) (rows_of now.branches) h.branches taken;
-        tags = subst (λ t. AreRows (IsTagOf name s.history.values) s.tags (rows_of t)) (sym tags) h.tags;
-        branches_sorted = sorted;
-        tags_sorted = subst (λ t. IsTrue (is_sorted byte_cmp (rows_of t))) (sym tags) h.tags_sorted;
-        ref_names = h.ref_names;
-        own = h.own;
-        forced = h.forced ∙ sym forced;
-      }
+  pub taken_stands : (r : Records) (tables now : Tables A) (s : State) → Stands name r tables s → now ≡ record tables { branches = now.branches; at_hand = now.at_hand }
+      → AreRows IsTaken tables.branches now.branches → Stands name r now s
+  taken_stands r tables now s h others taken = subst (λ t. Stands name r t s) (sym others) (record {
+    history = h.history;
+    marks = h.marks;
+    branches = related_through (IsTip name s.history.values) IsTaken (IsTip name s.history.values) (tip_taken s.history.values) s.branches tables.branches now.branches h.branches taken;
+    tags = h.tags;
+    ref_names = h.ref_names;
+    own = h.own;
+    forced = h.forced;
+    published = published_same s.published s.tags tables.branches now.branches (tips_same tables.branches now.branches taken) h.published;
+  })
 
   at_tip : (values : List Value) (o : Option (Option Commit)) (tip : Tip A) → AreBoth (IsTip name values) o (Some tip) → (n : Name) (files : NamedTree) → tip.commit ≡ Some n → tip.files ≡ Some files
       → (c : Commit) × IsCommitOf name values c n × (files.files ≡ named_map name (files_of c))
@@ -88,10 +87,10 @@ module _ (name : Kind → Bytes → Bytes) {A : Type 0} where
       of (Some c) i j = (c, i, j)
 
   -- files that were at hand are those of the first parent
-  pub taken_files : IsNamer name → (r : Records) → IsSound name r → (tables : Tables A) (s : State) → Stands name r tables s → (branch : Bytes) (n : Name) (files : NamedTree) → WereFiles (rows_of tables.branches) branch n files
+  pub taken_files : IsNamer name → (r : Records) → IsSound name r → (tables : Tables A) (s : State) → Stands name r tables s → (branch : Bytes) (n : Name) (files : NamedTree) → WereFiles tables.branches branch n files
       → (made : Option Commit) → AreBoth (IsCommitOf name s.history.values) made (Some n) → files.files ≡ named_map name (starting_files made)
   taken_files namer r sound tables s h branch n files (tip, found, (at, of)) made first =
-      let both = subst (AreBoth (IsTip name s.history.values) (lookup (same_bytes branch) s.branches)) found (related_found (IsTip name s.history.values) (same_bytes branch) s.branches (rows_of tables.branches) h.branches) in
+      let both = subst (AreBoth (IsTip name s.history.values) (lookup (same_bytes branch) s.branches)) found (related_found (IsTip name s.history.values) (same_bytes branch) s.branches tables.branches h.branches) in
       let t = at_tip s.history.values (lookup (same_bytes branch) s.branches) tip both n files at of in
       let own = commit_by_name name namer r sound t.0 n (subst (λ z. IsCommitOf name z.values t.0 n) (sym h.history) t.1) in
       t.2 ∙ ap (λ c. named_map name (files_of c)) (sym own.same) ∙ ap (named_map name) (parent_files name namer r sound s h.history made n first)

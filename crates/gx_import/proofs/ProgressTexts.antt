@@ -45,10 +45,9 @@ pub record HasSame (s t : State) : Type 0 where
   pub progress : t.progress ≡ s.progress
   pub held : t.held ≡ s.held
   pub kept : t.kept ≡ s.kept
-  pub published : t.published ≡ s.published
 
 same : (s : State) → HasSame s s
-same s = record { progress = refl; held = refl; kept = refl; published = refl }
+same s = record { progress = refl; held = refl; kept = refl }
 
 -- and maybe more progress
 pub record HasMore (s t : State) : Type 0 where
@@ -61,14 +60,14 @@ no_more s t h = record { text = []; progress = h.progress ∙ sym (append-nil s.
 
 same_marked : (m : Option ℕ) (v : Value) (s t : State) → HasSame s t → HasSame s (marked m v t)
 same_marked None v s t h = h
-same_marked (Some n) v s t h = record { progress = h.progress; held = h.held; kept = h.kept; published = h.published }
+same_marked (Some n) v s t h = record { progress = h.progress; held = h.held; kept = h.kept }
 
 module _ (name : Kind → Bytes → Bytes) where
   same_content : (s : State) (m : Mode) (d : DataRef) → IfOk (content name s m d) (λ r. HasSame s r.0)
   same_content s Gitlink (Object x) = same s
   same_content s m (Mark n) = next_has (λ r. HasSame s r.0) (at s n) _ (λ v. next_has (λ r. HasSame s r.0) (blob_bytes v) _ (λ x. same s))
   same_content s m (Object x) = next_has (λ r. HasSame s r.0) (base_value name s.history x) _ (λ v. next_has (λ r. HasSame s r.0) (blob_bytes v) _ (λ y. same s))
-  same_content s m (Inline x) = record { progress = refl; held = refl; kept = refl; published = refl }
+  same_content s m (Inline x) = record { progress = refl; held = refl; kept = refl }
 
   same_changed : (s : State) (f : FileMap Bytes) (c : Change) → IfOk (changed name s f c) (λ r. HasSame s r.0)
   same_changed s f (Modify m d p) = then_has (λ r. HasSame s r.0) (λ r. HasSame s r.0) (content name s m d) _ (same_content s m d) (λ r h. next_has (λ q. HasSame s q.0) (modified f p (m, r.1)) _ (λ g. h))
@@ -78,7 +77,7 @@ module _ (name : Kind → Bytes → Bytes) where
   same_changed s f Clear = same s
 
   then_same : (s t : State) → HasSame s t → (r : Result (State × FileMap Bytes) Fault) → IfOk r (λ q. HasSame t q.0) → IfOk r (λ q. HasSame s q.0)
-  then_same s t h (Ok q) k = record { progress = k.progress ∙ h.progress; held = k.held ∙ h.held; kept = k.kept ∙ h.kept; published = k.published ∙ h.published }
+  then_same s t h (Ok q) k = record { progress = k.progress ∙ h.progress; held = k.held ∙ h.held; kept = k.kept ∙ h.kept }
   then_same s t h (Err e) k = tt
 
   same_all_changed : (s : State) (f : FileMap Bytes) (cs : List Change) → IfOk (all_changed name s f cs) (λ r. HasSame s r.0)
@@ -93,22 +92,22 @@ module _ (name : Kind → Bytes → Bytes) where
       then_has (λ r. HasSame s r.0) (HasSame s) (all_changed name s (starting_files first) c.changes) _ (same_all_changed s (starting_files first) c.changes)
       (λ r h.
       let made = commit_value (commit r.1 (commits_of (with_first_parent first others)) (text_made c)) in
-      let m = same_marked c.mark made s (added made r.0) (record { progress = h.progress; held = h.held; kept = h.kept; published = h.published }) in
-      record { progress = m.progress; held = m.held; kept = m.kept; published = m.published })))
+      let m = same_marked c.mark made s (added made r.0) (record { progress = h.progress; held = h.held; kept = h.kept }) in
+      record { progress = m.progress; held = m.held; kept = m.kept })))
 
   same_tag : (s : State) (t : TagParts) → IfOk (step_tag name s t) (HasSame s)
   same_tag s t =
       next_has (HasSame s) (committed name commit_alone s t.target) _ (λ c.
       let made = tag_value (tag_made c t) in
-      let m = same_marked t.mark made s (added made s) (record { progress = refl; held = refl; kept = refl; published = refl }) in
-      record { progress = m.progress; held = m.held; kept = m.kept; published = m.published })
+      let m = same_marked t.mark made s (added made s) (record { progress = refl; held = refl; kept = refl }) in
+      record { progress = m.progress; held = m.held; kept = m.kept })
 
   same_reset : (s : State) (b : Bytes) (x : Option CommitIsh) → IfOk (step_reset name s b x) (HasSame s)
-  same_reset s b None = record { progress = refl; held = refl; kept = refl; published = refl }
-  same_reset s b (Some x) = next_has (HasSame s) (committed_for name b s x) _ (λ c. record { progress = refl; held = refl; kept = refl; published = refl })
+  same_reset s b None = record { progress = refl; held = refl; kept = refl }
+  same_reset s b (Some x) = next_has (HasSame s) (committed_for name b s x) _ (λ c. record { progress = refl; held = refl; kept = refl })
 
   same_blob : (s : State) (m : Option ℕ) (x : Bytes) → HasSame s (marked m (blob_value x) (added (blob_value x) s))
-  same_blob s m x = same_marked m (blob_value x) s (added (blob_value x) s) (record { progress = refl; held = refl; kept = refl; published = refl })
+  same_blob s m x = same_marked m (blob_value x) s (added (blob_value x) s) (record { progress = refl; held = refl; kept = refl })
 
   all_more : (s : State) (r : Result State Fault) → IfOk r (HasSame s) → IfOk r (HasMore s)
   all_more s (Ok t) h = no_more s t h
@@ -136,27 +135,22 @@ module _ (name : Kind → Bytes → Bytes) where
 
   -- ---- what a command but a checkpoint leaves
 
-  -- what is kept, and what was published
-  pub record HasKept (s t : State) : Type 0 where
-    pub kept : t.kept ≡ s.kept
-    pub published : t.published ≡ s.published
-
-  all_kept : (s : State) (r : Result State Fault) → IfOk r (HasSame s) → IfOk r (HasKept s)
-  all_kept s (Ok t) h = record { kept = h.kept; published = h.published }
+  all_kept : (s : State) (r : Result State Fault) → IfOk r (HasSame s) → IfOk r (λ t. t.kept ≡ s.kept)
+  all_kept s (Ok t) h = h.kept
   all_kept s (Err e) h = tt
 
-  pub kept_still : (s : State) (c : Command) → IsOther c → IfOk (step name s c) (HasKept s)
-  kept_still s (Blob b) o = let h = same_blob s b.mark b.bytes in record { kept = h.kept; published = h.published }
+  pub kept_still : (s : State) (c : Command) → IsOther c → IfOk (step name s c) (λ t. t.kept ≡ s.kept)
+  kept_still s (Blob b) o = (same_blob s b.mark b.bytes).kept
   kept_still s (command.Commit c) o = all_kept s (step_commit name s c) (same_commit s c)
   kept_still s (command.Tag t) o = all_kept s (step_tag name s t) (same_tag s t)
   kept_still s (Reset r) o = all_kept s (step_reset name s r.ref r.parent) (same_reset s r.ref r.parent)
-  kept_still s (Progress x) o = record { kept = refl; published = refl }
-  kept_still s (Asks features.Force) o = record { kept = refl; published = refl }
-  kept_still s (Asks features.Done) o = record { kept = refl; published = refl }
+  kept_still s (Progress x) o = refl
+  kept_still s (Asks features.Force) o = refl
+  kept_still s (Asks features.Done) o = refl
   kept_still s Checkpoint o = absurd o
-  kept_still s (Asks features.RawDates) o = record { kept = refl; published = refl }
-  kept_still s (OptionLine t) o = record { kept = refl; published = refl }
-  kept_still s Done o = record { kept = refl; published = refl }
+  kept_still s (Asks features.RawDates) o = refl
+  kept_still s (OptionLine t) o = refl
+  kept_still s Done o = refl
 
   -- ---- the outcome's
 

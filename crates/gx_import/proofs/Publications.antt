@@ -22,8 +22,9 @@ use Rattle.gx_import.specs.Publishing.{Publishes}
 use Rattle.gx_import.specs.Replaying.{EndsAs, IsLast}
 use Rattle.gx_import.specs.Standing.{Extends}
 use Rattle.gx_import.specs.declared.report.Report.{Report}
+use Rattle.gx_import.specs.declared.tables.Tables.{Tables}
 use Rattle.gx_model.specs.declared.faults.Fault.{Fault}
-use Rattle.gx_model.specs.declared.faults.Fault.TheVariants.{OutOfMemory, ReadFailed, WriteFailed, UnknownCommand, BadLine, BadNumber, TruncatedData, BadPath, PathTooLong, BadMode, BadIdent, BadRefName, UnknownMark, WrongKind, UnknownObject, NoSuchPath, RootNotTree, FromItself, EmptyBranch, Unsupported, LateOption, MissingDone, NotFastForward, NameHeld, BadRevision, UnknownRef, Ambiguous, NoParent}
+use Rattle.gx_model.specs.declared.faults.Fault.TheVariants.{NotFastForward, OutOfMemory}
 use Rattle.gx_import.proofs.ProgressTexts.{begins_outcome, numbers_outcome}
 use Rattle.gx_import.proofs.ReachedStates.{from_one, imported_is}
 
@@ -63,63 +64,41 @@ module _ (asks : Features) (name : Kind → Bytes → Bytes) where
         (commands.list, [], sym (append-nil commands.list), sym (ap (λ m. m + 1) k.count), s.progress, s.kept, k.cut, leaves),
       )
 
-  not_published : (old new mid last : Records) (commands : Commands) (n : ℕ) (s : State) (was now : Option Taken) → IsLast asks name old commands n s was now → (count : ℕ) → Leaves new count s.kept → (e : Fault)
-      → Publishes s mid last (Err e) → Replays asks name old new commands (replayed_asked name asks (history_of old) commands) was now (Err (record { command = n + 1; kind = e; checkpoints = count }))
-  not_published old new mid last commands n s was now k count leaves OutOfMemory h = no_memory old new commands n s was now k count leaves
-  not_published old new mid last commands n s was now k count leaves ReadFailed h = absurd h
-  not_published old new mid last commands n s was now k count leaves WriteFailed h = absurd h
-  not_published old new mid last commands n s was now k count leaves UnknownCommand h = absurd h
-  not_published old new mid last commands n s was now k count leaves BadLine h = absurd h
-  not_published old new mid last commands n s was now k count leaves BadNumber h = absurd h
-  not_published old new mid last commands n s was now k count leaves TruncatedData h = absurd h
-  not_published old new mid last commands n s was now k count leaves BadPath h = absurd h
-  not_published old new mid last commands n s was now k count leaves PathTooLong h = absurd h
-  not_published old new mid last commands n s was now k count leaves BadMode h = absurd h
-  not_published old new mid last commands n s was now k count leaves BadIdent h = absurd h
-  not_published old new mid last commands n s was now k count leaves BadRefName h = absurd h
-  not_published old new mid last commands n s was now k count leaves UnknownMark h = absurd h
-  not_published old new mid last commands n s was now k count leaves WrongKind h = absurd h
-  not_published old new mid last commands n s was now k count leaves UnknownObject h = absurd h
-  not_published old new mid last commands n s was now k count leaves NoSuchPath h = absurd h
-  not_published old new mid last commands n s was now k count leaves RootNotTree h = absurd h
-  not_published old new mid last commands n s was now k count leaves FromItself h = absurd h
-  not_published old new mid last commands n s was now k count leaves EmptyBranch h = absurd h
-  not_published old new mid last commands n s was now k count leaves Unsupported h = absurd h
-  not_published old new mid last commands n s was now k count leaves LateOption h = absurd h
-  not_published old new mid last commands n s was now k count leaves MissingDone h = absurd h
-  not_published old new mid last commands n s was now k count leaves NotFastForward h = backward old new commands n s was now k h.0 count leaves
-  not_published old new mid last commands n s was now k count leaves NameHeld h = absurd h
-  not_published old new mid last commands n s was now k count leaves BadRevision h = absurd h
-  not_published old new mid last commands n s was now k count leaves UnknownRef h = absurd h
-  not_published old new mid last commands n s was now k count leaves Ambiguous h = absurd h
-  not_published old new mid last commands n s was now k count leaves NoParent h = absurd h
+  not_published : {A : Type 0} (old new last : Records) (tables : Tables A) (commands : Commands) (n : ℕ) (s : State) (was now : Option Taken) → IsLast asks name old commands n s was now → (count : ℕ) → Leaves new count s.kept → (e : Fault)
+      → Publishes name s last tables (Err e) → Replays asks name old new commands (replayed_asked name asks (history_of old) commands) was now (Err (record { command = n + 1; kind = e; checkpoints = count }))
+  not_published old new last tables commands n s was now k count leaves e h =
+      let stops : Fault → Type 0 = λ fault. Replays asks name old new commands (replayed_asked name asks (history_of old) commands) was now (Err (record { command = n + 1; kind = fault; checkpoints = count })) in
+      elim h as (λ _. stops e) [
+        | inl is ↦ subst stops (sym is) (no_memory old new commands n s was now k count leaves)
+        | inr is ↦ subst stops (sym is.0) (backward old new commands n s was now k is.1 count leaves)
+      ]
 
   -- an import that is accepted
-  pub imports_all : (old new mid : Records) (coming : Option Coming) (n : ℕ) (s : State) (was now : Option Taken) → EndsAs asks name old coming n s was now → HistoriesOf name → IsSound name old → IsSound name new
-      → (count : ℕ) → Publishes s mid new (Ok tt) → count ≡ length (overwritten s s.published)
+  pub imports_all : {A : Type 0} (old new : Records) (tables : Tables A) (coming : Option Coming) (n : ℕ) (s : State) (was now : Option Taken) → EndsAs asks name old coming n s was now → HistoriesOf name → IsSound name old → IsSound name new
+      → (count : ℕ) → Publishes name s new tables (Ok tt) → count ≡ length (overwritten s s.published)
       → Imports asks name old new coming was now (Ok (record { commands = n; objects = length new.records - length old.records; refs = count }))
-  imports_all old new mid coming n s was now k law sound sounds count h counts = by coming k
+  imports_all old new tables coming n s was now k law sound sounds count h counts = by coming k
     where
       adds : (commands : Commands) → IsLast asks name old commands n s was now → length new.records - length old.records ≡ length s.history.values - s.held
       adds commands last =
-          let now_held = counted name law new sounds ∙ ap (λ x. length x.values) h.1 in
+          let now_held = counted name law new sounds ∙ ap (λ x. length x.values) h.1.history in
           let was_held = counted name law old sound ∙ sym last.held in
           ap (λ x. x - length old.records) now_held ∙ ap (λ x. length s.history.values - x) was_held
 
       replays : (commands : Commands) → IsLast asks name old commands n s was now → Replays asks name old new commands (replayed_on asks name old commands) was now (Ok (record { commands = n; objects = length new.records - length old.records; refs = count }))
-      replays commands last = forward old new commands n s was now last (length new.records - length old.records) count h.0 h.1 counts (adds commands last)
+      replays commands last = forward old new commands n s was now last (length new.records - length old.records) count h.0 h.1.history counts (adds commands last)
 
       by : (c : Option Coming) → EndsAs asks name old c n s was now → Imports asks name old new c was now (Ok (record { commands = n; objects = length new.records - length old.records; refs = count }))
       by None last = (only last.0, tt, replays (only last.0) last.1)
       by (Some c) last = subst (λ o. Replays asks name old new (commands_asked_from asks c) o was now (Ok (record { commands = n; objects = length new.records - length old.records; refs = count }))) (sym (imported_is asks name (history_of old) c)) (replays (commands_asked_from asks c) last)
 
   -- one that isn't published
-  pub imports_none : (old new mid last : Records) (coming : Option Coming) (n : ℕ) (s : State) (was now : Option Taken) → EndsAs asks name old coming n s was now → (count : ℕ) → Leaves new count s.kept → (e : Fault) → Publishes s mid last (Err e)
+  pub imports_none : {A : Type 0} (old new last : Records) (tables : Tables A) (coming : Option Coming) (n : ℕ) (s : State) (was now : Option Taken) → EndsAs asks name old coming n s was now → (count : ℕ) → Leaves new count s.kept → (e : Fault) → Publishes name s last tables (Err e)
       → Imports asks name old new coming was now (Err (record { command = n + 1; kind = e; checkpoints = count }))
-  imports_none old new mid last None n s was now k count leaves e h = (only k.0, tt, not_published old new mid last (only k.0) n s was now k.1 count leaves e h)
-  imports_none old new mid last (Some coming) n s was now k count leaves e h =
+  imports_none old new last tables None n s was now k count leaves e h = (only k.0, tt, not_published old new last tables (only k.0) n s was now k.1 count leaves e h)
+  imports_none old new last tables (Some coming) n s was now k count leaves e h =
       subst (λ o. Replays asks name old new (commands_asked_from asks coming) o was now (Err (record { command = n + 1; kind = e; checkpoints = count }))) (sym (imported_is asks name (history_of old) coming))
-      (not_published old new mid last (commands_asked_from asks coming) n s was now k count leaves e h)
+      (not_published old new last tables (commands_asked_from asks coming) n s was now k count leaves e h)
 
   -- the new repository stands for the history of the replay
   stands_for : (new : Records) (outcome : Outcome) (text : Bytes) (report : model.Report) → HistoriesOf name → IsSound name new → outcome ≡ finished (history_of new) text report → StandsForIts name outcome new

@@ -46,6 +46,7 @@ use Rattle.gx_model.specs.declared.faults.Fault.TheVariants.{OutOfMemory, ReadFa
 use Rattle.gx_import.specs.declared.tables.Tables.{Tables}
 use Rattle.gx_model.proofs.Texts.SentTexts.{failed_after, failed_longer, took_both, took_nothing}
 use Rattle.gx_import.proofs.ProgressTexts.{begins_outcome, last_progress, numbers_outcome}
+use Rattle.gx_import.proofs.PublishedNames.{none_published}
 
 -- numbers of commands are from 1
 pub from_one : (n : ℕ) → 1 ≤ n + 1
@@ -328,11 +329,10 @@ stand_empty name {A} r tables h = record {
   marks = λ n. subst (AreBoth (IsOf name (history_of r).values) None) (sym (h.marks n)) tt;
   branches = subst (AreRows (IsTip name (history_of r).values) []) (sym h.branches) tt;
   tags = subst (AreRows (IsTagOf name (history_of r).values) []) (sym h.tags) tt;
-  branches_sorted = subst (λ rows. IsTrue (is_sorted byte_cmp rows)) (sym h.branches) refl;
-  tags_sorted = subst (λ rows. IsTrue (is_sorted byte_cmp rows)) (sym h.tags) refl;
   ref_names = refl;
   own = tt;
   forced = refl;
+  published = none_published [] tables.branches h.branches;
 }
 
 -- a replay that begins so has no commit with a gitlink of forty zeros, where its history has none
@@ -348,7 +348,3 @@ step_keeps name s t c e free brings = subst (λ r. IfOk r IsFreeState) e (step_f
 -- which values a history has hangs on the records alone
 pub same_records_keep : (r s : Records) → s.records ≡ r.records → HoldsNoNullGitlink (history_of r) → HoldsNoNullGitlink (history_of s)
 same_records_keep r s e none = subst (λ rs. HoldsNoNullGitlink (history_of (record { records = rs; refs = [] }))) (sym e) none
-
--- records behind others, and more behind these
-pub extends_more : (old mid new : List Record) → Extends old mid → Extends mid new → Extends old new
-extends_more old mid new h k = (h.0 ++ k.0, k.1 ∙ ap (λ x. x ++ k.0) h.1 ∙ append_assoc old h.0 k.0)

@@ -81,3 +81,18 @@ sorted_same Is [] [] h = refl
 sorted_same Is [] (y ∷ ys) h = absurd h
 sorted_same Is (x ∷ xs) [] h = absurd h
 sorted_same Is (x ∷ xs) (y ∷ ys) h = ap (λ k. below_all byte_cmp k xs && is_sorted byte_cmp xs) h.0 ∙ (λ i. below_same Is y.0 xs ys h.2 i && sorted_same Is xs ys h.2 i)
+
+module _ {T : Type 0} (f : T → T) where
+  -- values that are changed alike
+  pub changed_rows : {A : Type 0} (es : List (Vec ℕ A × T)) → map row_of (map (λ e. (e.0, f e.1)) es) ≡ map (λ row. (row.0, f row.1)) (map row_of es)
+  changed_rows [] = refl
+  changed_rows (e ∷ es) = ap (λ rows. (e.0.items, f e.1) ∷ rows) (changed_rows es)
+
+  below_changed : (k : Bytes) (rows : List (Bytes × T)) → below_all byte_cmp k rows ≡ below_all byte_cmp k (map (λ row. (row.0, f row.1)) rows)
+  below_changed k [] = refl
+  below_changed k (row ∷ rows) = ap (λ b. is_lt (byte_cmp k row.0) && b) (below_changed k rows)
+
+  -- leave their names in order
+  pub changed_sorted : (rows : List (Bytes × T)) → is_sorted byte_cmp rows ≡ is_sorted byte_cmp (map (λ row. (row.0, f row.1)) rows)
+  changed_sorted [] = refl
+  changed_sorted (row ∷ rows) = λ i. below_changed row.0 rows i && changed_sorted rows i

@@ -39,7 +39,7 @@ use Rattle.gx_import.specs.declared.branches.Tip.{Tip}
 use Rattle.gx_import.specs.declared.tables.Tables.{Tables}
 use Rattle.gx_import.specs.Objects.{IsCommitOf, IsTagOf}
 use Rattle.gx_import.specs.RefChanges.{branch_changes, branch_then, changes_of, tag_changes}
-use Rattle.gx_import.specs.Rows.{AreBoth, AreRows, rows_of}
+use Rattle.gx_import.specs.Rows.{AreBoth, AreRows}
 use Rattle.gx_import.specs.Standing.{IsTip, Stands}
 use Rattle.gx_model.proofs.Records.SortedRefs.{order, same_text}
 
@@ -133,7 +133,7 @@ module _ (name : Kind → Bytes → Bytes) where
   -- the changes of an import are those of its state
   pub changes_seen : {A : Type 0} (r : Records) (tables : Tables A) (s : State) → Stands name r tables s → changes_of tables ≡ map seen (targets_of s)
   changes_seen r tables s h =
-      (λ i. branches_seen s.history.values s.branches (rows_of tables.branches) h.branches i ++ tags_seen s.history.values s.tags (rows_of tables.tags) h.tags i)
+      (λ i. branches_seen s.history.values s.branches tables.branches h.branches i ++ tags_seen s.history.values s.tags tables.tags h.tags i)
       ∙ sym (map-append seen (branch_targets s.branches) (tag_targets s.tags))
 
 -- ---- good refs
@@ -211,8 +211,8 @@ module _ (name : Kind → Bytes → Bytes) {A : Type 0} where
   pub targets_good : (r : Records) (tables : Tables A) (s : State) → Stands name r tables s → T (list_all is_proper s.history.values) → AllByRecursion (IsGood s.history.values) (targets_of s)
   targets_good r tables s h proper =
       all_both (IsGood s.history.values) (branch_targets s.branches) (tag_targets s.tags)
-      (branches_good s.history.values s.branches (rows_of tables.branches) h.branches (passes _ h.ref_names))
-      (tags_good name s.history.values proper s.tags (rows_of tables.tags) h.tags h.own)
+      (branches_good s.history.values s.branches tables.branches h.branches (passes _ h.ref_names))
+      (tags_good name s.history.values proper s.tags tables.tags h.tags h.own)
 
 module _ (name : Kind → Bytes → Bytes) (namer : IsNamer name) (r : Records) (sound : IsSound name r) where
   may_hold : (n : Bytes) (x : Target) → T (is_proper (value_at x)) → IsRefOf n x → is_target_of_kind n (kind_of name (value_at x)) (body_of name (value_at x)) ≡ true

@@ -5,7 +5,7 @@ use Rattle.std.specs.Bool.{passes}
 use Rattle.std.specs.List.{list_all}
 use Rattle.std.specs.Map.{lookup}
 use Rattle.std.specs.declared.cmp.Ordering.TheVariants.{Less, Equal, Greater}
-use Rattle.std.specs.FinMap.Entries.{by_order, is_sorted, is_sorted-put, put}
+use Rattle.std.specs.FinMap.Entries.{by_order, put}
 use Rattle.gx_model.specs.declared.objects.Kind.{Kind}
 use Rattle.gx_model.specs.Texts.{Bytes, byte_cmp}
 use Rattle.gx_model.specs.Texts.RefNames.{is_ref_name}
@@ -23,10 +23,10 @@ use Rattle.gx_import.specs.declared.branches.Tip.{Tip}
 use Rattle.gx_import.specs.declared.tables.Tables.{Tables}
 use Rattle.gx_import.specs.Marks.{marked_object, object_at}
 use Rattle.gx_import.specs.Objects.{IsCommitOf, IsOf, IsTagOf}
-use Rattle.gx_import.specs.Rows.{AreBoth, AreRows, rows_of}
-use Rattle.gx_import.specs.Standing.{AreMarks, IsTip, Stands}
+use Rattle.gx_import.specs.Rows.{AreBoth, AreRows}
+use Rattle.gx_import.specs.Standing.{IsTip, Stands, is_published}
+use Rattle.gx_import.proofs.PublishedNames.{published_same, tip_put}
 use Rattle.gx_import.proofs.RelatedRows.{related_more, related_put}
-use Rattle.gx_model.proofs.Records.SortedRefs.{order}
 
 -- ---- values stay, and the one that is added stands
 
@@ -82,13 +82,12 @@ module _ (name : Kind → Bytes → Bytes) {A : Type 0} where
       record {
         history = has ∙ ap (λ z. record { values = values; refs = z.refs }) h.history;
         marks = λ n. both_more (IsOf name s.history.values) (IsOf name values) (object_kept name s.history.values values k) (lookup (nat_eq n) s.marks) (object_at tables.marks n) (h.marks n);
-        branches = related_more (IsTip name s.history.values) (IsTip name values) (tip_kept s.history.values values k) s.branches (rows_of tables.branches) h.branches;
-        tags = related_more (IsTagOf name s.history.values) (IsTagOf name values) (tag_kept name s.history.values values k) s.tags (rows_of tables.tags) h.tags;
-        branches_sorted = h.branches_sorted;
-        tags_sorted = h.tags_sorted;
+        branches = related_more (IsTip name s.history.values) (IsTip name values) (tip_kept s.history.values values k) s.branches tables.branches h.branches;
+        tags = related_more (IsTagOf name s.history.values) (IsTagOf name values) (tag_kept name s.history.values values k) s.tags tables.tags h.tags;
         ref_names = h.ref_names;
         own = h.own;
         forced = h.forced;
+        published = h.published;
       }
 
   -- with one value more
@@ -107,11 +106,10 @@ module _ (name : Kind → Bytes → Bytes) {A : Type 0} where
         marks = λ n. subst (AreBoth (IsOf name s.history.values) (lookup (nat_eq n) s.marks)) (sym (set n)) (h.marks n);
         branches = h.branches;
         tags = h.tags;
-        branches_sorted = h.branches_sorted;
-        tags_sorted = h.tags_sorted;
         ref_names = h.ref_names;
         own = h.own;
         forced = h.forced;
+        published = h.published;
       }
   marked_one r tables marks s h v object is (Some mark) set =
       record {
@@ -119,11 +117,10 @@ module _ (name : Kind → Bytes → Bytes) {A : Type 0} where
         marks = λ n. subst (AreBoth (IsOf name s.history.values) (cond (nat_eq n mark) (Some v) (lookup (nat_eq n) s.marks))) (sym (set n)) (at n);
         branches = h.branches;
         tags = h.tags;
-        branches_sorted = h.branches_sorted;
-        tags_sorted = h.tags_sorted;
         ref_names = h.ref_names;
         own = h.own;
         forced = h.forced;
+        published = h.published;
       }
     where
       at : (n : ℕ) → AreBoth (IsOf name s.history.values) (cond (nat_eq n mark) (Some v) (lookup (nat_eq n) s.marks)) (cond (nat_eq n mark) (Some object) (object_at tables.marks n))
@@ -131,16 +128,14 @@ module _ (name : Kind → Bytes → Bytes) {A : Type 0} where
 
   -- a branch that moves
   pub moved_branch : (r : Records) (tables now : Tables A) (s : State) → Stands name r tables s → (n : Bytes) → IsTrue (is_ref_name n) → (c : Option Commit) (tip : Tip A) → IsTip name s.history.values c tip
-      → now.marks ≡ tables.marks → now.tags ≡ tables.tags → now.is_forced ≡ tables.is_forced → rows_of now.branches ≡ put byte_cmp n tip (rows_of tables.branches) → Stands name r now (on_branch n c s)
-  moved_branch r tables now s h n ref c tip is marks tags forced rows =
-      record {
-        history = h.history;
-        marks = subst (AreMarks name s.history.values s.marks) (sym marks) h.marks;
-        branches = subst (AreRows (IsTip name s.history.values) (put byte_cmp n c s.branches)) (sym rows) (related_put (IsTip name s.history.values) n c tip is s.branches (rows_of tables.branches) h.branches);
-        tags = subst (λ t. AreRows (IsTagOf name s.history.values) s.tags (rows_of t)) (sym tags) h.tags;
-        branches_sorted = subst (λ rs. IsTrue (is_sorted byte_cmp rs)) (sym rows) (is_true _ (is_sorted-put byte_cmp order n tip (rows_of tables.branches) (passes _ h.branches_sorted)));
-        tags_sorted = subst (λ t. IsTrue (is_sorted byte_cmp (rows_of t))) (sym tags) h.tags_sorted;
-        ref_names = is_true _ (names_put n c s.branches (passes _ ref) (passes _ h.ref_names));
-        own = h.own;
-        forced = h.forced ∙ sym forced;
-      }
+      → tip.was_published ≡ is_published tables.branches n → now ≡ record tables { branches = now.branches; at_hand = now.at_hand } → now.branches ≡ put byte_cmp n tip tables.branches → Stands name r now (on_branch n c s)
+  moved_branch r tables now s h n ref c tip is stays others rows = subst (λ t. Stands name r t (on_branch n c s)) (sym others) (record {
+    history = h.history;
+    marks = h.marks;
+    branches = subst (AreRows (IsTip name s.history.values) (put byte_cmp n c s.branches)) (sym rows) (related_put (IsTip name s.history.values) n c tip is s.branches tables.branches h.branches);
+    tags = h.tags;
+    ref_names = is_true _ (names_put n c s.branches (passes _ ref) (passes _ h.ref_names));
+    own = h.own;
+    forced = h.forced;
+    published = published_same s.published s.tags tables.branches now.branches (λ q. ap (λ rs. is_published rs q) rows ∙ tip_put n tip tables.branches stays q) h.published;
+  })

@@ -1,5 +1,5 @@
 -- The files at hand at the branches, and where what they remember is held.
-use Rattle.std.proofs.Common.{◌≡◌, ◌⊎◌, List, [], ◌∷◌, ◌++◌, Option, Some, None, Result, Ok, Err, inl, inr, refl, sym, subst}
+use Rattle.std.proofs.Common.{◌≡◌, ◌⊎◌, List, [], ◌∷◌, ◌++◌, map, Option, Some, None, Result, Ok, Err, inl, inr, refl, sym, subst}
 use Rattle.std.specs.Prelude.{IfOk, IfSome}
 use Rattle.std.specs.List.{AllByRecursion}
 use Rattle.std.specs.Map.{lookup}
@@ -14,8 +14,8 @@ use Rattle.gx_object.specs.declared.name.Name.{Name}
 use Rattle.gx_tree.specs.Homes.{IfThere}
 use Rattle.gx_tree.specs.Loaded.{AreLoaded, IsLoaded, directory_at}
 use Rattle.gx_tree.specs.Named.{NamedTree, IsAtHome}
-use Rattle.gx_import.specs.Rows.{AreRows, rows_of}
-use Rattle.gx_import.specs.Standing.{AreTipFiles, AreTipsAtHome, Extends, HasFilesOf, IsTaken, WereFiles}
+use Rattle.gx_import.specs.Rows.{AreRows}
+use Rattle.gx_import.specs.Standing.{AreTipFiles, AreTipsAtHome, Extends, HasFilesOf, IsTaken, WereFiles, published_tip}
 use Rattle.gx_import.specs.declared.branches.Tip.{Tip}
 use Rattle.gx_import.specs.declared.tables.Tables.{Tables}
 
@@ -45,7 +45,7 @@ there_longer law name old new (Some tree) e h = home_longer law name old new tre
 -- no files need be taken
 pub none_taken : {A : Type 0} (rows : List (Bytes × Tip A)) → AreRows IsTaken rows rows
 none_taken [] = tt
-none_taken (row ∷ rows) = (refl, (refl, inl refl), none_taken rows)
+none_taken (row ∷ rows) = (refl, (refl, refl, inl refl), none_taken rows)
 
 -- files that are kept, if they are, are those of the commit, and at home where those that are given are
 pub kept_files : (name : Kind → Bytes → Bytes) (made : Commit) (files : NamedTree) (o : Option NamedTree) → IfSome o (λ kept. kept ≡ files) → HasFilesOf name made files → AreTipFiles name (Some made) o
@@ -66,17 +66,17 @@ module _ {A : Type 0} (name : Kind → Bytes → Bytes) where
 
   pub tips_longer : KeepHome → KeepLoaded → (old new : List Record) (tables : Tables A) → Extends old new → AreTipsAtHome name old tables → AreTipsAtHome name new tables
   tips_longer law loads old new tables e h = record {
-    tips = homes_longer law old new (rows_of tables.branches) e h.tips;
+    tips = homes_longer law old new tables.branches e h.tips;
     loaded = subst (λ rs. AreLoaded name rs tables.loaded) (sym e.1) (λ n. loaded_if loads name old e.0 n.bytes (directory_at tables.loaded n) (h.loaded n));
   }
 
   -- tables with these branches, where the trees that are loaded stay
-  pub tips_with : (rs : List Record) (old new : Tables A) → AreTipsAtHome name rs old → new.loaded ≡ old.loaded → AreHome rs (rows_of new.branches) → AreTipsAtHome name rs new
+  pub tips_with : (rs : List Record) (old new : Tables A) → AreTipsAtHome name rs old → new.loaded ≡ old.loaded → AreHome rs new.branches → AreTipsAtHome name rs new
   tips_with rs old new h e tips = record { tips = tips; loaded = subst (AreLoaded name rs) (sym e) h.loaded }
 
   module _ (rs : List Record) where
     tip_taken : (old new : Tip A) → IsTaken old new → IfThere IsAtHome name rs old.files → IfThere IsAtHome name rs new.files
-    tip_taken old new t h = left t.1
+    tip_taken old new t h = left t.2
       where
         left : (new.files ≡ old.files) ⊎ (new.files ≡ None) → IfThere IsAtHome name rs new.files
         left (inl e) = subst (IfThere IsAtHome name rs) (sym e) h
@@ -89,8 +89,8 @@ module _ {A : Type 0} (name : Kind → Bytes → Bytes) where
     homes_taken (x ∷ xs) (y ∷ ys) t h = (tip_taken x.1 y.1 t.1 h.0, homes_taken xs ys t.2 h.1)
 
     -- and so are tables where files were taken
-    pub tips_taken : (old new : Tables A) → AreTipsAtHome name rs old → new.loaded ≡ old.loaded → AreRows IsTaken (rows_of old.branches) (rows_of new.branches) → AreTipsAtHome name rs new
-    tips_taken old new h e taken = tips_with rs old new h e (homes_taken (rows_of old.branches) (rows_of new.branches) taken h.tips)
+    pub tips_taken : (old new : Tables A) → AreTipsAtHome name rs old → new.loaded ≡ old.loaded → AreRows IsTaken old.branches new.branches → AreTipsAtHome name rs new
+    tips_taken old new h e taken = tips_with rs old new h e (homes_taken old.branches new.branches taken h.tips)
 
     tip_home : (branch : Bytes) (rows : List (Bytes × Tip A)) (tip : Tip A) → lookup (same_bytes branch) rows ≡ Some tip → AreHome rs rows → IfThere IsAtHome name rs tip.files
     tip_home branch [] tip e h = absurd (cc)
@@ -110,3 +110,8 @@ module _ {A : Type 0} (name : Kind → Bytes → Bytes) where
           | Equal ↦ (k, h.1)
           | Greater ↦ (h.0, homes_put n tip rows k h.1)
         ]
+
+    -- and those behind a checkpoint
+    pub homes_published : (rows : List (Bytes × Tip A)) → AreHome rs rows → AreHome rs (map (λ row. (row.0, published_tip row.1)) rows)
+    homes_published [] h = tt
+    homes_published (row ∷ rows) h = (h.0, homes_published rows h.1)

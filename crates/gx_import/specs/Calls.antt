@@ -78,14 +78,6 @@ module _ {N : Type 0} (names : N → Kind → Bytes → Bytes) where
   NamesContent repository mode given answer =
       (s : State) → history_of repository.1 ≡ s.history → GivesAs (λ made called. IsContentName (names repository.0) s made mode called) answer (content (names repository.0) s mode given)
 
-  -- the name of the tree of a held commit
-  abbrev pub tree_at : Repository N → Name → Bytes
-  tree_at repository called = (parts_of_commit (names repository.0) (commit_at repository.1 called)).tree
-
-  -- a tree has the files of a held commit, by their names
-  abbrev pub HasFilesAt : Repository N → Name → NamedTree → Type 0
-  HasFilesAt repository called = HasFilesOf (names repository.0) (commit_at repository.1 called)
-
   -- a name that may be there is that of a commit
   abbrev pub IsCommitIfAny : Repository N → Option Name → Type 0
   IsCommitIfAny repository called = (made : Option Commit) × AreBoth (IsCommitOf (names repository.0) (values_of repository.1)) made called
@@ -131,10 +123,6 @@ module _ {N : Type 0} (names : N → Kind → Bytes → Bytes) {A : Type 0} wher
   NamesTagged repository tables named answer =
       InEach repository tables (λ s.
       GivesAs (IsCommitOf (names repository.0) s.history.values) answer (replay.committed (names repository.0) replay.commit_alone s (shown_commit_ish named)))
-
-  -- a name is that of the commit that a tag names
-  abbrev pub IsTagged : Repository N → Tables A → CommitIsh A → Name → Type 0
-  IsTagged repository tables named called = NamesTagged repository tables named (Ok called)
 
   -- a branch's own commit
   abbrev pub IsOwnCommit : Repository N → Tables A → Bytes → Option Name → Type 0
@@ -218,14 +206,6 @@ module _ {N : Type 0} (names : N → Kind → Bytes → Bytes) {A : Type 0} wher
       (λ r _. Follows (names old.0) new.1 tables s r.0 × AreFiles (names old.0) r.0.history.values r.1 now.files)
       answer (changed (names old.0) s files change)
 
-  -- the same of a change as it was read
-  abbrev pub Changes : {X : Type 0} → Repository N → Repository N → Tables A → NamedTree → NamedTree → Change A → Result X Fault → Type 0
-  Changes old new tables was now change = MakesChange old new tables was now (shown_change change)
-
-  -- the same of a modify
-  abbrev pub Modifies : {X : Type 0} → Repository N → Repository N → Tables A → NamedTree → NamedTree → Modify A → Result X Fault → Type 0
-  Modifies old new tables was now modify = MakesChange old new tables was now (shown_modify modify)
-
   -- those of all changes
   abbrev pub EditsAll : {X : Type 0} → Repository N → Repository N → Tables A → NamedTree → NamedTree → Vec (Change A) A → Result X Fault → Type 0
   EditsAll old new tables was now changes answer =
@@ -251,22 +231,12 @@ module _ {N : Type 0} (names : N → Kind → Bytes → Bytes) {A : Type 0} wher
       AddsAs (Clash (names old.0) (values_of old.1) (values_added (names old.0) s command)) (λ t _. Follows (names old.0) new.1 now s t) answer
       (step (names old.0) s command))
 
-  -- the same of a commit as it was read
-  abbrev pub MakesCommit : {X : Type 0} → Repository N → Repository N → Tables A → Tables A → CommitCommand A → Result X Fault → Type 0
-  MakesCommit old new was now command = Makes old new was now (shown_commit command)
-
   -- a branch that is set
   abbrev pub Resets : {X : Type 0} → Repository N → Tables A → Tables A → Reset A → Result X Fault → Type 0
   Resets repository was now reset answer =
       InEach repository was (λ s.
       GivesAs (λ t _. Follows (names repository.0) repository.1 now s t) answer
       (step_reset (names repository.0) s reset.branch.bytes.items (option_map shown_commit_ish reset.from)))
-
-module _ {N W : Type 0} (names : N → Kind → Bytes → Bytes) (taken : W → Option Taken) {A : Type 0} where
-  -- any command, and what a sink takes of it
-  abbrev pub AppliesInEach : Repository N → Repository N → Tables A → Tables A → GivenCommand A → W → W → Result (Unit {0}) Fault → Type 0
-  AppliesInEach old new was now command before after answer =
-      InEach names old was (λ s. Applies (names old.0) old.1 new.1 now s (shown_command command) (taken before) (taken after) answer)
 
 -- a mark and a branch that are set at a commit with these files
 abbrev pub SetsCommit : {A : Type 0} → Tables A → Tables A → Option ℕ → Bytes → Name → NamedTree → Type 0

@@ -15,7 +15,6 @@ pub mod Losing
 pub mod Asking
 pub mod Explaining
 pub mod Telling
-pub mod TellingAsked
 pub mod Keeping
 pub mod Replaying
 pub mod Exported

@@ -60,24 +60,20 @@ module _ (asks : Features) (name : Kind → Bytes → Bytes) where
   EndsAs old (Some coming) n s was now = IsLast old (commands_asked_from asks coming) n s was now
 
 -- the new repository, or after a fault what it leaves
-abbrev pub left_by : {A X E : Type 0} → Result X E → Checkpoints A → Records → Records
+abbrev pub left_by : {A X E : Type 0} → Result X E → Checkpoints → Records → Records
 left_by (Ok _) checkpoints new = new
 left_by (Err _) checkpoints new = left_of checkpoints new
 
 module _ {N W : Type 0} (names : N → Kind → Bytes → Bytes) (taken : W → Option Taken) {A : Type 0} where
   -- all commands are replayed, and the repository and the tables stand for the last state; or the import is refused, or interrupted
-  abbrev pub ReplaysTo : Features → Repository N → Repository N → Tables A → Checkpoints A → Option Coming → W → W → Result ℕ ImportFault → Type 0
+  abbrev pub ReplaysTo : Features → Repository N → Repository N → Tables A → Checkpoints → Option Coming → W → W → Result ℕ ImportFault → Type 0
   ReplaysTo asks old new tables checkpoints coming was now (Ok n) =
       (s : State) × Stands (names old.0) new.1 tables s × Keeps new.1 checkpoints s × EndsAs asks (names old.0) old.1 coming n s (taken was) (taken now)
   ReplaysTo asks old new tables checkpoints coming was now (Err fault) = Imports asks (names old.0) old.1 (left_of checkpoints new.1) coming (taken was) (taken now) (Err fault)
 
   -- The same over each source whose commands a reader has before it gives any, and with each features that ask for these and
   -- let branches lose commits just where the tables do at the start.
-  abbrev pub ReplaysRead : Repository N → Repository N → Bool → Tables A → Checkpoints A → Option Commands → W → W → Result ℕ ImportFault → Type 0
+  abbrev pub ReplaysRead : Repository N → Repository N → Bool → Tables A → Checkpoints → Option Commands → W → W → Result ℕ ImportFault → Type 0
   ReplaysRead old new is_forced tables checkpoints commands was now answer =
       (asks : Features) (coming : Option Coming) → asks.force ≡ is_forced → commands ≡ option_map (commands_asked_from asks) coming
       → ReplaysTo asks old new tables checkpoints coming was now answer
-
-  -- an import of a stream, which leaves after a fault what the checkpoints kept
-  abbrev pub LeavesImport : Features → Repository N → Repository N → Checkpoints A → Option Coming → W → W → Result Report ImportFault → Type 0
-  LeavesImport asks old new checkpoints coming was now answer = Imports asks (names old.0) old.1 (left_by answer checkpoints new.1) coming (taken was) (taken now) answer

@@ -1,15 +1,16 @@
 -- How what an import holds stands to the state of its replay: names in place of values that stand in the history.
-use Rattle.std.specs.Prelude.{◌≡◌, ◌⊎◌, ℕ, nat_eq, List, [], ◌++◌, Option, Some, None, Result, IsTrue, IfOk, IfSome, ⊤}
+use Rattle.std.specs.Prelude.{◌≡◌, ◌⊎◌, ◌||◌, ℕ, Bool, false, nat_eq, is_some, List, [], ◌++◌, Option, Some, None, Result, IsTrue, IfOk, IfSome, ⊤}
 use Rattle.std.specs.List.{AllByRecursion, list_all}
 use Rattle.std.specs.Map.{lookup}
+use Rattle.std.specs.Option.{option_map_or}
 use Rattle.std.specs.FinMap.Entries.{is_sorted}
 use Rattle.gx_model.specs.declared.objects.Kind.{Kind}
 use Rattle.gx_model.specs.declared.objects.Mode.{Mode}
 use Rattle.gx_model.specs.Texts.{Bytes, byte_cmp, same_bytes}
 use Rattle.gx_model.specs.Texts.RefNames.{is_ref_name, tag_ref}
-use Rattle.gx_model.specs.Histories.Values.{Commit, Value, blob_of, files_of, is_leaf}
+use Rattle.gx_model.specs.Histories.Values.{Commit, Tag, Value, blob_of, files_of, is_leaf}
 use Rattle.gx_model.specs.Records.{content_name, named_map}
-use Rattle.gx_model.specs.Histories.{IsIn, Record, Records}
+use Rattle.gx_model.specs.Histories.{IsIn, Record, Records, Target}
 use Rattle.gx_model.specs.Records.HistoryOf.{history_of}
 use Rattle.gx_model.specs.Replay.{State}
 use Rattle.gx_object.specs.declared.name.Name.{Name}
@@ -19,7 +20,7 @@ use Rattle.gx_tree.specs.Named.{NamedTree, IsAtHome}
 use Rattle.gx_repo.specs.Repositories.{Repository}
 use Rattle.gx_import.specs.Marks.{object_at}
 use Rattle.gx_import.specs.Objects.{IsCommitOf, IsOf, IsTagOf}
-use Rattle.gx_import.specs.Rows.{AreBoth, AreRows, rows_of}
+use Rattle.gx_import.specs.Rows.{AreBoth, AreRows, has_row}
 use Rattle.gx_import.specs.declared.marks.Marks.{Marks}
 use Rattle.gx_import.specs.declared.branches.Tip.{Tip}
 use Rattle.gx_import.specs.declared.tables.Tables.{Tables}
@@ -27,6 +28,30 @@ use Rattle.gx_import.specs.declared.tables.Tables.{Tables}
 -- these records, and more behind them
 abbrev pub Extends : List Record → List Record → Type 0
 Extends old new = (rest : List Record) × (new ≡ old ++ rest)
+
+-- records may come behind those that stand, and nothing else changes
+pub record OnlyAdds {N : Type 0} (old new : Repository N) : Type 0 where
+  pub namer : new.0 ≡ old.0
+  pub refs : new.1.refs ≡ old.1.refs
+  pub extends : Extends old.1.records new.1.records
+
+-- a branch of this name was published with a commit
+abbrev pub is_published : {A : Type 0} → List (Bytes × Tip A) → Bytes → Bool
+is_published branches called = option_map_or (λ tip. tip.was_published) (lookup (same_bytes called) branches) false
+
+-- where a branch stands behind a checkpoint
+abbrev pub published_tip : {A : Type 0} → Tip A → Tip A
+published_tip tip = record tip { was_published = tip.was_published || is_some tip.commit }
+
+-- where a branch of this name stands that moves, among these branches
+abbrev pub tip_at : {A : Type 0} → Option Name → Option NamedTree → List (Bytes × Tip A) → Bytes → Tip A
+tip_at commit files branches called = record { commit = commit; files = files; was_published = is_published branches called }
+
+-- The refs that were published, each once: they are the branches that were published with a commit, and tags.
+pub record ArePublished {A : Type 0} (refs : List (Bytes × Target)) (tags : List (Bytes × Tag)) (branches : List (Bytes × Tip A)) : Type 0 where
+  pub sorted : IsTrue (is_sorted byte_cmp refs)
+  pub branch : (called : Bytes) → IsTrue (is_published branches called) → IsTrue (has_row refs called)
+  pub either : (called : Bytes) → IsTrue (has_row refs called) → IsTrue (is_published branches called || has_row tags called)
 
 module _ (name : Kind → Bytes → Bytes) where
   -- the objects of marks are their values
@@ -59,13 +84,12 @@ module _ (name : Kind → Bytes → Bytes) where
   pub record Stands {A : Type 0} (repository : Records) (tables : Tables A) (state : State) : Type 0 where
     pub history : history_of repository ≡ state.history
     pub marks : AreMarks state.history.values state.marks tables.marks
-    pub branches : AreRows (IsTip state.history.values) state.branches (rows_of tables.branches)
-    pub tags : AreRows (IsTagOf name state.history.values) state.tags (rows_of tables.tags)
-    pub branches_sorted : IsTrue (is_sorted byte_cmp (rows_of tables.branches))
-    pub tags_sorted : IsTrue (is_sorted byte_cmp (rows_of tables.tags))
+    pub branches : AreRows (IsTip state.history.values) state.branches tables.branches
+    pub tags : AreRows (IsTagOf name state.history.values) state.tags tables.tags
     pub ref_names : IsTrue (list_all (λ branch. is_ref_name branch.0) state.branches)
     pub own : AllByRecursion (λ tag. tag.0 ≡ tag_ref tag.1.name) state.tags
     pub forced : state.is_forced ≡ tables.is_forced
+    pub published : ArePublished state.published state.tags tables.branches
 
   -- a state that comes after another stands for the repository and the tables, and no progress came between them
   pub record Follows {A : Type 0} (repository : Records) (tables : Tables A) (before : State) (state : State) : Type 0 where
@@ -75,7 +99,8 @@ module _ (name : Kind → Bytes → Bytes) where
 
 -- what is left of a branch where its files may have been taken
 abbrev pub IsTaken : {A : Type 0} → Tip A → Tip A → Type 0
-IsTaken old new = (new.commit ≡ old.commit) × ((new.files ≡ old.files) ⊎ (new.files ≡ None))
+IsTaken old new =
+    (new.commit ≡ old.commit) × (new.was_published ≡ old.was_published) × ((new.files ≡ old.files) ⊎ (new.files ≡ None))
 
 -- a branch stands at this commit, and has these files at hand
 abbrev pub HasFiles : {A : Type 0} → Tip A → Name → NamedTree → Type 0
@@ -91,7 +116,7 @@ AreAtSomeBranch branches called files = (branch : Bytes) × WereFiles branches b
 
 -- the files at hand at each branch are at home among these records, and the trees that are loaded are loaded from them
 pub record AreTipsAtHome {A : Type 0} (name : Kind → Bytes → Bytes) (rs : List Record) (tables : Tables A) : Type 0 where
-  pub tips : AllByRecursion (λ row. IfThere IsAtHome name rs row.1.files) (rows_of tables.branches)
+  pub tips : AllByRecursion (λ row. IfThere IsAtHome name rs row.1.files) tables.branches
   pub loaded : AreLoaded name rs tables.loaded
 
 module _ {N : Type 0} (names : N → Kind → Bytes → Bytes) (repository : Repository N) {A : Type 0} where
@@ -122,6 +147,6 @@ StayAtHome names old new was now = IsAtHome (names old.0) old.1.records was → 
 -- no marks, no branches, no tags, and nothing loaded but what stands in any repository
 pub record AreEmpty {A : Type 0} (tables : Tables A) : Type 0 where
   pub marks : (number : ℕ) → object_at tables.marks number ≡ None
-  pub branches : rows_of tables.branches ≡ []
-  pub tags : rows_of tables.tags ≡ []
+  pub branches : tables.branches ≡ []
+  pub tags : tables.tags ≡ []
   pub loaded : AreLoadedAnywhere tables.loaded

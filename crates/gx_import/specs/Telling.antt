@@ -18,8 +18,8 @@ use Rattle.gx_command.specs.declared.commands.Commit.{Commit as CommitCommand}
 use Rattle.gx_object.specs.declared.name.Name.{Name}
 use Rattle.gx_repo.specs.Repositories.{Repository}
 use Rattle.gx_tree.specs.Named.{NamedTree}
-use Rattle.gx_import.specs.Calls.{InEach}
-use Rattle.gx_import.specs.Explaining.{IsRefusedAt, Tells, TellsAll}
+use Rattle.gx_import.specs.Asking.{AsksByChange, TellsVainIn}
+use Rattle.gx_import.specs.Explaining.{IsRefusedAt}
 use Rattle.gx_import.specs.Objects.{IsCommitOf}
 use Rattle.gx_import.specs.Rows.{AreBoth}
 use Rattle.gx_import.specs.Standing.{Stands}
@@ -44,14 +44,14 @@ module _ {N : Type 0} (names : N → Kind → Bytes → Bytes) {X A : Type 0} wh
       (s : State) (made : Option Commit) → Stands (names old.0) old.1 was s → AreBoth (IsCommitOf (names old.0) s.history.values) made first
       → TellsChanges (names old.0) s (starting_files made) (map shown_change changes.items) answer told
 
-  -- of a command
-  abbrev pub TellsCommand : Repository N → Tables A → model.Command → Result X Fault → Explanation A → Type 0
-  TellsCommand old was command answer told = InEach names old was (λ s. Tells (names old.0) s command answer told)
+  -- of what all changes of these files ask for
+  abbrev pub AskedByEdits : Repository N → Tables A → NamedTree → Vec (Change A) A → Result X Fault → Explanation A → Type 0
+  AskedByEdits old tables was changes answer told =
+      (s : State) (files : FileMap Bytes) → Stands (names old.0) old.1 tables s → AreFiles (names old.0) s.history.values files was.files
+      → TellsVainIn (AsksByChange (names old.0) s files (map shown_change changes.items)) answer told.asked
 
-  -- of a commit as it was read
-  abbrev pub TellsCommit : Repository N → Tables A → CommitCommand A → Result X Fault → Explanation A → Type 0
-  TellsCommit old was command = TellsCommand old was (shown_commit command)
-
-  -- of any command as it was read, all that is told
-  abbrev pub TellsInEach : Repository N → Tables A → Command A → Result X Fault → Explanation A → Type 0
-  TellsInEach old was command answer told = InEach names old was (λ s. TellsAll (names old.0) s (shown_command command) answer told)
+  -- of what all changes of the files ask for that a commit with this first parent begins with
+  abbrev pub AskedByEditsFrom : Repository N → Tables A → Option Name → Vec (Change A) A → Result X Fault → Explanation A → Type 0
+  AskedByEditsFrom old was first changes answer told =
+      (s : State) (made : Option Commit) → Stands (names old.0) old.1 was s → AreBoth (IsCommitOf (names old.0) s.history.values) made first
+      → TellsVainIn (AsksByChange (names old.0) s (starting_files made) (map shown_change changes.items)) answer told.asked

@@ -2,7 +2,7 @@
 
 ghost use Rattle.std.specs.Prelude.{◌≡◌};
 ghost use Rattle.gx_command.specs.Views.{shown_blob};
-ghost use Rattle.gx_import.specs.Standing.{Extends};
+ghost use Rattle.gx_import.specs.Standing.{OnlyAdds};
 ghost use Rattle.gx_import.specs.Calls.{Makes};
 
 use crate::ImportKind;
@@ -22,9 +22,7 @@ pub(crate) fn apply_blob<N: Namer, A: Allocator + Copy>(
 ) -> Result<(), ImportKind>
     ensures branches { tables.new.branches ≡ tables.old.branches }
     ensures loaded { tables.new.loaded ≡ tables.old.loaded }
-    ensures namer { repo.new.0 ≡ repo.old.0 }
-    ensures refs { repo.new.1.refs ≡ repo.old.1.refs }
-    ensures extends { Extends repo.old.1.records repo.new.1.records }
+    ensures only { OnlyAdds repo.old repo.new }
     ensures steps { Makes N.name_of repo.old repo.new tables.old tables.new (shown_blob blob) result }
 {
     repo.sound();

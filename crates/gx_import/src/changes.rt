@@ -1,18 +1,18 @@
 //! The changes of a commit's files. Source: git-fast-import(1), "filemodify" to "filedeleteall".
 
+ghost use Rattle.gx_import.specs.Asking.{AsksByContent, AsksByOne, TellsVainIn};
 ghost use Rattle.std.specs.Prelude.{◌≡◌, ◌≢◌, None, Ok, Some, IfOk, IsTrue, OnErr, OnOk};
 ghost use Rattle.gx_model.specs.Histories.Edits.{copied, removed, renamed};
 ghost use Rattle.gx_model.specs.declared.objects.Mode.TheVariants as modes;
 ghost use Rattle.gx_command.specs.DataRefs.{is_suited};
-ghost use Rattle.gx_command.specs.Views.{shown_change, shown_data};
+ghost use Rattle.gx_command.specs.Views.{shown_change, shown_data, shown_modify};
 ghost use Rattle.gx_tree.specs.Calls.{Becomes};
 ghost use Rattle.gx_tree.specs.Named.{KeepsHome};
 ghost use Rattle.gx_model.specs.Streams.Commands as model;
-ghost use Rattle.gx_import.specs.Standing.{Extends, StayAtHome};
-ghost use Rattle.gx_import.specs.Calls.{AddsContent, Changes, EditsAll, GivesBlob, MakesChange, Modifies, NamesContent};
+ghost use Rattle.gx_import.specs.Standing.{OnlyAdds, StayAtHome};
+ghost use Rattle.gx_import.specs.Calls.{AddsContent, EditsAll, GivesBlob, InEach, MakesChange, NamesContent};
 ghost use Rattle.gx_import.specs.Explaining.{TellsPath, path_of};
-ghost use Rattle.gx_import.specs.Telling.{TellsEdits};
-ghost use Rattle.gx_import.specs.TellingAsked.{AskedByChange, AskedByData, AskedByEdits, AskedByModify};
+ghost use Rattle.gx_import.specs.Telling.{AskedByEdits, TellsEdits};
 
 use crate::object::{Object, name_of_kind};
 use crate::tables::Tables;
@@ -35,9 +35,7 @@ pub(crate) fn change_all<N: Namer, A: Allocator + Copy>(
 ) -> Result<(), ImportKind>
     requires blank { told.now.change ≡ None }
     requires unasked { told.now.asked ≡ None }
-    ensures namer { repo.new.0 ≡ repo.old.0 }
-    ensures refs { repo.new.1.refs ≡ repo.old.1.refs }
-    ensures extends { Extends repo.old.1.records repo.new.1.records }
+    ensures only { OnlyAdds repo.old repo.new }
     ensures home { IfOk result (λ _. StayAtHome N.name_of repo.old repo.new files.old files.new) }
     ensures steps { EditsAll N.name_of repo.old repo.new tables.now files.old files.new changes result }
     ensures told { TellsEdits N.name_of repo.old tables.now files.old changes result told.new }
@@ -65,13 +63,14 @@ fn change_files<N: Namer, A: Allocator + Copy>(
     told: &mut Explanation<A>,
 ) -> Result<(), ImportKind>
     requires unasked { told.now.asked ≡ None }
-    ensures namer { repo.new.0 ≡ repo.old.0 }
-    ensures refs { repo.new.1.refs ≡ repo.old.1.refs }
-    ensures extends { Extends repo.old.1.records repo.new.1.records }
+    ensures only { OnlyAdds repo.old repo.new }
     ensures home { IfOk result (λ _. StayAtHome N.name_of repo.old repo.new files.old files.new) }
-    ensures steps { Changes N.name_of repo.old repo.new tables.now files.old files.new change result }
+    ensures steps { MakesChange N.name_of repo.old repo.new tables.now files.old files.new
+        (shown_change change) result }
     ensures told { TellsPath (path_of (shown_change change)) result told.old told.new }
-    ensures asked { AskedByChange N.name_of repo.old tables.now change result told.new.asked }
+    ensures asked { InEach N.name_of repo.old tables.now
+        (λ s. TellsVainIn (AsksByOne (N.name_of repo.old.0) s (shown_change change))
+        result told.new.asked) }
 {
     match change {
         Change::Modify(modify) => modify_files(repo, tables, files, modify, told)?,
@@ -158,13 +157,14 @@ fn modify_files<N: Namer, A: Allocator + Copy>(
     told: &mut Explanation<A>,
 ) -> Result<(), ImportKind>
     requires unasked { told.now.asked ≡ None }
-    ensures namer { repo.new.0 ≡ repo.old.0 }
-    ensures refs { repo.new.1.refs ≡ repo.old.1.refs }
-    ensures extends { Extends repo.old.1.records repo.new.1.records }
+    ensures only { OnlyAdds repo.old repo.new }
     ensures home { IfOk result (λ _. StayAtHome N.name_of repo.old repo.new files.old files.new) }
-    ensures steps { Modifies N.name_of repo.old repo.new tables.now files.old files.new modify result }
+    ensures steps { MakesChange N.name_of repo.old repo.new tables.now files.old files.new
+        (shown_modify modify) result }
     ensures told { TellsPath (Some modify.path) result told.old told.new }
-    ensures asked { AskedByModify N.name_of repo.old tables.now modify result told.new.asked }
+    ensures asked { InEach N.name_of repo.old tables.now
+        (λ s. TellsVainIn (AsksByOne (N.name_of repo.old.0) s (shown_modify modify))
+        result told.new.asked) }
 {
     let done = set_file(
         repo,
@@ -193,13 +193,14 @@ fn set_file<N: Namer, A: Allocator + Copy>(
 ) -> Result<(), ImportKind>
     requires suits { IsTrue (is_suited mode data_ref) }
     requires unasked { asked.now ≡ None }
-    ensures namer { repo.new.0 ≡ repo.old.0 }
-    ensures refs { repo.new.1.refs ≡ repo.old.1.refs }
-    ensures extends { Extends repo.old.1.records repo.new.1.records }
+    ensures only { OnlyAdds repo.old repo.new }
     ensures home { IfOk result (λ _. StayAtHome N.name_of repo.old repo.new files.old files.new) }
-    ensures steps { MakesChange N.name_of repo.old repo.new tables.now files.old files.new (model.Modify mode (shown_data data_ref) path.now) result }
+    ensures steps { MakesChange N.name_of repo.old repo.new tables.now files.old files.new
+        (model.Modify mode (shown_data data_ref) path.now) result }
     ensures unasked { OnOk result (asked.new ≡ None) }
-    ensures asked { AskedByData N.name_of repo.old tables.now mode data_ref result asked.new }
+    ensures asked { InEach N.name_of repo.old tables.now
+        (λ s. TellsVainIn (AsksByContent (N.name_of repo.old.0) s mode (shown_data data_ref))
+        result asked.new) }
 {
     records_keep_home();
     let name = told_content(repo, tables, mode, data_ref, asked)?;
@@ -218,12 +219,12 @@ fn told_content<N: Namer, A: Allocator + Copy>(
 ) -> Result<Name, ImportKind>
     requires suits { IsTrue (is_suited mode data_ref) }
     requires unasked { asked.now ≡ None }
-    ensures namer { repo.new.0 ≡ repo.old.0 }
-    ensures refs { repo.new.1.refs ≡ repo.old.1.refs }
-    ensures extends { Extends repo.old.1.records repo.new.1.records }
+    ensures only { OnlyAdds repo.old repo.new }
     ensures steps { AddsContent N.name_of repo.old repo.new tables.now mode data_ref result }
     ensures unasked { OnOk result (asked.new ≡ None) }
-    ensures asked { AskedByData N.name_of repo.old tables.now mode data_ref result asked.new }
+    ensures asked { InEach N.name_of repo.old tables.now
+        (λ s. TellsVainIn (AsksByContent (N.name_of repo.old.0) s mode (shown_data data_ref))
+        result asked.new) }
 {
     let refers = Asked::of_data(&data_ref);
     match content(repo, tables, mode, data_ref) {
@@ -244,9 +245,7 @@ fn content<N: Namer, A: Allocator + Copy>(
     data_ref: DataRef<A>,
 ) -> Result<Name, ImportKind>
     requires suits { IsTrue (is_suited mode data_ref) }
-    ensures namer { repo.new.0 ≡ repo.old.0 }
-    ensures refs { repo.new.1.refs ≡ repo.old.1.refs }
-    ensures extends { Extends repo.old.1.records repo.new.1.records }
+    ensures only { OnlyAdds repo.old repo.new }
     ensures steps { AddsContent N.name_of repo.old repo.new tables.now mode data_ref result }
 {
     repo.sound();

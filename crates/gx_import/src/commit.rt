@@ -1,6 +1,9 @@
 //! Commit commands. Source: git-fast-import(1), "commit".
 
-ghost use Rattle.std.specs.Prelude.{◌≡◌, [], None, IfErr, IfOk, OnOk};
+ghost use Rattle.gx_command.specs.Views.{shown_commit, shown_commit_ish};
+ghost use Rattle.gx_import.specs.Asking.{AsksByMerge, AsksInVain, TellsVainIn};
+ghost use Rattle.gx_import.specs.Explaining.{Tells};
+ghost use Rattle.std.specs.Prelude.{◌≡◌, IfErr, IfOk, None, OnOk, [], map};
 ghost use Rattle.std.specs.List.{cons_option};
 ghost use Rattle.gx_model.specs.declared.faults.Fault.TheVariants.{OutOfMemory};
 ghost use Rattle.gx_model.specs.declared.objects.Kind.TheVariants as kinds;
@@ -9,13 +12,10 @@ ghost use Rattle.gx_text.specs.Idents.{ident_bytes};
 ghost use Rattle.gx_object.specs.Parts.{commit_parts as shown_parts};
 ghost use Rattle.gx_tree.specs.Named.{IsAtHome};
 ghost use Rattle.gx_import.specs.Objects.{AreHeldCommits, commit_object};
-ghost use Rattle.gx_import.specs.Rows.{IsSorted};
-ghost use Rattle.gx_import.specs.Telling.{TellsCommit, TellsEditsFrom};
-ghost use Rattle.gx_import.specs.TellingAsked.{AskedByCommit, AskedByEditsFrom, AskedByMerges};
-ghost use Rattle.gx_import.specs.Standing.{Extends, HasTipsAtHome, StandsForSome};
-ghost use Rattle.gx_import.specs.Calls.{AddsWithTrees, AddsCommitAlone, AreParentsOf, EditsFrom, IsOwnCommit, IsSomeCommit, KeepsTipsAtHomeWith, MakesCommit, NamesFirstParent, NamesParents, SetsCommit};
+ghost use Rattle.gx_import.specs.Telling.{AskedByEditsFrom, TellsEditsFrom};
+ghost use Rattle.gx_import.specs.Standing.{HasTipsAtHome, OnlyAdds, StandsForSome};
+ghost use Rattle.gx_import.specs.Calls.{AddsCommitAlone, AddsWithTrees, AreParentsOf, EditsFrom, InEach, IsOwnCommit, IsSomeCommit, KeepsTipsAtHomeWith, Makes, NamesFirstParent, NamesParents, SetsCommit};
 
-use crate::branches::Tip;
 use crate::changes::change_all;
 use crate::commit_ish::{committed_for, committed_with};
 use crate::files::starting_files;
@@ -45,12 +45,14 @@ pub(crate) fn apply_commit<N: Namer, A: Allocator + Copy>(
     requires stands { StandsForSome N.name_of repo.now tables.now }
     requires homes { HasTipsAtHome N.name_of repo.now tables.now }
     ensures homes { IfOk result (λ _. HasTipsAtHome N.name_of (repo.old.0, repo.new.1) tables.new) }
-    ensures namer { repo.new.0 ≡ repo.old.0 }
-    ensures refs { repo.new.1.refs ≡ repo.old.1.refs }
-    ensures extends { Extends repo.old.1.records repo.new.1.records }
-    ensures steps { MakesCommit N.name_of repo.old repo.new tables.old tables.new commit result }
-    ensures told { TellsCommit N.name_of repo.old tables.old commit result told.new }
-    ensures asked { AskedByCommit N.name_of repo.old tables.old commit result told.new }
+    ensures only { OnlyAdds repo.old repo.new }
+    ensures steps { Makes N.name_of repo.old repo.new tables.old tables.new (shown_commit commit)
+        result }
+    ensures told { InEach N.name_of repo.old tables.old
+        (λ s. Tells (N.name_of repo.old.0) s (shown_commit commit) result told.new) }
+    ensures asked { InEach N.name_of repo.old tables.old
+        (λ s. TellsVainIn (AsksInVain (N.name_of repo.old.0) s (shown_commit commit))
+        result told.new.asked) }
     ensures loss { told.new.loss ≡ told.old.loss }
 {
     let first = match first_parent(repo, tables, &commit) {
@@ -79,12 +81,14 @@ fn make_commit<N: Namer, A: Allocator + Copy>(
     requires parents { AreParentsOf N.name_of repo.now tables.now commit first parents.now }
     requires homes { HasTipsAtHome N.name_of repo.now tables.now }
     ensures homes { IfOk result (λ _. HasTipsAtHome N.name_of (repo.old.0, repo.new.1) tables.new) }
-    ensures namer { repo.new.0 ≡ repo.old.0 }
-    ensures refs { repo.new.1.refs ≡ repo.old.1.refs }
-    ensures extends { Extends repo.old.1.records repo.new.1.records }
-    ensures steps { MakesCommit N.name_of repo.old repo.new tables.old tables.new commit result }
-    ensures told { TellsCommit N.name_of repo.old tables.old commit result told.new }
-    ensures asked { AskedByCommit N.name_of repo.old tables.old commit result told.new }
+    ensures only { OnlyAdds repo.old repo.new }
+    ensures steps { Makes N.name_of repo.old repo.new tables.old tables.new (shown_commit commit)
+        result }
+    ensures told { InEach N.name_of repo.old tables.old
+        (λ s. Tells (N.name_of repo.old.0) s (shown_commit commit) result told.new) }
+    ensures asked { InEach N.name_of repo.old tables.old
+        (λ s. TellsVainIn (AsksInVain (N.name_of repo.old.0) s (shown_commit commit))
+        result told.new.asked) }
     ensures loss { told.new.loss ≡ told.old.loss }
 {
     records_keep_home();
@@ -112,9 +116,7 @@ fn changed_files<N: Namer, A: Allocator + Copy>(
     requires homes { HasTipsAtHome N.name_of repo.now tables.now }
     ensures homes { IfOk result (λ _. HasTipsAtHome N.name_of (repo.old.0, repo.new.1) tables.new) }
     ensures home { IfOk result (IsAtHome (N.name_of repo.old.0) repo.new.1.records) }
-    ensures namer { repo.new.0 ≡ repo.old.0 }
-    ensures refs { repo.new.1.refs ≡ repo.old.1.refs }
-    ensures extends { Extends repo.old.1.records repo.new.1.records }
+    ensures only { OnlyAdds repo.old repo.new }
     ensures steps { EditsFrom N.name_of repo.old repo.new tables.old tables.new first changes result }
     ensures told { TellsEditsFrom N.name_of repo.old tables.old first changes result told.new }
     ensures asked { AskedByEditsFrom N.name_of repo.old tables.old first changes result told.new }
@@ -137,7 +139,6 @@ fn set_mark_and_branch<A: Allocator + Copy>(
     name: Name,
     files: PathTree<A>,
 ) -> Result<(), ImportKind>
-    requires sorted { IsSorted tables.now.branches }
     ensures homes { OnOk result (KeepsTipsAtHomeWith tables.old tables.new files) }
     ensures steps { OnOk result (SetsCommit tables.old tables.new mark branch.bytes.items name files) }
     ensures fault { IfErr result (λ fault. fault ≡ OutOfMemory) }
@@ -145,11 +146,7 @@ fn set_mark_and_branch<A: Allocator + Copy>(
     let kind = Kind::Commit;
     tables.marks.set(mark, Object { kind, name })?;
     let files = tables.at_hand.unless_held(&name, files);
-    let tip = Tip {
-        commit: Some(name),
-        files,
-    };
-    Ok(tables.set_tip(branch.bytes, tip)?)
+    Ok(tables.set_tip(branch.bytes, Some(name), files)?)
 }
 
 /// The first parent: that of `from`, or else the branch's own commit.
@@ -158,7 +155,6 @@ fn first_parent<N: Namer, A: Allocator + Copy>(
     tables: &Tables<A>,
     commit: &Commit<A>,
 ) -> Result<Option<Name>, ImportKind>
-    requires sorted { IsSorted tables.now.branches }
     ensures { NamesFirstParent N.name_of repo.now tables.now commit.now result }
 {
     let branch = commit.branch.bytes.as_slice();
@@ -174,7 +170,6 @@ fn own_commit<N: Namer, A: Allocator + Copy>(
     tables: &Tables<A>,
     branch: &[u8],
 ) -> Option<Name>
-    requires sorted { IsSorted tables.now.branches }
     ensures { IsOwnCommit N.name_of repo.now tables.now branch.now result }
 {
     repo.sound();
@@ -192,12 +187,13 @@ fn parents<N: Namer, A: Allocator + Copy>(
     first: Option<Name>,
     asked: &mut Option<Asked<A>>,
 ) -> Result<Vec<Name, A>, ImportKind>
-    requires sorted { IsSorted tables.now.branches }
     requires unasked { asked.now ≡ None }
     ensures names { NamesParents N.name_of repo.now tables.now commit.old first result }
     ensures kept { OnOk result (commit.new ≡ commit.old) }
     ensures unasked { OnOk result (asked.new ≡ None) }
-    ensures asked { AskedByMerges N.name_of repo.now tables.now commit.old result asked.new }
+    ensures asked { InEach N.name_of repo.now tables.now (λ s. TellsVainIn
+        (AsksByMerge (N.name_of repo.now.0) commit.old.branch.bytes.items s
+        (map shown_commit_ish commit.old.merges.items)) result asked.new) }
 {
     let mut parents = first_alone(tables.alloc, first)?;
     // the ancestors of one commit, `merge p~1`, `merge p~2` and so on, are one walk
@@ -243,9 +239,7 @@ fn add<N: Namer, A: Allocator + Copy>(
     requires parents { AreHeldCommits repo.now.1 parents.now }
     requires home { IsAtHome (N.name_of repo.now.0) repo.now.1.records files.now }
     ensures home { IfOk result (λ _. IsAtHome (N.name_of repo.old.0) repo.new.1.records files.new) }
-    ensures namer { repo.new.0 ≡ repo.old.0 }
-    ensures refs { repo.new.1.refs ≡ repo.old.1.refs }
-    ensures extends { Extends repo.old.1.records repo.new.1.records }
+    ensures only { OnlyAdds repo.old repo.new }
     ensures files { files.new.files ≡ files.old.files }
     ensures steps { AddsWithTrees N.name_of repo.old repo.new files.old parents.now commit.now result }
 {
@@ -266,9 +260,7 @@ fn add_alone<N: Namer, A: Allocator + Copy>(
 ) -> Result<Name, ImportKind>
     requires tree { Holds repo.now.1.records kinds.Tree tree.bytes }
     requires parents { AreHeldCommits repo.now.1 parents.now }
-    ensures namer { repo.new.0 ≡ repo.old.0 }
-    ensures refs { repo.new.1.refs ≡ repo.old.1.refs }
-    ensures extends { Extends repo.old.1.records repo.new.1.records }
+    ensures only { OnlyAdds repo.old repo.new }
     ensures steps { AddsCommitAlone N.name_of repo.old repo.new tree parents.now commit.now result }
 {
     repo.sound();

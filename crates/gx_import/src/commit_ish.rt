@@ -5,7 +5,6 @@ ghost use Rattle.gx_model.specs.Replay.{names_itself};
 ghost use Rattle.gx_command.specs.Views.{shown_commit_ish};
 ghost use Rattle.gx_rev.specs.FirstParents.{AreFirstParents};
 ghost use Rattle.gx_import.specs.Objects.{branch_object};
-ghost use Rattle.gx_import.specs.Rows.{IsSorted};
 ghost use Rattle.gx_import.specs.Calls.{NamesCommit, NamesCommitIsh, ShowsRevision};
 
 use crate::ImportKind;
@@ -23,7 +22,6 @@ pub(crate) fn object_named<N: Namer, A: Allocator + Copy>(
     tables: &Tables<A>,
     commit_ish: &CommitIsh<A>,
 ) -> Result<Object, ImportKind>
-    requires sorted { IsSorted tables.now.branches }
     ensures { NamesCommitIsh N.name_of repo.now tables.now commit_ish.now result }
 {
     let mut first_parents = FirstParents::new(tables.alloc);
@@ -37,7 +35,6 @@ fn object_named_with<N: Namer, A: Allocator + Copy>(
     first_parents: &mut FirstParents<A>,
     commit_ish: &CommitIsh<A>,
 ) -> Result<Object, ImportKind>
-    requires sorted { IsSorted tables.now.branches }
     requires walk { AreFirstParents repo.now.1 first_parents.old }
     ensures walk { AreFirstParents repo.now.1 first_parents.new }
     ensures names { NamesCommitIsh N.name_of repo.now tables.now commit_ish.now result }
@@ -90,7 +87,6 @@ pub(crate) fn committed_for<N: Namer, A: Allocator + Copy>(
     branch: &[u8],
     commit_ish: &CommitIsh<A>,
 ) -> Result<Name, ImportKind>
-    requires sorted { IsSorted tables.now.branches }
     ensures { NamesCommit N.name_of repo.now tables.now branch.now commit_ish.now result }
 {
     let mut first_parents = FirstParents::new(tables.alloc);
@@ -105,7 +101,6 @@ pub(crate) fn committed_with<N: Namer, A: Allocator + Copy>(
     branch: &[u8],
     commit_ish: &CommitIsh<A>,
 ) -> Result<Name, ImportKind>
-    requires sorted { IsSorted tables.now.branches }
     requires walk { AreFirstParents repo.now.1 first_parents.old }
     ensures walk { AreFirstParents repo.now.1 first_parents.new }
     ensures names { NamesCommit N.name_of repo.now tables.now branch.now commit_ish.now result }

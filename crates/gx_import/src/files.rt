@@ -1,13 +1,14 @@
 //! The files that a commit starts from.
 
+ghost use Rattle.gx_model.specs.Records.{parts_of_commit};
 ghost use Rattle.std.specs.Prelude.{◌≡◌, Some, IfOk, IfErr};
 ghost use Rattle.gx_model.specs.declared.objects.Kind.TheVariants as kinds;
 ghost use Rattle.gx_tree.specs.Loaded.{AreLoaded};
 ghost use Rattle.gx_tree.specs.Named.{IsAtHome};
-ghost use Rattle.gx_rev.specs.Objects.{IsHeldAs};
+ghost use Rattle.gx_rev.specs.Objects.{IsHeldAs, commit_at};
 ghost use Rattle.gx_model.specs.declared.faults.Fault.TheVariants.{OutOfMemory};
-ghost use Rattle.gx_import.specs.Standing.{GivesFilesAtHome, HasTipsAtHome, KeepsStanding, TipsStayAtHome};
-ghost use Rattle.gx_import.specs.Calls.{GivesStartingFiles, HasFilesAt, IsSomeCommit, tree_at};
+ghost use Rattle.gx_import.specs.Standing.{GivesFilesAtHome, HasFilesOf, HasTipsAtHome, KeepsStanding, TipsStayAtHome};
+ghost use Rattle.gx_import.specs.Calls.{GivesStartingFiles, IsSomeCommit};
 
 use crate::ImportKind;
 use crate::branches::{files_at, take_files};
@@ -76,7 +77,8 @@ fn loaded_files<N: Namer, A: Allocator + Copy>(
 ) -> Result<PathTree<A>, ImportKind>
     requires commit { IsHeldAs kinds.Commit repo.now.1 commit.now }
     requires loaded { AreLoaded (N.name_of repo.now.0) repo.now.1.records loaded.old }
-    ensures files { IfOk result (HasFilesAt N.name_of repo.now commit.now) }
+    ensures files { IfOk result
+        (HasFilesOf (N.name_of repo.now.0) (commit_at repo.now.1 commit.now)) }
     ensures home { IfOk result (IsAtHome (N.name_of repo.now.0) repo.now.1.records) }
     ensures loaded { AreLoaded (N.name_of repo.now.0) repo.now.1.records loaded.new }
     ensures fault { IfErr result (λ fault. fault ≡ OutOfMemory) }
@@ -88,7 +90,8 @@ fn loaded_files<N: Namer, A: Allocator + Copy>(
 /// The tree of a held commit.
 fn tree_of<N: Namer, A: Allocator + Copy>(repo: &Repo<N, A>, commit: &Name) -> Name
     requires { IsHeldAs kinds.Commit repo.now.1 commit.now }
-    ensures { result.bytes ≡ tree_at N.name_of repo.now commit.now }
+    ensures { result.bytes
+        ≡ (parts_of_commit (N.name_of repo.now.0) (commit_at repo.now.1 commit.now)).tree }
 {
     view_of(repo, commit).tree()
 }

@@ -1,21 +1,21 @@
 //! Imports of whole streams. Source: git-fast-import(1).
 
-ghost use Rattle.std.specs.Prelude.{◌≡◌, [], None, IfErr, IsTrue, OnErr, OnOk};
+ghost use Rattle.std.specs.Prelude.{◌≡◌, IfErr, OnErr, OnOk};
 ghost use Rattle.gx_import.specs.Exported.{ImportsAnyExport, KeepsNoNullGitlink, LeaveExports, RefusesNullGitlink};
 ghost use Rattle.gx_import.specs.Explaining.{ExplainsAsked, TellsNothing};
-ghost use Rattle.gx_import.specs.Imports.{ImportsAsked, ImportsStream, StandsAsked, StandsReplayed};
+ghost use Rattle.gx_import.specs.Imports.{Imports, ImportsAsked, ImportsStream, StandsAsked, StandsReplayed};
 ghost use Rattle.gx_import.specs.Keeping.{AreNone, IsLeft};
-ghost use Rattle.gx_import.specs.Replaying.{LeavesImport, left_by};
+ghost use Rattle.gx_import.specs.Replaying.{left_by};
 ghost use Rattle.gx_import.specs.Standing.{AreEmpty, Extends};
 ghost use Rattle.gx_import.specs.Stopping.{StopsAsked, StopsStream};
 ghost use Rattle.gx_model.specs.Records.Sound.{IsSound};
 
 use crate::checkpoints::Checkpoints;
-use crate::publishing::publish;
-use crate::replay::replay;
+use crate::publishing::{publish, published_refs};
+use crate::replay::replay_commands;
 use crate::tables::Tables;
 use crate::{Explanation, ImportFault, Report};
-use gx_command::Features;
+use gx_command::{CommandReader, Features};
 use gx_model::export_laws::{exports_are_imported, exports_are_readable};
 use gx_model::gitlink_laws::nulls_are_refused;
 use gx_model::replay_laws::features_are_asked;
@@ -41,10 +41,10 @@ use std::alloc::Allocator;
 /// Cost: each command's bytes; for a commit the directories on its changed paths, and once for a branch the size of the
 /// tree that it starts from, where that isn't at hand; and for each object to be put or found a look-up. Memory: the objects,
 /// the marks, the files of at most 256 commits with their shared directories, the directories that were read, up to a bound by
-/// the largest tree, and one command. A checkpoint, as the end, costs a comparison or two for each branch, and
-/// where there were refs before the import a few more for each branch, tag and published name; for each branch that moved
-/// the commits that it reaches behind its old one, each decoded once where there are many; for each such branch and each tag
-/// a look-up of its object and searches among the refs and the published names; and where a ref is new, copies of all refs.
+/// the largest tree, and one command. A checkpoint, as the end, costs a comparison or two for each branch and tag;
+/// for each branch that moved the commits that it reaches behind its old one, each decoded once where there are many; for
+/// each such branch and each tag that is set a look-up of its object and searches among the refs; and where a ref is new,
+/// copies of all refs. The end costs a search among the branches for each tag, too.
 /// Source: git-fast-import(1).
 pub fn import<N: Namer, A: Allocator + Copy, R: Source + Drop, W: Sink>(
     alloc: A,
@@ -128,8 +128,20 @@ pub fn import_explained<N: Namer, A: Allocator + Copy, R: Source + Drop, W: Sink
     exports_are_imported();
     features_are_asked();
     *told = Explanation::none();
-    let mut checkpoints = Checkpoints::new(alloc, repo.store().len(), has_no_refs(repo));
-    match replay_and_publish(alloc, repo, &mut checkpoints, source, sink, features, told) {
+    let mut tables = Tables::new(alloc, features.force);
+    let mut checkpoints = Checkpoints {
+        count: 0,
+        records: repo.store().len(),
+    };
+    match replay_into(
+        repo,
+        &mut tables,
+        &mut checkpoints,
+        source,
+        sink,
+        features,
+        told,
+    ) {
         Ok(report) => {
             repo.sound();
             Ok(report)
@@ -142,43 +154,12 @@ pub fn import_explained<N: Namer, A: Allocator + Copy, R: Source + Drop, W: Sink
     }
 }
 
-/// Whether a repository has no refs.
-fn has_no_refs<N: Namer, A: Allocator + Copy>(repo: &Repo<N, A>) -> bool
-    ensures { IsTrue result → repo.now.1.refs ≡ [] }
-{
-    repo.refs().next().is_none()
-}
-
-/// Replays a stream's commands, where these features are asked for, and publishes what they made. A refused import leaves
-/// the refs of the last checkpoint, and its objects in front of those that were added.
-fn replay_and_publish<N: Namer, A: Allocator + Copy, R: Source + Drop, W: Sink>(
-    alloc: A,
-    repo: &mut Repo<N, A>,
-    checkpoints: &mut Checkpoints<A>,
-    source: R,
-    sink: &mut W,
-    features: Features,
-    told: &mut Explanation<A>,
-) -> Result<Report, ImportFault>
-    requires blank { TellsNothing told.now }
-    requires none { AreNone repo.now.1 checkpoints.now }
-    ensures namer { repo.new.0 ≡ repo.old.0 }
-    ensures extends { Extends repo.old.1.records repo.new.1.records }
-    ensures replayed { LeavesImport N.name_of W.taken features repo.old repo.new checkpoints.new (R.coming source) sink.old sink.new result }
-    ensures explained { ExplainsAsked N.name_of features repo.old (R.coming source) result told.new }
-    ensures left { OnErr result (IsLeft repo.old.1 repo.new.1 checkpoints.new) }
-    ensures counted { IfErr result (λ fault. fault.checkpoints ≡ checkpoints.new.count) }
-    ensures gitlinks { KeepsNoNullGitlink repo.old.1 (left_by result checkpoints.new repo.new.1) }
-{
-    let mut tables = Tables::new(alloc, features.force);
-    replay_into(repo, &mut tables, checkpoints, source, sink, features, told)
-}
-
-/// Replays a stream's commands into these tables, and publishes what they made.
+/// Replays a stream's commands into these tables, where these features are asked for, and publishes what they made. A refused
+/// import leaves the refs of the last checkpoint, and its objects in front of those that were added.
 fn replay_into<N: Namer, A: Allocator + Copy, R: Source + Drop, W: Sink>(
     repo: &mut Repo<N, A>,
     tables: &mut Tables<A>,
-    checkpoints: &mut Checkpoints<A>,
+    checkpoints: &mut Checkpoints,
     source: R,
     sink: &mut W,
     features: Features,
@@ -190,7 +171,8 @@ fn replay_into<N: Namer, A: Allocator + Copy, R: Source + Drop, W: Sink>(
     requires none { AreNone repo.now.1 checkpoints.now }
     ensures namer { repo.new.0 ≡ repo.old.0 }
     ensures extends { Extends repo.old.1.records repo.new.1.records }
-    ensures replayed { LeavesImport N.name_of W.taken features repo.old repo.new checkpoints.new (R.coming source) sink.old sink.new result }
+    ensures replayed { Imports features (N.name_of repo.old.0) repo.old.1
+        (left_by result checkpoints.new repo.new.1) (R.coming source) (W.taken sink.old) (W.taken sink.new) result }
     ensures explained { ExplainsAsked N.name_of features repo.old (R.coming source) result told.new }
     ensures left { OnErr result (IsLeft repo.old.1 repo.new.1 checkpoints.new) }
     ensures counted { IfErr result (λ fault. fault.checkpoints ≡ checkpoints.new.count) }
@@ -198,14 +180,9 @@ fn replay_into<N: Namer, A: Allocator + Copy, R: Source + Drop, W: Sink>(
 {
     histories_of_records();
     let held = repo.store().len();
-    let commands = replay(repo, tables, checkpoints, source, sink, features, told)?;
-    if let Err(kind) = publish(
-        repo,
-        tables,
-        &mut checkpoints.refs,
-        checkpoints.has_all,
-        &mut told.loss,
-    ) {
+    let mut reader = CommandReader::asking(tables.alloc, source, features);
+    let commands = replay_commands(repo, tables, checkpoints, &mut reader, sink, told)?;
+    if let Err(kind) = publish(repo, tables, &mut told.loss) {
         return Err(ImportFault {
             command: commands + 1,
             kind,
@@ -216,6 +193,6 @@ fn replay_into<N: Namer, A: Allocator + Copy, R: Source + Drop, W: Sink>(
     Ok(Report {
         commands,
         objects,
-        refs: checkpoints.refs.rows.len() as u64,
+        refs: published_refs(tables),
     })
 }

@@ -1,21 +1,21 @@
 //! What an import publishes. Source: git-fast-import(1), "force", and gitglossary(7), "fast-forward".
 
-ghost use Rattle.std.specs.Prelude.{◌≡◌, [], ◌∷◌, map, is_some, Some, None, IfErr, IfSome, OnOk, OnErr};
+ghost use Rattle.std.specs.Prelude.{◌≡◌, List, [], ◌∷◌, is_some, map, Some, None, IfErr, IfOk, IfSome, OnOk, OnErr};
+ghost use Rattle.std.specs.List.{filter};
+ghost use Rattle.std.specs.Map.{lookup};
 ghost use Rattle.std.specs.Option.{option_map};
-ghost use Rattle.gx_model.specs.Records.Publishing.{changes_fault};
+ghost use Rattle.gx_model.specs.Records.Publishing.{Ref, changes_fault, with_changes};
+ghost use Rattle.gx_model.specs.Texts.{same_bytes};
 ghost use Rattle.gx_repo.specs.Refs.{shown_update};
 ghost use Rattle.gx_rev.specs.Parents.{HoldsParents};
-ghost use Rattle.gx_import.specs.Calls.{IsCommitIfAny, TellsForward, TellsMovable};
-ghost use Rattle.gx_import.specs.Keeping.{AreMoved, EntersInEach, EntersNames, EntersUpdates, HasAll};
-ghost use Rattle.gx_import.specs.Publishing.{PublishesInEach, TellsFastForward};
+ghost use Rattle.gx_import.specs.Calls.{IsCommitIfAny, KeepsTipsAtHome, TellsForward, TellsMovable};
+ghost use Rattle.gx_import.specs.Publishing.{PublishesInEach, TellsFastForward, published_count};
 ghost use Rattle.gx_import.specs.Losing.{TellsLossInEach, TellsLossOf, TellsWhoLoses};
-ghost use Rattle.gx_import.specs.RefChanges.{Appends, AppendsBranch, AppendsBranches, AppendsTag, AppendsTags, ChangesRefs, GivesMoved, IsHeldByRef, changes_of, is_at, is_due_by};
-ghost use Rattle.gx_import.specs.Rows.{IsSorted, rows_of};
+ghost use Rattle.gx_import.specs.RefChanges.{Appends, AppendsMoved, IsHeldByRef, branch_changes, branch_then, due_tags, is_at, is_due_by, moved_of};
 ghost use Rattle.gx_import.specs.Standing.{StandsForSome};
 ghost use Rattle.gx_model.specs.declared.faults.Fault.TheVariants.{OutOfMemory};
 
-use crate::branches::Tip;
-use crate::new_names::new_names;
+use crate::branches::{Tip, count_published, is_published, set_published};
 use crate::table::Table;
 use crate::tables::Tables;
 use crate::{ImportKind, RefLoss};
@@ -25,36 +25,48 @@ use gx_repo::{PublishFault, RefChange, Repo};
 use gx_rev::{Parents, is_ancestor};
 use std::alloc::{AllocError, Allocator};
 
-/// Publishes the branches with a commit, and then the tags, and enters their names among those that were published, which
-/// may be all refs. `NotFastForward` tells the first branch that would lose a commit.
+/// Publishes the branches with a commit, and then the tags. `NotFastForward` tells the first branch that would lose a commit.
 pub(crate) fn publish<N: Namer, A: Allocator + Copy>(
     repo: &mut Repo<N, A>,
-    tables: &Tables<A>,
-    published: &mut Table<Name, A>,
-    has_all: bool,
+    tables: &mut Tables<A>,
     loss: &mut Option<RefLoss<A>>,
 ) -> Result<(), ImportKind>
     requires stands { StandsForSome N.name_of repo.now tables.now }
-    requires sorted { IsSorted published.now }
-    requires has_all { HasAll has_all repo.now.1.refs (rows_of published.now) }
     requires blank { loss.now ≡ None }
+    ensures homes { KeepsTipsAtHome tables.old tables.new result }
     ensures namer { repo.new.0 ≡ repo.old.0 }
     ensures records { repo.new.1.records ≡ repo.old.1.records }
     ensures unchanged { OnErr result (repo.new ≡ repo.old) }
-    ensures published { PublishesInEach N.name_of repo.old repo.new tables.now result }
-    ensures entered { EntersInEach N.name_of repo.old tables.now published.old published.new result }
-    ensures sorted { OnOk result (IsSorted published.new) }
-    ensures has_all { OnOk result (HasAll has_all repo.new.1.refs (rows_of published.new)) }
-    ensures loss { TellsLossInEach N.name_of repo.old tables.now result loss.new }
+    ensures published { PublishesInEach N.name_of repo.old repo.new tables.old tables.new result }
+    ensures loss { TellsLossInEach N.name_of repo.old tables.old result loss.new }
 {
     histories_of_records();
     repo.sound();
+    tables.branches.sorted();
+    tables.tags.sorted();
     let Some(changes) = changes(repo, tables, loss)? else {
         return Err(ImportKind::NotFastForward);
     };
-    enter_names(tables, published, has_all, changes.as_slice())?;
     publish_all(repo, changes.as_slice())?;
+    drop(changes);
+    set_published(&mut tables.branches);
     Ok(())
+}
+
+/// How many refs were published, each name once, where all tags were: the branches that were published with a commit, and the
+/// tags whose refs are none of these.
+///
+/// Cost: the number of branches, and for each tag a search among them. Takes no memory.
+pub(crate) fn published_refs<A: Allocator + Copy>(tables: &Tables<A>) -> u64
+    ensures { result ≡ published_count tables.now }
+{
+    let mut count = count_published(&tables.branches) as u64;
+    for (name, _) in tables.tags.iter() {
+        if !is_published(&tables.branches, name.as_slice()) {
+            count += 1;
+        }
+    }
+    count
 }
 
 /// The refs to be set: the branches with a commit that their refs don't hold already, and then the tags that are to be set
@@ -67,7 +79,8 @@ fn changes<'a, N: Namer, A: Allocator + Copy>(
     requires stands { StandsForSome N.name_of repo.now tables.now }
     requires blank { loss.now ≡ None }
     ensures forward { TellsFastForward N.name_of repo.now tables.now is_some result }
-    ensures changes { GivesMoved repo.now.1.refs tables.now result }
+    ensures changes { IfOk result (λ changes. IfSome changes (λ given.
+        map shown_update given.items ≡ moved_of repo.now.1.refs tables.now)) }
     ensures loss { TellsWhoLoses N.name_of repo.now tables.now is_some result loss.new }
 {
     let mut changes = Vec::new(tables.alloc);
@@ -89,13 +102,14 @@ fn append_branches<'a, N: Namer, A: Allocator + Copy>(
     requires stands { StandsForSome N.name_of repo.now tables.now }
     requires blank { loss.now ≡ None }
     ensures forward { TellsFastForward N.name_of repo.now tables.now (λ is_forward. is_forward) result }
-    ensures appended { AppendsBranches repo.now.1.refs tables.now changes.old changes.new result }
+    ensures appended { AppendsMoved repo.now.1.refs (branch_changes tables.now.branches)
+        changes.old changes.new result }
     ensures loss { TellsWhoLoses N.name_of repo.now tables.now (λ is_forward. is_forward) result loss.new }
 {
     repo.sound();
     let mut place = 0;
     let mut parents = Parents::new(tables.alloc);
-    for (name, tip) in &tables.branches.rows {
+    for (name, tip) in tables.branches.iter() {
         let (next, object) = repo.ref_near(place, name.as_slice());
         place = next;
         if !append_branch(
@@ -156,7 +170,9 @@ fn append_branch<'a, N: Namer, A: Allocator + Copy>(
     requires commit { IsCommitIfAny N.name_of repo.now commit }
     ensures holds { HoldsParents repo.now.1 parents.new }
     ensures forward { TellsMovable N.name_of repo.now tables.now.is_forced object commit result }
-    ensures appended { AppendsBranch name.now object commit changes.old changes.new result }
+    ensures appended { (refs : List Ref)
+        → option_map (λ held. held.bytes) object ≡ lookup (same_bytes name.now) refs
+        → AppendsMoved refs (branch_then name.now commit []) changes.old changes.new result }
 {
     repo.sound();
     let Some(target) = commit else {
@@ -212,11 +228,10 @@ fn append_tags<'a, N: Namer, A: Allocator + Copy>(
     repo: &Repo<N, A>,
     tables: &'a Tables<A>,
 ) -> Result<(), AllocError>
-    requires sorted { IsSorted tables.now.branches }
-    ensures { OnOk result (AppendsTags repo.now.1.refs tables.now changes.old changes.new) }
+    ensures { OnOk result (Appends (due_tags repo.now.1.refs tables.now) changes.old changes.new) }
 {
     let mut place = 0;
-    for (name, object) in &tables.tags.rows {
+    for (name, object) in tables.tags.iter() {
         let (next, held) = repo.ref_near(place, name.as_slice());
         place = next;
         append_tag(changes, &tables.branches, name.as_slice(), held, *object)?;
@@ -232,8 +247,9 @@ fn append_tag<'a, A: Allocator + Copy>(
     held: Option<Name>,
     target: Name,
 ) -> Result<(), AllocError>
-    requires sorted { IsSorted branches.now }
-    ensures { OnOk result (AppendsTag (rows_of branches.now) held (name.now, target.bytes) changes.old changes.new) }
+    ensures { OnOk result (Appends
+        (filter (is_due_by branches.now (option_map (λ n. n.bytes) held)) ((name.now, target.bytes) ∷ []))
+        changes.old changes.new) }
 {
     if is_due(branches, name, held, target) {
         changes.push(RefChange { name, target })?;
@@ -248,8 +264,7 @@ fn is_due<A: Allocator + Copy>(
     held: Option<Name>,
     target: Name,
 ) -> bool
-    requires sorted { IsSorted branches.now }
-    ensures { result ≡ is_due_by (rows_of branches.now) (option_map (λ n. n.bytes) held) (name.now, target.bytes) }
+    ensures { result ≡ is_due_by branches.now (option_map (λ n. n.bytes) held) (name.now, target.bytes) }
 {
     // most tags stand still between two checkpoints
     if !is_at(held, target) {
@@ -266,7 +281,8 @@ fn publish_all<N: Namer, A: Allocator + Copy>(
     requires { changes_fault repo.now.1.records (map shown_update changes.now) ≡ None }
     ensures namer { repo.new.0 ≡ repo.old.0 }
     ensures records { repo.new.1.records ≡ repo.old.1.records }
-    ensures refs { OnOk result (ChangesRefs repo.old.1 repo.new.1 changes.now) }
+    ensures refs { OnOk result (repo.new.1.refs
+        ≡ with_changes repo.old.1.refs (map shown_update changes.now)) }
     ensures unchanged { OnErr result (repo.new ≡ repo.old) }
     ensures fault { IfErr result (λ fault. fault ≡ OutOfMemory) }
 {
@@ -277,57 +293,4 @@ fn publish_all<N: Namer, A: Allocator + Copy>(
             _ => unreachable!(),
         },
     }
-}
-
-/// Enters the names of the branches with a commit and of the tags, where these changes set the refs. A ref that is to stay
-/// has its name there already, where all refs are published ones; else the names are gone through for new ones.
-fn enter_names<A: Allocator + Copy>(
-    tables: &Tables<A>,
-    published: &mut Table<Name, A>,
-    has_all: bool,
-    changes: &[RefChange<'_>],
-) -> Result<(), AllocError>
-    requires sorted { IsSorted published.now }
-    requires changes { AreMoved has_all published.now tables.now (map shown_update changes.now) }
-    ensures sorted { OnOk result (IsSorted published.new) }
-    ensures entered { OnOk result (EntersNames published.old published.new (changes_of tables.now)) }
-{
-    if has_all {
-        return enter_all(tables.alloc, published, changes);
-    }
-    let names = new_names(tables, published)?;
-    enter_all(tables.alloc, published, names.as_slice())
-}
-
-/// Enters the names of these refs, those that aren't there yet.
-fn enter_all<A: Allocator + Copy>(
-    alloc: A,
-    published: &mut Table<Name, A>,
-    changes: &[RefChange<'_>],
-) -> Result<(), AllocError>
-    requires sorted { IsSorted published.now }
-    ensures sorted { OnOk result (IsSorted published.new) }
-    ensures entered { OnOk result (EntersUpdates published.old published.new changes.now) }
-{
-    for change in changes {
-        enter(alloc, published, change)?;
-    }
-    Ok(())
-}
-
-/// Enters the name of a ref, unless it is there.
-fn enter<A: Allocator + Copy>(
-    alloc: A,
-    published: &mut Table<Name, A>,
-    change: &RefChange<'_>,
-) -> Result<(), AllocError>
-    requires sorted { IsSorted published.now }
-    ensures sorted { OnOk result (IsSorted published.new) }
-    ensures entered { OnOk result (EntersUpdates published.old published.new (change.now ∷ [])) }
-{
-    if published.get(change.name).is_none() {
-        let name = Vec::from_slice(alloc, change.name)?;
-        published.set(name, change.target)?;
-    }
-    Ok(())
 }

@@ -1,18 +1,18 @@
 //! The commands of a stream, applied one after the other. Source: git-fast-import(1), "Commands".
 
+ghost use Rattle.gx_import.specs.Applying.{Applies};
 ghost use Rattle.std.specs.Prelude.{◌≡◌, None, ◌<◌, ◌≤◌, ◌-◌, ◌^◌, length, ◌+◌, IfErr, IfOk, OnErr, OnOk};
+ghost use Rattle.gx_command.specs.Reading.{ReadsNoNullGitlink};
+ghost use Rattle.gx_command.specs.Views.{shown_command};
+ghost use Rattle.gx_import.specs.Calls.{AsksFor, InEach, KeepsTipsAtHome};
+ghost use Rattle.gx_import.specs.Explaining.{ExplainsRead, TellsAll, TellsNothing};
 ghost use Rattle.gx_import.specs.Exported.{MakesNoNullGitlink};
 ghost use Rattle.gx_import.specs.Imports.{line_of};
-ghost use Rattle.gx_import.specs.Keeping.{AreNone, AreStill, EntersEach, HoldsAll, IsLeft, IsNext, KeepsInEach, Moves, left_of};
-ghost use Rattle.gx_command.specs.Reading.{ReadsNoNullGitlink};
-ghost use Rattle.gx_import.specs.Replaying.{FallsNext, ReadsNext, ReplaysRead, ReplaysTo, Writes};
-ghost use Rattle.gx_import.specs.Publishing.{PublishesInEach};
-ghost use Rattle.gx_import.specs.Explaining.{ExplainsAsked, ExplainsRead, TellsNothing};
+ghost use Rattle.gx_import.specs.Keeping.{AreNone, AreStill, IsLeft, IsNext, KeepsFromEach, Moves, left_of};
 ghost use Rattle.gx_import.specs.Losing.{TellsLossInEach};
-ghost use Rattle.gx_import.specs.Rows.{IsSorted};
-ghost use Rattle.gx_import.specs.Telling.{TellsInEach};
+ghost use Rattle.gx_import.specs.Publishing.{PublishesInEach};
+ghost use Rattle.gx_import.specs.Replaying.{FallsNext, ReadsNext, ReplaysRead, Writes};
 ghost use Rattle.gx_import.specs.Standing.{AreEmpty, Extends, HasTipsAtHome, StandsForSome};
-ghost use Rattle.gx_import.specs.Calls.{AppliesInEach, AsksFor};
 
 use crate::blob::apply_blob;
 use crate::checkpoints::Checkpoints;
@@ -22,48 +22,18 @@ use crate::reset::apply_reset;
 use crate::tables::Tables;
 use crate::tag::apply_tag;
 use crate::{Explanation, ImportFault, ImportKind, RefLoss};
-use gx_command::{Command, CommandReader, Feature, Features};
+use gx_command::{Command, CommandReader, Feature};
 use gx_object::Namer;
 use gx_repo::Repo;
 use gx_text::{Sink, Source, send};
 use gx_tree::{records_keep_home, records_keep_loaded};
 use std::alloc::Allocator;
 
-/// Applies all commands of a source, where these features are asked for, and answers their number.
-pub(crate) fn replay<N: Namer, A: Allocator + Copy, R: Source + Drop, W: Sink>(
-    repo: &mut Repo<N, A>,
-    tables: &mut Tables<A>,
-    checkpoints: &mut Checkpoints<A>,
-    source: R,
-    sink: &mut W,
-    features: Features,
-    told: &mut Explanation<A>,
-) -> Result<u64, ImportFault>
-    requires blank { TellsNothing told.now }
-    requires empty { AreEmpty tables.now }
-    requires forced { tables.now.is_forced ≡ features.force }
-    requires none { AreNone repo.now.1 checkpoints.now }
-    ensures namer { repo.new.0 ≡ repo.old.0 }
-    ensures extends { Extends repo.old.1.records repo.new.1.records }
-    ensures count { IfOk result (λ commands. commands ≤ 2 ^ 63 - 1) }
-    ensures replayed { ReplaysTo N.name_of W.taken features repo.old repo.new tables.new checkpoints.new (R.coming source) sink.old sink.new result }
-    ensures explained { ExplainsAsked N.name_of features repo.old (R.coming source) result told.new }
-    ensures left { IsLeft repo.old.1 repo.new.1 checkpoints.new }
-    ensures sorted { OnOk result (IsSorted checkpoints.new.refs) }
-    ensures has_all { OnOk result (HoldsAll repo.new.1 checkpoints.new) }
-    ensures counted { IfErr result (λ fault. fault.checkpoints ≡ checkpoints.new.count) }
-    ensures gitlinks { OnOk result (MakesNoNullGitlink repo.old.1 repo.new.1) }
-    ensures gitlinks_left { MakesNoNullGitlink repo.old.1 (left_of checkpoints.new repo.new.1) }
-{
-    let mut reader = CommandReader::asking(tables.alloc, source, features);
-    replay_commands(repo, tables, checkpoints, &mut reader, sink, told)
-}
-
 /// Applies the commands of a reader that has given none yet, and answers their number.
-fn replay_commands<N: Namer, A: Allocator + Copy, R: Source, W: Sink>(
+pub(crate) fn replay_commands<N: Namer, A: Allocator + Copy, R: Source, W: Sink>(
     repo: &mut Repo<N, A>,
     tables: &mut Tables<A>,
-    checkpoints: &mut Checkpoints<A>,
+    checkpoints: &mut Checkpoints,
     reader: &mut CommandReader<R, A>,
     sink: &mut W,
     told: &mut Explanation<A>,
@@ -75,12 +45,11 @@ fn replay_commands<N: Namer, A: Allocator + Copy, R: Source, W: Sink>(
     ensures namer { repo.new.0 ≡ repo.old.0 }
     ensures extends { Extends repo.old.1.records repo.new.1.records }
     ensures count { IfOk result (λ commands. commands ≤ 2 ^ 63 - 1) }
-    ensures replayed { ReplaysRead N.name_of W.taken repo.old repo.new tables.old.is_forced tables.new checkpoints.new
-        reader.old.commands sink.old sink.new result }
-    ensures explained { ExplainsRead N.name_of repo.old tables.old.is_forced reader.old.commands result told.new }
+    ensures replayed { ReplaysRead N.name_of W.taken repo.old repo.new tables.old.is_forced tables.new
+        checkpoints.new reader.old.commands sink.old sink.new result }
+    ensures explained { ExplainsRead N.name_of repo.old tables.old.is_forced reader.old.commands result
+        told.new }
     ensures left { IsLeft repo.old.1 repo.new.1 checkpoints.new }
-    ensures sorted { OnOk result (IsSorted checkpoints.new.refs) }
-    ensures has_all { OnOk result (HoldsAll repo.new.1 checkpoints.new) }
     ensures counted { IfErr result (λ fault. fault.checkpoints ≡ checkpoints.new.count) }
     ensures gitlinks { OnOk result (MakesNoNullGitlink repo.old.1 repo.new.1) }
     ensures gitlinks_left { MakesNoNullGitlink repo.old.1 (left_of checkpoints.new repo.new.1) }
@@ -125,7 +94,7 @@ fn next_command<R: Source, A: Allocator + Copy>(
 fn apply<N: Namer, A: Allocator + Copy, W: Sink>(
     repo: &mut Repo<N, A>,
     tables: &mut Tables<A>,
-    checkpoints: &mut Checkpoints<A>,
+    checkpoints: &mut Checkpoints,
     sink: &mut W,
     command: Command<A>,
     told: &mut Explanation<A>,
@@ -135,17 +104,17 @@ fn apply<N: Namer, A: Allocator + Copy, W: Sink>(
     requires homes { HasTipsAtHome N.name_of repo.now tables.now }
     requires fits { checkpoints.now.records ≤ length repo.now.1.records }
     requires room { checkpoints.now.count < 2 ^ 64 - 1 }
-    requires sorted { IsSorted checkpoints.now.refs }
-    requires has_all { HoldsAll repo.now.1 checkpoints.now }
     ensures homes { IfOk result (λ _. HasTipsAtHome N.name_of (repo.old.0, repo.new.1) tables.new) }
     ensures namer { repo.new.0 ≡ repo.old.0 }
     ensures extends { Extends repo.old.1.records repo.new.1.records }
     ensures moves { Moves repo.old.1 repo.new.1 checkpoints.old checkpoints.new }
-    ensures sorted { OnOk result (IsSorted checkpoints.new.refs) }
-    ensures has_all { OnOk result (HoldsAll repo.new.1 checkpoints.new) }
-    ensures keeps { KeepsInEach N.name_of repo.old repo.new tables.old checkpoints.old checkpoints.new command result }
-    ensures steps { AppliesInEach N.name_of W.taken repo.old repo.new tables.old tables.new command sink.old sink.new result }
-    ensures told { TellsInEach N.name_of repo.old tables.old command result told.new }
+    ensures keeps { KeepsFromEach (N.name_of repo.old.0) repo.old.1 repo.new.1 tables.old
+        checkpoints.old checkpoints.new (shown_command command) result }
+    ensures steps { InEach N.name_of repo.old tables.old
+        (λ s. Applies (N.name_of repo.old.0) repo.old.1 repo.new.1 tables.new s
+        (shown_command command) (W.taken sink.old) (W.taken sink.new) result) }
+    ensures told { InEach N.name_of repo.old tables.old
+        (λ s. TellsAll (N.name_of repo.old.0) s (shown_command command) result told.new) }
 {
     records_keep_home();
     records_keep_loaded();
@@ -167,27 +136,22 @@ fn apply<N: Namer, A: Allocator + Copy, W: Sink>(
 /// Publishes what was made so far: after a later fault it is kept. `NotFastForward` tells the ref that would lose a commit.
 fn apply_checkpoint<N: Namer, A: Allocator + Copy>(
     repo: &mut Repo<N, A>,
-    tables: &Tables<A>,
-    checkpoints: &mut Checkpoints<A>,
+    tables: &mut Tables<A>,
+    checkpoints: &mut Checkpoints,
     loss: &mut Option<RefLoss<A>>,
 ) -> Result<(), ImportKind>
     requires stands { StandsForSome N.name_of repo.now tables.now }
     requires room { checkpoints.now.count < 2 ^ 64 - 1 }
-    requires sorted { IsSorted checkpoints.now.refs }
-    requires has_all { HoldsAll repo.now.1 checkpoints.now }
     requires blank { loss.now ≡ None }
+    ensures homes { KeepsTipsAtHome tables.old tables.new result }
     ensures namer { repo.new.0 ≡ repo.old.0 }
     ensures records { repo.new.1.records ≡ repo.old.1.records }
     ensures next { OnOk result (IsNext repo.new.1 checkpoints.old checkpoints.new) }
     ensures still { OnErr result (AreStill repo.old.1 repo.new.1 checkpoints.old checkpoints.new) }
-    ensures published { PublishesInEach N.name_of repo.old repo.new tables.now result }
-    ensures entered { EntersEach N.name_of repo.old tables.now checkpoints.old checkpoints.new result }
-    ensures sorted { OnOk result (IsSorted checkpoints.new.refs) }
-    ensures has_all { OnOk result (HoldsAll repo.new.1 checkpoints.new) }
-    ensures loss { TellsLossInEach N.name_of repo.old tables.now result loss.new }
+    ensures published { PublishesInEach N.name_of repo.old repo.new tables.old tables.new result }
+    ensures loss { TellsLossInEach N.name_of repo.old tables.old result loss.new }
 {
-    let has_all = checkpoints.has_all;
-    publish(repo, tables, &mut checkpoints.refs, has_all, loss)?;
+    publish(repo, tables, loss)?;
     checkpoints.count += 1;
     checkpoints.records = repo.store().len();
     Ok(())

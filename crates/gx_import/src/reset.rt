@@ -1,12 +1,10 @@
 //! Reset commands. Source: git-fast-import(1), "reset".
 
+ghost use Rattle.gx_import.specs.Asking.{AsksInVain, TellsVainIn};
 ghost use Rattle.std.specs.Prelude.{◌≡◌, None};
 ghost use Rattle.gx_command.specs.Views.{shown_reset};
-ghost use Rattle.gx_import.specs.Rows.{IsSorted};
-ghost use Rattle.gx_import.specs.Calls.{KeepsTipsAtHome, NamesTarget, Resets};
-ghost use Rattle.gx_import.specs.TellingAsked.{AskedBy};
+ghost use Rattle.gx_import.specs.Calls.{InEach, KeepsTipsAtHome, NamesTarget, Resets};
 
-use crate::branches::Tip;
 use crate::commit_ish::committed_for;
 use crate::tables::Tables;
 use crate::{Asked, ImportKind};
@@ -22,11 +20,12 @@ pub(crate) fn apply_reset<N: Namer, A: Allocator + Copy>(
     reset: Reset<A>,
     asked: &mut Option<Asked<A>>,
 ) -> Result<(), ImportKind>
-    requires sorted { IsSorted tables.now.branches }
     requires unasked { asked.now ≡ None }
     ensures homes { KeepsTipsAtHome tables.old tables.new result }
     ensures steps { Resets N.name_of repo.now tables.old tables.new reset result }
-    ensures asked { AskedBy N.name_of repo.now tables.old (shown_reset reset) result asked.new }
+    ensures asked { InEach N.name_of repo.now tables.old
+        (λ s. TellsVainIn (AsksInVain (N.name_of repo.now.0) s (shown_reset reset))
+        result asked.new) }
 {
     let commit = match target(repo, tables, &reset) {
         Ok(commit) => commit,
@@ -35,11 +34,7 @@ pub(crate) fn apply_reset<N: Namer, A: Allocator + Copy>(
             return Err(kind);
         }
     };
-    let tip = Tip {
-        commit,
-        files: None,
-    };
-    Ok(tables.set_tip(reset.branch.bytes, tip)?)
+    Ok(tables.set_tip(reset.branch.bytes, commit, None)?)
 }
 
 /// The commit of its `from`.
@@ -48,7 +43,6 @@ fn target<N: Namer, A: Allocator + Copy>(
     tables: &Tables<A>,
     reset: &Reset<A>,
 ) -> Result<Option<Name>, ImportKind>
-    requires sorted { IsSorted tables.now.branches }
     ensures { NamesTarget N.name_of repo.now tables.now reset.now result }
 {
     match &reset.from {

@@ -1,16 +1,18 @@
 //! What an import has made so far, besides the objects.
 
 ghost use Rattle.std.specs.Prelude.{◌≡◌, OnOk};
+ghost use Rattle.std.specs.FinMap.Entries.{put};
+ghost use Rattle.gx_model.specs.Texts.{byte_cmp};
 ghost use Rattle.gx_import.specs.AtHand.{IsEntered};
-ghost use Rattle.gx_import.specs.Rows.{AreRows, IsSorted, SetsRow, rows_of};
-ghost use Rattle.gx_import.specs.Standing.{AreEmpty, IsTaken};
+ghost use Rattle.gx_import.specs.Rows.{AreRows};
+ghost use Rattle.gx_import.specs.Standing.{AreEmpty, IsTaken, tip_at};
 
 use crate::at_hand::AtHand;
-use crate::branches::{Tip, take_files};
+use crate::branches::{Tip, is_published, take_files};
 use crate::marks::Marks;
 use crate::table::Table;
 use gx_object::Name;
-use gx_tree::LoadedTrees;
+use gx_tree::{LoadedTrees, PathTree};
 use std::alloc::{AllocError, Allocator};
 
 /// The marks, branches and tags of an import, and whether a branch may lose commits.
@@ -45,19 +47,28 @@ impl<A: Allocator + Copy> Tables<A> {
         }
     }
 
-    /// Sets where a branch stands. The files that it has at hand are found by its commit, and those that it had no more.
+    /// Sets where a branch stands: at a commit or at none, with the commit's files where they are to be at hand. A branch that
+    /// was published stays so. The files that it has at hand are found by its commit, and those that it had no more.
     ///
     /// Cost: the name, and the logarithm of the number of branches.
-    pub(crate) fn set_tip(&mut self, branch: Vec<u8, A>, tip: Tip<A>) -> Result<(), AllocError>
-        requires sorted { IsSorted self.now.branches }
-        ensures marks { self.new.marks ≡ self.old.marks }
-        ensures branches { OnOk result (SetsRow branch.items tip self.old.branches self.new.branches) }
-        ensures entered { OnOk result (IsEntered self.new.at_hand branch.items tip) }
-        ensures tags { self.new.tags ≡ self.old.tags }
-        ensures forced { self.new.is_forced ≡ self.old.is_forced }
-        ensures loaded { self.new.loaded ≡ self.old.loaded }
+    pub(crate) fn set_tip(
+        &mut self,
+        branch: Vec<u8, A>,
+        commit: Option<Name>,
+        files: Option<PathTree<A>>,
+    ) -> Result<(), AllocError>
+        ensures others { self.new
+            ≡ record self.old { branches = self.new.branches; at_hand = self.new.at_hand } }
+        ensures branches { OnOk result (self.new.branches
+            ≡ put byte_cmp branch.items (tip_at commit files self.old.branches branch.items) self.old.branches) }
+        ensures entered { OnOk result (IsEntered self.new.at_hand branch.items commit files) }
     {
         self.forget_tip(branch.as_slice());
+        let tip = Tip {
+            commit,
+            files,
+            was_published: is_published(&self.branches, branch.as_slice()),
+        };
         self.enter_tip(branch.as_slice(), &tip)?;
         self.branches.set(branch, tip)
     }
@@ -67,13 +78,9 @@ impl<A: Allocator + Copy> Tables<A> {
     ///
     /// Cost: the logarithm of the number of branches. Takes no memory.
     pub(crate) fn make_room(&mut self)
-        requires sorted { IsSorted self.now.branches }
-        ensures marks { self.new.marks ≡ self.old.marks }
-        ensures taken { AreRows IsTaken (rows_of self.old.branches) (rows_of self.new.branches) }
-        ensures sorted { IsSorted self.new.branches }
-        ensures tags { self.new.tags ≡ self.old.tags }
-        ensures forced { self.new.is_forced ≡ self.old.is_forced }
-        ensures loaded { self.new.loaded ≡ self.old.loaded }
+        ensures others { self.new
+            ≡ record self.old { branches = self.new.branches; at_hand = self.new.at_hand } }
+        ensures taken { AreRows IsTaken self.old.branches self.new.branches }
     {
         let Some((commit, branch)) = self.at_hand.pop_if_full() else {
             return;
@@ -83,12 +90,7 @@ impl<A: Allocator + Copy> Tables<A> {
 
     /// Forgets the commit at which a branch has files at hand.
     fn forget_tip(&mut self, branch: &[u8])
-        requires sorted { IsSorted self.now.branches }
-        ensures marks { self.new.marks ≡ self.old.marks }
-        ensures branches { self.new.branches ≡ self.old.branches }
-        ensures tags { self.new.tags ≡ self.old.tags }
-        ensures forced { self.new.is_forced ≡ self.old.is_forced }
-        ensures loaded { self.new.loaded ≡ self.old.loaded }
+        ensures { self.new ≡ record self.old { at_hand = self.new.at_hand } }
     {
         if let Some(tip) = self.branches.get(branch) {
             if let Some(commit) = tip.commit {
@@ -99,12 +101,9 @@ impl<A: Allocator + Copy> Tables<A> {
 
     /// Enters the commit of a branch, where its files are at hand.
     fn enter_tip(&mut self, branch: &[u8], tip: &Tip<A>) -> Result<(), AllocError>
-        ensures marks { self.new.marks ≡ self.old.marks }
-        ensures branches { self.new.branches ≡ self.old.branches }
-        ensures entered { OnOk result (IsEntered self.new.at_hand branch.now tip.now) }
-        ensures tags { self.new.tags ≡ self.old.tags }
-        ensures forced { self.new.is_forced ≡ self.old.is_forced }
-        ensures loaded { self.new.loaded ≡ self.old.loaded }
+        ensures others { self.new ≡ record self.old { at_hand = self.new.at_hand } }
+        ensures entered { OnOk result
+            (IsEntered self.new.at_hand branch.now tip.now.commit tip.now.files) }
     {
         match tip.commit {
             Some(commit) if tip.files.is_some() => self.at_hand.enter(self.alloc, commit, branch),

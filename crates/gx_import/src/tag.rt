@@ -1,16 +1,15 @@
 //! Tag commands. Source: git-fast-import(1), "tag".
 
-ghost use Rattle.std.specs.Prelude.{◌≡◌, IfOk, None};
+ghost use Rattle.gx_import.specs.Asking.{AsksInVain, TellsVainIn};
+ghost use Rattle.std.specs.Prelude.{◌≡◌, IfOk, None, Ok};
 ghost use Rattle.gx_model.specs.declared.objects.Kind.TheVariants as kinds;
 ghost use Rattle.gx_model.specs.Texts.RefNames.{tag_ref};
 ghost use Rattle.gx_model.specs.Records.Sound.{Holds};
 ghost use Rattle.gx_object.specs.Parts.{tag_parts as shown_parts};
 ghost use Rattle.gx_command.specs.Views.{shown_tag};
 ghost use Rattle.gx_import.specs.Objects.{tag_object};
-ghost use Rattle.gx_import.specs.Standing.{Extends, StandsForSome};
-ghost use Rattle.gx_import.specs.Calls.{AddsTagOf, IsTagged, Makes, NamesTagged};
-ghost use Rattle.gx_import.specs.Rows.{IsSorted};
-ghost use Rattle.gx_import.specs.TellingAsked.{AskedBy};
+ghost use Rattle.gx_import.specs.Standing.{OnlyAdds, StandsForSome};
+ghost use Rattle.gx_import.specs.Calls.{AddsTagOf, InEach, Makes, NamesTagged};
 
 use crate::commit::ident;
 use crate::commit_ish::object_named;
@@ -34,11 +33,10 @@ pub(crate) fn apply_tag<N: Namer, A: Allocator + Copy>(
     requires unasked { asked.now ≡ None }
     ensures branches { tables.new.branches ≡ tables.old.branches }
     ensures loaded { tables.new.loaded ≡ tables.old.loaded }
-    ensures namer { repo.new.0 ≡ repo.old.0 }
-    ensures refs { repo.new.1.refs ≡ repo.old.1.refs }
-    ensures extends { Extends repo.old.1.records repo.new.1.records }
+    ensures only { OnlyAdds repo.old repo.new }
     ensures steps { Makes N.name_of repo.old repo.new tables.old tables.new (shown_tag tag) result }
-    ensures asked { AskedBy N.name_of repo.old tables.old (shown_tag tag) result asked.new }
+    ensures asked { InEach N.name_of repo.old tables.old
+        (λ s. TellsVainIn (AsksInVain (N.name_of repo.old.0) s (shown_tag tag)) result asked.new) }
 {
     match target(repo, tables, &tag.from) {
         Ok(target) => make_tag(repo, tables, &tag, target),
@@ -55,7 +53,6 @@ fn target<N: Namer, A: Allocator + Copy>(
     tables: &Tables<A>,
     from: &CommitIsh<A>,
 ) -> Result<Name, ImportKind>
-    requires sorted { IsSorted tables.now.branches }
     ensures { NamesTagged N.name_of repo.now tables.now from.now result }
 {
     name_of_kind(object_named(repo, tables, from)?, Kind::Commit)
@@ -69,12 +66,10 @@ fn make_tag<N: Namer, A: Allocator + Copy>(
     target: Name,
 ) -> Result<(), ImportKind>
     requires stands { StandsForSome N.name_of repo.now tables.now }
-    requires target { IsTagged N.name_of repo.now tables.now tag.now.from target }
+    requires target { NamesTagged N.name_of repo.now tables.now tag.now.from (Ok target) }
     ensures branches { tables.new.branches ≡ tables.old.branches }
     ensures loaded { tables.new.loaded ≡ tables.old.loaded }
-    ensures namer { repo.new.0 ≡ repo.old.0 }
-    ensures refs { repo.new.1.refs ≡ repo.old.1.refs }
-    ensures extends { Extends repo.old.1.records repo.new.1.records }
+    ensures only { OnlyAdds repo.old repo.new }
     ensures steps { Makes N.name_of repo.old repo.new tables.old tables.new (shown_tag tag.now) result }
 {
     repo.sound();
@@ -92,9 +87,7 @@ fn add<N: Namer, A: Allocator + Copy>(
     tag: &Tag<A>,
 ) -> Result<Name, ImportKind>
     requires object { Holds repo.now.1.records kinds.Commit object.bytes }
-    ensures namer { repo.new.0 ≡ repo.old.0 }
-    ensures refs { repo.new.1.refs ≡ repo.old.1.refs }
-    ensures extends { Extends repo.old.1.records repo.new.1.records }
+    ensures only { OnlyAdds repo.old repo.new }
     ensures steps { AddsTagOf N.name_of repo.old repo.new object tag.now result }
 {
     repo.sound();

@@ -26,7 +26,7 @@ returns-clause-steps g c = λ s f h are.
 pub returns-clause-home : goal.returns-clause-home
 returns-clause-home g c = λ h.
     let name = g.N.Namer.name_of c.args.repo.now.0 in
-    c.modify.ensures.home name c.told_content.new.repo.1.records (home_longer c.records_keep_home.ensures name c.args.repo.now.1.records c.told_content.new.repo.1.records c.args.files.now c.told_content.ensures.extends h)
+    c.modify.ensures.home name c.told_content.new.repo.1.records (home_longer c.records_keep_home.ensures name c.args.repo.now.1.records c.told_content.new.repo.1.records c.args.files.now c.told_content.ensures.only.extends h)
 
 pub returns-in_err-name-clause-steps : goal.returns-in_err-name-clause-steps
 returns-in_err-name-clause-steps g c = λ s f h are.

@@ -13,7 +13,7 @@ use Rattle.gx_repo.specs.Additions.{HasValues}
 use Rattle.gx_import.specs.Objects.{IsTreeOf}
 use Rattle.gx_import.specs.Standing.{Follows}
 use Rattle.gx_model.specs.Objects.NameMaps.{AreFiles}
-use Rattle.gx_import.proofs.Extended.{extended_all, extended_more}
+use Rattle.gx_import.proofs.Extended.{extended_all, only_more}
 use Rattle.gx_model.proofs.Records.FilesByName.{contents_told}
 use Rattle.gx_import.proofs.GrownStates.{clash_after, clash_first, commits_keep, tree_has, tree_keeps, tree_stands, trees_clash, with_files}
 use Rattle.gx_import.proofs.HeldParts.{holds_kept}
@@ -39,8 +39,10 @@ pub add_alone-requires-clause-parents : goal.add_alone-requires-clause-parents
 add_alone-requires-clause-parents g c =
     holds_kept c.args.repo.now.1.records c.add_tree_shared.new.self.1.records c.in_ok-tree.ensures.keeps c.args.parents.now c.requires.parents
 
-pub returns-clause-extends : goal.returns-clause-extends
-returns-clause-extends g c = extended_more _ _ _ (extended_all _ _ _ _ _ c.add_tree_shared.ensures.adds) c.add_alone.ensures.extends
+pub returns-clause-only : goal.returns-clause-only
+returns-clause-only g c =
+    let adds = c.add_tree_shared.ensures in
+    only_more _ _ _ (record { namer = adds.namer; refs = adds.refs; extends = extended_all _ _ _ _ _ adds.adds }) c.add_alone.ensures.only
 
 pub returns-clause-steps : goal.returns-clause-steps
 returns-clause-steps g c = λ tables s f ps h files parents.
@@ -66,4 +68,4 @@ returns-clause-steps g c = λ tables s f ps h files parents.
 pub returns-clause-home : goal.returns-clause-home
 returns-clause-home g c =
     let name = g.N.Namer.name_of c.args.repo.now.0 in
-    always _ c.add_alone.result (home_longer c.records_keep_home.ensures name c.add_tree_shared.new.self.1.records c.add_alone.new.repo.1.records c.add_tree_shared.new.tree c.add_alone.ensures.extends c.in_ok-tree.ensures.home)
+    always _ c.add_alone.result (home_longer c.records_keep_home.ensures name c.add_tree_shared.new.self.1.records c.add_alone.new.repo.1.records c.add_tree_shared.new.tree c.add_alone.ensures.only.extends c.in_ok-tree.ensures.home)

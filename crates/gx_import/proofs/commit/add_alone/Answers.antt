@@ -39,8 +39,8 @@ returns-in_err-add_commit-clause-steps g c = λ tables s f ps h tree parents.
     (commit_clashes name namer r c.sound.ensures f c.args.tree of_tree ps c.args.parents.now of_parents text (c.puts_add_values.ensures name namer) (text_proper c.args.commit.now) _ c.object_parts.ensures)
     c.in_err-add_commit.ensures.adds)
 
-pub returns-clause-extends : goal.returns-clause-extends
-returns-clause-extends g c = extended_one _ _ _ _ c.add_commit.ensures.adds
+pub returns-clause-only : goal.returns-clause-only
+returns-clause-only g c = record { namer = c.add_commit.ensures.namer; refs = c.add_commit.ensures.refs; extends = extended_one _ _ _ _ c.add_commit.ensures.adds }
 
 pub returns-clause-steps : goal.returns-clause-steps
 returns-clause-steps g c = λ tables s f ps h tree parents.

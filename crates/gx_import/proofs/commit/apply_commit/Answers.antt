@@ -1,7 +1,7 @@
 use Rattle.std.proofs.Common.{sym, subst}
 use Rattle.std.proofs.lemmas.Result.{err_from_is_err_and}
-use Rattle.gx_command.specs.Views.{commit_parts}
-use Rattle.gx_import.specs.Calls.{AreParentsOf, MakesCommit}
+use Rattle.gx_command.specs.Views.{commit_parts, shown_commit}
+use Rattle.gx_import.specs.Calls.{AreParentsOf, Makes}
 use Rattle.gx_import.proofs.AskedReferences.{merge_vain, parent_vain}
 use Rattle.gx_import.proofs.MadeCommits.{first_refused, others_refused}
 use Rattle.gx_import.proofs.ToldCommits.{merged_told, parent_told}
@@ -52,7 +52,7 @@ make_commit-requires-clause-parents g c =
 
 pub returns-clause-steps : goal.returns-clause-steps
 returns-clause-steps g c =
-    subst (λ z. MakesCommit g.N.Namer.name_of c.args.repo.now c.make_commit.new.repo c.args.tables.now c.make_commit.new.tables z c.make_commit.result) c.in_ok-parents.ensures.kept c.make_commit.ensures.steps
+    subst (λ z. Makes g.N.Namer.name_of c.args.repo.now c.make_commit.new.repo c.args.tables.now c.make_commit.new.tables (shown_commit z) c.make_commit.result) c.in_ok-parents.ensures.kept c.make_commit.ensures.steps
 
 pub returns-clause-told : goal.returns-clause-told
 returns-clause-told g c = rw c.in_ok-parents.ensures.kept at c.make_commit.ensures.told

@@ -6,11 +6,10 @@ use Rattle.gx_import.specs.Calls.{EditsFrom}
 use Rattle.gx_import.specs.Standing.{Follows}
 use Rattle.gx_model.specs.Objects.NameMaps.{AreFiles}
 use Rattle.gx_import.specs.Asking.{AsksByCommit}
-use Rattle.gx_import.specs.TellingAsked.{AskedByEditsFrom}
 use Rattle.gx_import.proofs.AskedReferences.{change_vain, late_vain}
 use Rattle.gx_import.proofs.CommitRuns.{AddGives, add_fails, add_told, add_vain, changes_fail, commit_done, named_after, on_ok, parents_held, set_or_full}
-use Rattle.gx_import.proofs.Extended.{extended_more}
-use Rattle.gx_import.specs.Telling.{TellsEditsFrom}
+use Rattle.gx_import.proofs.Extended.{only_more}
+use Rattle.gx_import.specs.Telling.{AskedByEditsFrom, TellsEditsFrom}
 use Rattle.gx_import.proofs.ToldCommits.{change_told, late_told}
 use Rattle.gx_import.proofs.TipHomes.{tips_longer}
 use Rattle.gx_import.proofs.commit.make_commit.Goals as goal
@@ -38,7 +37,7 @@ add-requires-clause-named g c =
     let h = c.requires.stands.1 in
     let p = c.requires.parents s h in
     let steps = rw c.replace-changes.ensures.value at c.in_ok-files.ensures.steps in
-    let sound = rw c.changed_files.ensures.namer at c.sound.ensures in
+    let sound = rw c.changed_files.ensures.only.namer at c.sound.ensures in
     named_after (g.N.Namer.name_of c.args.repo.now.0) _ _ _ _ s (commit_parts c.args.commit) (steps s p.0 h p.4) _ _ p.5 (g.met.N.Namer.is_namer c.args.repo.now.0) sound
 
 pub add-requires-clause-parents : goal.add-requires-clause-parents
@@ -47,15 +46,15 @@ add-requires-clause-parents g c =
     let h = c.requires.stands.1 in
     let p = c.requires.parents s h in
     let steps = rw c.replace-changes.ensures.value at c.in_ok-files.ensures.steps in
-    let sound = rw c.changed_files.ensures.namer at c.sound.ensures in
+    let sound = rw c.changed_files.ensures.only.namer at c.sound.ensures in
     parents_held (g.N.Namer.name_of c.args.repo.now.0) _ _ _ _ s (commit_parts c.args.commit) (steps s p.0 h p.4) _ _ p.5 (g.met.N.Namer.is_namer c.args.repo.now.0) sound
 
 pub add-requires-clause-home : goal.add-requires-clause-home
 add-requires-clause-home g c =
-    subst (λ n. IsAtHome (g.N.Namer.name_of n) c.changed_files.new.repo.1.records c.in_ok-files.files) (sym c.changed_files.ensures.namer) c.in_ok-files.ensures.home
+    subst (λ n. IsAtHome (g.N.Namer.name_of n) c.changed_files.new.repo.1.records c.in_ok-files.files) (sym c.changed_files.ensures.only.namer) c.in_ok-files.ensures.home
 
-pub returns-in_err-name-clause-extends : goal.returns-in_err-name-clause-extends
-returns-in_err-name-clause-extends g c = extended_more _ _ _ c.changed_files.ensures.extends c.add.ensures.extends
+pub returns-in_err-name-clause-only : goal.returns-in_err-name-clause-only
+returns-in_err-name-clause-only g c = only_more _ _ _ c.changed_files.ensures.only c.add.ensures.only
 
 pub returns-in_err-name-clause-steps : goal.returns-in_err-name-clause-steps
 returns-in_err-name-clause-steps g c = λ s h.
@@ -63,25 +62,18 @@ returns-in_err-name-clause-steps g c = λ s h.
     let p = c.requires.parents s h in
     let steps = rw c.replace-changes.ensures.value at c.in_ok-files.ensures.steps in
     let e = c.in_err-name.field-0.0 in
-    let adds = subst (λ n. AddGives (g.N.Namer.name_of n) g.row.A.Denot c.changed_files.new.repo.1 c.add.new.repo.1 c.in_ok-files.files.files c.args.parents.now (commit_parts c.args.commit) (Err e)) c.changed_files.ensures.namer c.in_err-name.ensures.steps in
+    let adds = subst (λ n. AddGives (g.N.Namer.name_of n) g.row.A.Denot c.changed_files.new.repo.1 c.add.new.repo.1 c.in_ok-files.files.files c.args.parents.now (commit_parts c.args.commit) (Err e)) c.changed_files.ensures.only.namer c.in_err-name.ensures.steps in
     rw (f.1, f.2) (add_fails (g.N.Namer.name_of c.args.repo.now.0) c.args.repo.now.1 c.changed_files.new.repo.1 c.add.new.repo.1 c.args.tables.now c.changed_files.new.tables c.in_ok-files.files.files s h (commit_parts c.args.commit) c.args.first c.args.parents.now p (steps s p.0 h p.4) e adds {Z = Unit {0}} (λ t x. Unit {0}))
 
-pub set_mark_and_branch-requires : goal.set_mark_and_branch-requires
-set_mark_and_branch-requires g c =
-    let s = c.requires.stands.0 in
-    let h = c.requires.stands.1 in
-    let p = c.requires.parents s h in
-    record { sorted = (c.in_ok-files.ensures.steps s p.0 h p.4).2.0.stands.branches_sorted }
-
-pub returns-clause-extends : goal.returns-clause-extends
-returns-clause-extends g c = extended_more _ _ _ c.changed_files.ensures.extends c.add.ensures.extends
+pub returns-clause-only : goal.returns-clause-only
+returns-clause-only g c = only_more _ _ _ c.changed_files.ensures.only c.add.ensures.only
 
 pub returns-clause-homes : goal.returns-clause-homes
 returns-clause-homes g c =
     let name = g.N.Namer.name_of c.args.repo.now.0 in
     let new = c.add.new.repo.1.records in
-    let homes = tips_longer name c.records_keep_home.ensures c.records_keep_loaded.ensures c.changed_files.new.repo.1.records new c.changed_files.new.tables c.add.ensures.extends c.in_ok-files.ensures.homes in
-    let home = rw c.changed_files.ensures.namer at c.in_ok-name.ensures.home in
+    let homes = tips_longer name c.records_keep_home.ensures c.records_keep_loaded.ensures c.changed_files.new.repo.1.records new c.changed_files.new.tables c.add.ensures.only.extends c.in_ok-files.ensures.homes in
+    let home = rw c.changed_files.ensures.only.namer at c.in_ok-name.ensures.home in
     on_ok c.set_mark_and_branch.result c.set_mark_and_branch.ensures.homes (λ keeps. keeps name new home homes)
 
 pub returns-clause-steps : goal.returns-clause-steps
@@ -90,7 +82,7 @@ returns-clause-steps g c = λ s h.
     let p = c.requires.parents s h in
     let tables = c.set_mark_and_branch.new.tables in
     let steps = rw c.replace-changes.ensures.value at c.in_ok-files.ensures.steps in
-    let adds = rw c.changed_files.ensures.namer at c.in_ok-name.ensures.steps in
+    let adds = rw c.changed_files.ensures.only.namer at c.in_ok-name.ensures.steps in
     set_or_full _ (λ t x. Follows name c.add.new.repo.1 tables s t) _ c.set_mark_and_branch.result c.set_mark_and_branch.ensures.steps c.set_mark_and_branch.ensures.fault
     (λ set. let d = commit_done name c.args.repo.now.1 c.changed_files.new.repo.1 c.add.new.repo.1 c.args.tables.now c.changed_files.new.tables c.in_ok-files.files.files s h (commit_parts c.args.commit) c.args.first c.args.parents.now p (steps s p.0 h p.4) c.in_ok-name.name adds c.add.new.files c.add.ensures.files tables set in (d.0, d.1, λ x. d.2))
 
@@ -112,7 +104,7 @@ returns-in_err-name-clause-told g c = λ s h.
     let steps = rw c.replace-changes.ensures.value at c.in_ok-files.ensures.steps in
     let e = c.in_err-name.field-0.0 in
     let blank = c.in_ok-files.ensures.told s p.0 h p.4 in
-    let adds = subst (λ n. AddGives (g.N.Namer.name_of n) g.row.A.Denot c.changed_files.new.repo.1 c.add.new.repo.1 c.in_ok-files.files.files c.args.parents.now (commit_parts c.args.commit) (Err e)) c.changed_files.ensures.namer c.in_err-name.ensures.steps in
+    let adds = subst (λ n. AddGives (g.N.Namer.name_of n) g.row.A.Denot c.changed_files.new.repo.1 c.add.new.repo.1 c.in_ok-files.files.files c.args.parents.now (commit_parts c.args.commit) (Err e)) c.changed_files.ensures.only.namer c.in_err-name.ensures.steps in
     rw (f.1, f.2) (add_told name c.args.repo.now.1 c.changed_files.new.repo.1 c.add.new.repo.1 c.args.tables.now c.changed_files.new.tables c.in_ok-files.files.files s h (commit_parts c.args.commit) c.args.first c.args.parents.now p (steps s p.0 h p.4) e adds c.changed_files.new.told blank)
 
 pub returns-clause-told : goal.returns-clause-told
@@ -141,7 +133,7 @@ returns-in_err-name-clause-asked g c = λ s h.
     let steps = rw c.replace-changes.ensures.value at c.in_ok-files.ensures.steps in
     let e = c.in_err-name.field-0.0 in
     let blank = c.in_ok-files.ensures.asked s p.0 h p.4 in
-    let adds = subst (λ n. AddGives (g.N.Namer.name_of n) g.row.A.Denot c.changed_files.new.repo.1 c.add.new.repo.1 c.in_ok-files.files.files c.args.parents.now (commit_parts c.args.commit) (Err e)) c.changed_files.ensures.namer c.in_err-name.ensures.steps in
+    let adds = subst (λ n. AddGives (g.N.Namer.name_of n) g.row.A.Denot c.changed_files.new.repo.1 c.add.new.repo.1 c.in_ok-files.files.files c.args.parents.now (commit_parts c.args.commit) (Err e)) c.changed_files.ensures.only.namer c.in_err-name.ensures.steps in
     rw (f.1, f.2) (add_vain name c.args.repo.now.1 c.changed_files.new.repo.1 c.add.new.repo.1 c.args.tables.now c.changed_files.new.tables c.in_ok-files.files.files s h (commit_parts c.args.commit) c.args.first c.args.parents.now p (steps s p.0 h p.4) (AsksByCommit name s (commit_parts c.args.commit) e) e adds c.changed_files.new.told.asked blank)
 
 pub returns-clause-asked : goal.returns-clause-asked

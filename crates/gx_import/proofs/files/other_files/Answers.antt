@@ -3,7 +3,6 @@ use Rattle.std.specs.Prelude.{IfOk}
 use Rattle.std.proofs.lemmas.Result.{err_from_is_err_and}
 use Rattle.gx_model.specs.Records.{named_map}
 use Rattle.gx_tree.specs.Named.{IsAtHome}
-use Rattle.gx_import.specs.Rows.{rows_of}
 use Rattle.gx_import.proofs.LoadFaults.{load_fault}
 use Rattle.gx_import.proofs.Parents.{parent_files, parent_held, taken_files}
 use Rattle.gx_import.proofs.TipHomes.{taken_home}
@@ -32,7 +31,7 @@ returns-in_ok-duplicate-in-Some-clause-home g c = λ h.
     let name = g.N.Namer.name_of c.args.repo.now.0 in
     let same : c.in-Some.files.now ≡ c.in_ok-duplicate-in-Some.field-0 = cc c.in_ok-duplicate-in-Some.ensures in
     let were = c.in-Some.ensures in
-    subst (IsAtHome name c.args.repo.now.1.records) same (taken_home name c.args.repo.now.1.records were.0 (rows_of c.args.tables.now.branches) c.args.commit.now c.in-Some.files.now were.1 h.tips)
+    subst (IsAtHome name c.args.repo.now.1.records) same (taken_home name c.args.repo.now.1.records were.0 c.args.tables.now.branches c.args.commit.now c.in-Some.files.now were.1 h.tips)
 
 pub returns-in-None-clause-files : goal.returns-in-None-clause-files
 returns-in-None-clause-files g c = λ s made h first.
@@ -46,11 +45,10 @@ returns-in-None-clause-tables g c = λ s h. record {
   marks = h.marks;
   branches = h.branches;
   tags = h.tags;
-  branches_sorted = h.branches_sorted;
-  tags_sorted = h.tags_sorted;
   ref_names = h.ref_names;
   own = h.own;
   forced = h.forced;
+  published = h.published;
 }
 
 pub returns-in-None-clause-homes : goal.returns-in-None-clause-homes

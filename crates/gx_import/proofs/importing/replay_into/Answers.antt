@@ -1,96 +1,96 @@
-use Rattle.std.proofs.Common.{◌≡◌, ◌-◌, length, Ok, sym, ap, subst, ◌∙◌}
-use Rattle.gx_model.specs.Records.Sound.{IsSound}
-use Rattle.gx_import.specs.Imports.{Imports, Leaves}
-use Rattle.gx_model.specs.Streams.Gitlinks.{HoldsNoNullGitlink}
+use Rattle.std.proofs.Common.{◌≡◌, ◌-◌, length, Ok, Err, sym, ap, subst, ◌∙◌, arith}
+use Rattle.std.proofs.lemmas.Result.{err_from_is_err_and}
 use Rattle.gx_model.specs.Histories.{Records}
 use Rattle.gx_model.specs.Records.HistoryOf.{history_of}
-use Rattle.gx_model.specs.Replay.{overwritten}
+use Rattle.gx_model.specs.Records.Sound.{IsSound}
+use Rattle.gx_model.specs.Streams.Gitlinks.{HoldsNoNullGitlink}
+use Rattle.gx_import.specs.Imports.{Imports, Leaves}
 use Rattle.gx_import.specs.Keeping.{IsLeft, left_of}
 use Rattle.gx_import.specs.Losing.{TellsLoss}
-use Rattle.gx_import.specs.declared.explanation.Explanation.{Explanation}
-use Rattle.std.proofs.lemmas.List.{length-map}
-use Rattle.std.proofs.lemmas.Result.{err_from_is_err_and}
-use Rattle.gx_import.specs.Rows.{row_of, rows_of}
+use Rattle.gx_import.specs.Publishing.{Publishes}
 use Rattle.gx_import.specs.Standing.{Stands}
-use Rattle.gx_import.proofs.PublishedNames.{as_many}
+use Rattle.gx_import.specs.declared.explanation.Explanation.{Explanation}
 use Rattle.gx_import.proofs.Publications.{imports_all, imports_none}
 use Rattle.gx_import.proofs.ReachedStates.{same_records_keep, told_last}
 use Rattle.gx_import.proofs.importing.replay_into.Goals as goal
 
+pub replay_commands-requires : goal.replay_commands-requires
+replay_commands-requires g c = record { blank = c.requires.blank; empty = c.requires.empty; none = c.requires.none; most = omega (arith, c.asking-reader.ensures.most) }
+
 pub publish-requires : goal.publish-requires
 publish-requires g c =
-    let k = c.in_ok-commands.ensures.replayed in
-    record { blank = c.in_ok-commands.ensures.explained.loss; sorted = c.in_ok-commands.ensures.sorted; has_all = c.in_ok-commands.ensures.has_all; stands = (k.0, subst (λ n. Stands (g.N.Namer.name_of n) c.replay.new.repo.1 c.replay.new.tables k.0) {y = c.replay.new.repo.0} (sym {a = c.replay.new.repo.0} c.replay.ensures.namer) k.1) }
+    let k = c.in_ok-commands.ensures.replayed c.args.features (g.R.Source.coming c.args.source) (sym c.requires.forced) c.asking-reader.ensures.commands in
+    record { blank = (c.in_ok-commands.ensures.explained c.args.features (g.R.Source.coming c.args.source) (sym c.requires.forced) c.asking-reader.ensures.commands).loss; stands = (k.0, subst (λ n. Stands (g.N.Namer.name_of n) c.replay_commands.new.repo.1 c.replay_commands.new.tables k.0) {y = c.replay_commands.new.repo.0} (sym {a = c.replay_commands.new.repo.0} c.replay_commands.ensures.namer) k.1) }
 
 pub returns-in-Err-clause-replayed : goal.returns-in-Err-clause-replayed
 returns-in-Err-clause-replayed g c =
-    let k = c.in_ok-commands.ensures.replayed in
-    let stands = subst (λ n. Stands (g.N.Namer.name_of n) c.replay.new.repo.1 c.replay.new.tables k.0) {y = c.replay.new.repo.0} (sym {a = c.replay.new.repo.0} c.replay.ensures.namer) k.1 in
-    let left = left_of c.replay.new.checkpoints c.publish.new.repo.1 in
-    let leaves = subst (λ (r : g.row.N.Denot × Records). Leaves (left_of c.replay.new.checkpoints r.1) c.replay.new.checkpoints.count k.0.kept) (sym c.in-Err.ensures.unchanged) k.2.leaves in
-    imports_none c.args.features (g.N.Namer.name_of c.args.repo.now.0) c.args.repo.now.1 left c.replay.new.repo.1 c.publish.new.repo.1 (g.R.Source.coming c.args.source) c.in_ok-commands.commands k.0 (g.W.Sink.taken c.args.sink.now) (g.W.Sink.taken c.replay.new.sink) k.3
-    c.replay.new.checkpoints.count leaves c.in-Err.kind (c.in-Err.ensures.published k.0 stands)
+    let k = c.in_ok-commands.ensures.replayed c.args.features (g.R.Source.coming c.args.source) (sym c.requires.forced) c.asking-reader.ensures.commands in
+    let stands = subst (λ n. Stands (g.N.Namer.name_of n) c.replay_commands.new.repo.1 c.replay_commands.new.tables k.0) {y = c.replay_commands.new.repo.0} (sym {a = c.replay_commands.new.repo.0} c.replay_commands.ensures.namer) k.1 in
+    let left = left_of c.replay_commands.new.checkpoints c.publish.new.repo.1 in
+    let leaves = subst (λ (r : g.row.N.Denot × Records). Leaves (left_of c.replay_commands.new.checkpoints r.1) c.replay_commands.new.checkpoints.count k.0.kept) (sym c.in-Err.ensures.unchanged) k.2 in
+    imports_none c.args.features (g.N.Namer.name_of c.args.repo.now.0) c.args.repo.now.1 left c.publish.new.repo.1 c.publish.new.tables (g.R.Source.coming c.args.source) c.in_ok-commands.commands k.0 (g.W.Sink.taken c.args.sink.now) (g.W.Sink.taken c.replay_commands.new.sink) k.3
+    c.replay_commands.new.checkpoints.count leaves c.in-Err.kind (subst (λ n. Publishes (g.N.Namer.name_of n) k.0 c.publish.new.repo.1 c.publish.new.tables (Err c.in-Err.kind)) {y = c.args.repo.now.0} c.replay_commands.ensures.namer (c.in-Err.ensures.published k.0 stands))
 
 pub returns-in-Err-clause-left : goal.returns-in-Err-clause-left
 returns-in-Err-clause-left g c =
-    let left = subst (λ (r : g.row.N.Denot × Records). IsLeft c.args.repo.now.1 r.1 c.replay.new.checkpoints) (sym c.in-Err.ensures.unchanged) c.replay.ensures.left in
+    let left = subst (λ (r : g.row.N.Denot × Records). IsLeft c.args.repo.now.1 r.1 c.replay_commands.new.checkpoints) (sym c.in-Err.ensures.unchanged) c.replay_commands.ensures.left in
     record { fits = left.fits; front = left.front; targets = left.targets; none = left.none }
 
 pub returns-in-Err-clause-gitlinks : goal.returns-in-Err-clause-gitlinks
 returns-in-Err-clause-gitlinks g c = λ none.
     let name = g.N.Namer.name_of c.args.repo.now.0 in
     let law = c.histories_of_records.ensures name (g.met.N.Namer.is_namer c.args.repo.now.0) in
-    let left = c.replay.ensures.gitlinks_left (law.stands c.args.repo.now.1 c.store.ensures.sound).history none in
-    subst (λ (r : g.row.N.Denot × Records). HoldsNoNullGitlink (history_of (left_of c.replay.new.checkpoints r.1))) (sym c.in-Err.ensures.unchanged) left
+    let left = c.replay_commands.ensures.gitlinks_left (law.stands c.args.repo.now.1 c.store.ensures.sound).history none in
+    subst (λ (r : g.row.N.Denot × Records). HoldsNoNullGitlink (history_of (left_of c.replay_commands.new.checkpoints r.1))) (sym c.in-Err.ensures.unchanged) left
 
 pub returns-clause-replayed : goal.returns-clause-replayed
 returns-clause-replayed g c =
-    let k = c.in_ok-commands.ensures.replayed in
+    let k = c.in_ok-commands.ensures.replayed c.args.features (g.R.Source.coming c.args.source) (sym c.requires.forced) c.asking-reader.ensures.commands in
     let name = g.N.Namer.name_of c.args.repo.now.0 in
     let old = c.args.repo.now.1 in
     let new = c.publish.new.repo.1 in
     let coming = g.R.Source.coming c.args.source in
     let was = g.W.Sink.taken c.args.sink.now in
-    let now = g.W.Sink.taken c.replay.new.sink in
-    let stands = subst (λ n. Stands (g.N.Namer.name_of n) c.replay.new.repo.1 c.replay.new.tables k.0) {y = c.replay.new.repo.0} (sym {a = c.replay.new.repo.0} c.replay.ensures.namer) k.1 in
-    let sounds = subst (λ n. IsSound (g.N.Namer.name_of n) new) {y = c.args.repo.now.0} (c.publish.ensures.namer ∙ c.replay.ensures.namer) c.store-2.ensures.sound in
+    let now = g.W.Sink.taken c.replay_commands.new.sink in
+    let stands = subst (λ n. Stands (g.N.Namer.name_of n) c.replay_commands.new.repo.1 c.replay_commands.new.tables k.0) {y = c.replay_commands.new.repo.0} (sym {a = c.replay_commands.new.repo.0} c.replay_commands.ensures.namer) k.1 in
+    let sounds = subst (λ n. IsSound (g.N.Namer.name_of n) new) {y = c.args.repo.now.0} (c.publish.ensures.namer ∙ c.replay_commands.ensures.namer) c.store-2.ensures.sound in
     let law = c.histories_of_records.ensures name (g.met.N.Namer.is_namer c.args.repo.now.0) in
     let held = c.len-held.ensures.count ∙ ap (λ z. length z.1) c.store.ensures.held in
-    let counts = c.len-2.ensures.len ∙ sym (length-map c.publish.new.published.rows.entries row_of) ∙ sym (as_many (overwritten k.0 k.0.published) (rows_of c.publish.new.published) (c.in_default.ensures.entered k.0 stands k.2.names)) in
+    let published = subst (λ n. Publishes (g.N.Namer.name_of n) k.0 new c.publish.new.tables (Ok tt)) {y = c.args.repo.now.0} c.replay_commands.ensures.namer (c.in_default.ensures.published k.0 stands) in
     let len = c.len.ensures.count ∙ ap (λ z. length z.1) c.store-2.ensures.held in
-    let all = imports_all c.args.features name old new c.replay.new.repo.1 coming c.in_ok-commands.commands k.0 was now k.3 law c.store.ensures.sound sounds c.len-2.result (c.in_default.ensures.published k.0 stands) counts in
+    let all = imports_all c.args.features name old new c.publish.new.tables coming c.in_ok-commands.commands k.0 was now k.3 law c.store.ensures.sound sounds c.published_refs.result published (c.published_refs.ensures ∙ published.2) in
     let objects : length new.records - length old.records ≡ c.len.result - c.len-held.result = ap (λ x. x - length old.records) (sym len) ∙ ap (λ x. c.len.result - x) (sym held) in
-    subst (λ x. Imports c.args.features name old new coming was now (Ok (record { commands = c.in_ok-commands.commands; objects = x; refs = c.len-2.result }))) objects all
+    subst (λ x. Imports c.args.features name old new coming was now (Ok (record { commands = c.in_ok-commands.commands; objects = x; refs = c.published_refs.result }))) objects all
 
 pub returns-clause-gitlinks : goal.returns-clause-gitlinks
 returns-clause-gitlinks g c = λ none.
     let name = g.N.Namer.name_of c.args.repo.now.0 in
     let law = c.histories_of_records.ensures name (g.met.N.Namer.is_namer c.args.repo.now.0) in
-    same_records_keep c.replay.new.repo.1 c.publish.new.repo.1 c.publish.ensures.records (c.in_ok-commands.ensures.gitlinks (law.stands c.args.repo.now.1 c.store.ensures.sound).history none)
+    same_records_keep c.replay_commands.new.repo.1 c.publish.new.repo.1 c.publish.ensures.records (c.in_ok-commands.ensures.gitlinks (law.stands c.args.repo.now.1 c.store.ensures.sound).history none)
 
 pub returns-in_err-commands-clause-replayed : goal.returns-in_err-commands-clause-replayed
 returns-in_err-commands-clause-replayed g c =
     let p = err_from_is_err_and c.from_residual.result c.from_residual.ensures.1 in
-    rw (p.1, p.2) c.in_err-commands.ensures.replayed
+    rw (p.1, p.2) (c.in_err-commands.ensures.replayed c.args.features (g.R.Source.coming c.args.source) (sym c.requires.forced) c.asking-reader.ensures.commands)
 
 -- ---- what is told
 
 pub returns-in_err-commands-clause-explained : goal.returns-in_err-commands-clause-explained
 returns-in_err-commands-clause-explained g c =
     let p = err_from_is_err_and c.from_residual.result c.from_residual.ensures.1 in
-    rw (p.1, p.2) c.in_err-commands.ensures.explained
+    rw (p.1, p.2) (c.in_err-commands.ensures.explained c.args.features (g.R.Source.coming c.args.source) (sym c.requires.forced) c.asking-reader.ensures.commands)
 
 pub returns-in-Err-clause-explained : goal.returns-in-Err-clause-explained
 returns-in-Err-clause-explained g c =
-    let k = c.in_ok-commands.ensures.replayed in
-    let stands = subst (λ n. Stands (g.N.Namer.name_of n) c.replay.new.repo.1 c.replay.new.tables k.0) {y = c.replay.new.repo.0} (sym {a = c.replay.new.repo.0} c.replay.ensures.namer) k.1 in
-    let told : Explanation g.row.A.Denot = record { change = c.replay.new.told.change; path = c.replay.new.told.path; asked = c.replay.new.told.asked; loss = c.publish.new.loss } in
-    let loss = subst (λ n. TellsLoss (g.N.Namer.name_of n) k.0 c.in-Err.kind c.publish.new.loss) {y = c.args.repo.now.0} c.replay.ensures.namer (c.in-Err.ensures.loss k.0 stands) in
-    told_last c.args.features (g.N.Namer.name_of c.args.repo.now.0) c.args.repo.now.1 (g.R.Source.coming c.args.source) c.in_ok-commands.commands k.0 (g.W.Sink.taken c.args.sink.now) (g.W.Sink.taken c.replay.new.sink) k.3 c.in-Err.kind told (c.in_ok-commands.ensures.explained.change, loss, c.in_ok-commands.ensures.explained.asked)
-    c.replay.new.checkpoints.count
+    let k = c.in_ok-commands.ensures.replayed c.args.features (g.R.Source.coming c.args.source) (sym c.requires.forced) c.asking-reader.ensures.commands in
+    let stands = subst (λ n. Stands (g.N.Namer.name_of n) c.replay_commands.new.repo.1 c.replay_commands.new.tables k.0) {y = c.replay_commands.new.repo.0} (sym {a = c.replay_commands.new.repo.0} c.replay_commands.ensures.namer) k.1 in
+    let told : Explanation g.row.A.Denot = record { change = c.replay_commands.new.told.change; path = c.replay_commands.new.told.path; asked = c.replay_commands.new.told.asked; loss = c.publish.new.loss } in
+    let loss = subst (λ n. TellsLoss (g.N.Namer.name_of n) k.0 c.in-Err.kind c.publish.new.loss) {y = c.args.repo.now.0} c.replay_commands.ensures.namer (c.in-Err.ensures.loss k.0 stands) in
+    told_last c.args.features (g.N.Namer.name_of c.args.repo.now.0) c.args.repo.now.1 (g.R.Source.coming c.args.source) c.in_ok-commands.commands k.0 (g.W.Sink.taken c.args.sink.now) (g.W.Sink.taken c.replay_commands.new.sink) k.3 c.in-Err.kind told ((c.in_ok-commands.ensures.explained c.args.features (g.R.Source.coming c.args.source) (sym c.requires.forced) c.asking-reader.ensures.commands).change, loss, (c.in_ok-commands.ensures.explained c.args.features (g.R.Source.coming c.args.source) (sym c.requires.forced) c.asking-reader.ensures.commands).asked)
+    c.replay_commands.new.checkpoints.count
 
 pub returns-clause-explained : goal.returns-clause-explained
 returns-clause-explained g c =
-    let k = c.in_ok-commands.ensures.replayed in
-    let stands = subst (λ n. Stands (g.N.Namer.name_of n) c.replay.new.repo.1 c.replay.new.tables k.0) {y = c.replay.new.repo.0} (sym {a = c.replay.new.repo.0} c.replay.ensures.namer) k.1 in
-    record { change = c.in_ok-commands.ensures.explained.change; asked = c.in_ok-commands.ensures.explained.asked; loss = c.in_default.ensures.loss k.0 stands }
+    let k = c.in_ok-commands.ensures.replayed c.args.features (g.R.Source.coming c.args.source) (sym c.requires.forced) c.asking-reader.ensures.commands in
+    let stands = subst (λ n. Stands (g.N.Namer.name_of n) c.replay_commands.new.repo.1 c.replay_commands.new.tables k.0) {y = c.replay_commands.new.repo.0} (sym {a = c.replay_commands.new.repo.0} c.replay_commands.ensures.namer) k.1 in
+    record { change = (c.in_ok-commands.ensures.explained c.args.features (g.R.Source.coming c.args.source) (sym c.requires.forced) c.asking-reader.ensures.commands).change; asked = (c.in_ok-commands.ensures.explained c.args.features (g.R.Source.coming c.args.source) (sym c.requires.forced) c.asking-reader.ensures.commands).asked; loss = c.in_default.ensures.loss k.0 stands }

@@ -6,14 +6,14 @@ use Rattle.gx_model.specs.Texts.{same_bytes}
 use Rattle.gx_object.specs.declared.name.Name.{Name}
 use Rattle.gx_repo.specs.Refs.{shown_update}
 use Rattle.gx_import.specs.RefChanges.{is_due, is_due_by, tag_changes}
-use Rattle.gx_import.specs.Rows.{row_of, rows_of}
+use Rattle.gx_import.specs.Rows.{row_of}
 use Rattle.gx_import.proofs.MovedChanges.{one_appended}
 use Rattle.gx_import.proofs.publishing.append_tags.Goals as goal
 
 pub loop-name-preserved : goal.loop-name-preserved
 loop-name-preserved g c =
     let refs = c.args.repo.now.1.refs in
-    let branches = rows_of c.args.tables.now.branches in
+    let branches = c.args.tables.now.branches in
     let was = map shown_update c.loop-name.changes.items in
     let now = map shown_update c.append_tag.new.changes.items in
     let n = c.in-Some.name.now.items in

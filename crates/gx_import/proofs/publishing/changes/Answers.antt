@@ -2,9 +2,6 @@ use Rattle.std.proofs.Common.{◌++◌, ap, ◌∙◌}
 use Rattle.gx_import.specs.RefChanges.{due_tags}
 use Rattle.gx_import.proofs.publishing.changes.Goals as goal
 
-pub append_tags-requires : goal.append_tags-requires
-append_tags-requires g c = record { sorted = c.requires.stands.1.branches_sorted }
-
 pub returns-clause-changes : goal.returns-clause-changes
 returns-clause-changes g c =
     let moved = rw c.new-changes.ensures.items at c.in_ok-append_branches.ensures.appended c.if-not-branch.false in

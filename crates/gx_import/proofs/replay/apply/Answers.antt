@@ -12,8 +12,8 @@ use Rattle.gx_import.proofs.AskedCommands.{made_vain, published_free, written_va
 use Rattle.gx_import.proofs.Losses.{all_told, checkpoint_told}
 use Rattle.gx_import.proofs.ToldCommits.{nothing_told}
 use Rattle.gx_import.specs.declared.explanation.Explanation.{Explanation}
-use Rattle.gx_import.specs.Rows.{rows_of}
-use Rattle.gx_import.proofs.KeptCheckpoints.{all_still, checkpoint_as, kept_anew, kept_here, kept_on, moved, same_records, when_ok}
+use Rattle.gx_import.proofs.KeptCheckpoints.{checkpoint_as, kept_anew, kept_here, kept_on, moved}
+use Rattle.gx_import.proofs.Extended.{extended_same}
 use Rattle.gx_import.proofs.ProgressTexts.{IsOther}
 use Rattle.gx_import.specs.Standing.{AreTipsAtHome}
 use Rattle.gx_import.proofs.TipHomes.{AreHome, always, tips_longer, tips_with}
@@ -52,7 +52,7 @@ returns-in-Progress-clause-steps g c = λ s h.
 pub returns-in-Checkpoint-clause-steps : goal.returns-in-Checkpoint-clause-steps
 returns-in-Checkpoint-clause-steps g c = λ s h.
     let name = g.N.Namer.name_of c.args.repo.now.0 in
-    rw c.in-Checkpoint.is (checkpoint_as name c.args.repo.now.1 c.apply_checkpoint.new.repo.1 c.args.tables.now s (g.W.Sink.taken c.args.sink.now) c.apply_checkpoint.result h (c.apply_checkpoint.ensures.published s h))
+    rw c.in-Checkpoint.is (checkpoint_as name c.args.repo.now.1 c.apply_checkpoint.new.repo.1 c.apply_checkpoint.new.tables s (g.W.Sink.taken c.args.sink.now) c.apply_checkpoint.result (c.apply_checkpoint.ensures.published s h))
 
 pub returns-clause-steps : goal.returns-clause-steps
 returns-clause-steps g c = λ s h.
@@ -70,44 +70,26 @@ returns-clause-steps g c = λ s h.
 pub returns-in-Blob-clause-keeps : goal.returns-in-Blob-clause-keeps
 returns-in-Blob-clause-keeps g c =
     let name = g.N.Namer.name_of c.args.repo.now.0 in
-    rw c.in-Blob.is (kept_on name c.args.repo.now.1 c.apply_blob.new.repo.1 c.args.tables.now c.args.checkpoints.now (shown_blob c.in-Blob.blob) tt c.requires.fits c.apply_blob.ensures.extends c.apply_blob.ensures.refs c.apply_blob.result)
+    rw c.in-Blob.is (kept_on name c.args.repo.now.1 c.apply_blob.new.repo.1 c.args.tables.now c.args.checkpoints.now (shown_blob c.in-Blob.blob) tt c.requires.fits c.apply_blob.ensures.only.extends c.apply_blob.ensures.only.refs c.apply_blob.result)
 
 pub returns-in-Blob-clause-moves : goal.returns-in-Blob-clause-moves
-returns-in-Blob-clause-moves g c = inl (record { count = refl; records = refl; refs = c.apply_blob.ensures.refs })
-
-pub returns-in-Blob-clause-sorted : goal.returns-in-Blob-clause-sorted
-returns-in-Blob-clause-sorted g c = when_ok c.apply_blob.result c.requires.sorted
-
-pub returns-in-Blob-clause-has_all : goal.returns-in-Blob-clause-has_all
-returns-in-Blob-clause-has_all g c = when_ok c.apply_blob.result (all_still c.args.repo.now.1 c.apply_blob.new.repo.1 c.args.checkpoints.now c.apply_blob.ensures.refs c.requires.has_all)
+returns-in-Blob-clause-moves g c = inl (record { count = refl; records = refl; refs = c.apply_blob.ensures.only.refs })
 
 pub returns-in-Commit-clause-keeps : goal.returns-in-Commit-clause-keeps
 returns-in-Commit-clause-keeps g c =
     let name = g.N.Namer.name_of c.args.repo.now.0 in
-    rw c.in-Commit.is (kept_on name c.args.repo.now.1 c.apply_commit.new.repo.1 c.args.tables.now c.args.checkpoints.now (shown_commit c.in-Commit.commit) tt c.requires.fits c.apply_commit.ensures.extends c.apply_commit.ensures.refs c.apply_commit.result)
+    rw c.in-Commit.is (kept_on name c.args.repo.now.1 c.apply_commit.new.repo.1 c.args.tables.now c.args.checkpoints.now (shown_commit c.in-Commit.commit) tt c.requires.fits c.apply_commit.ensures.only.extends c.apply_commit.ensures.only.refs c.apply_commit.result)
 
 pub returns-in-Commit-clause-moves : goal.returns-in-Commit-clause-moves
-returns-in-Commit-clause-moves g c = inl (record { count = refl; records = refl; refs = c.apply_commit.ensures.refs })
-
-pub returns-in-Commit-clause-sorted : goal.returns-in-Commit-clause-sorted
-returns-in-Commit-clause-sorted g c = when_ok c.apply_commit.result c.requires.sorted
-
-pub returns-in-Commit-clause-has_all : goal.returns-in-Commit-clause-has_all
-returns-in-Commit-clause-has_all g c = when_ok c.apply_commit.result (all_still c.args.repo.now.1 c.apply_commit.new.repo.1 c.args.checkpoints.now c.apply_commit.ensures.refs c.requires.has_all)
+returns-in-Commit-clause-moves g c = inl (record { count = refl; records = refl; refs = c.apply_commit.ensures.only.refs })
 
 pub returns-in-Tag-clause-keeps : goal.returns-in-Tag-clause-keeps
 returns-in-Tag-clause-keeps g c =
     let name = g.N.Namer.name_of c.args.repo.now.0 in
-    rw c.in-Tag.is (kept_on name c.args.repo.now.1 c.apply_tag.new.repo.1 c.args.tables.now c.args.checkpoints.now (shown_tag c.in-Tag.tag) tt c.requires.fits c.apply_tag.ensures.extends c.apply_tag.ensures.refs c.apply_tag.result)
+    rw c.in-Tag.is (kept_on name c.args.repo.now.1 c.apply_tag.new.repo.1 c.args.tables.now c.args.checkpoints.now (shown_tag c.in-Tag.tag) tt c.requires.fits c.apply_tag.ensures.only.extends c.apply_tag.ensures.only.refs c.apply_tag.result)
 
 pub returns-in-Tag-clause-moves : goal.returns-in-Tag-clause-moves
-returns-in-Tag-clause-moves g c = inl (record { count = refl; records = refl; refs = c.apply_tag.ensures.refs })
-
-pub returns-in-Tag-clause-sorted : goal.returns-in-Tag-clause-sorted
-returns-in-Tag-clause-sorted g c = when_ok c.apply_tag.result c.requires.sorted
-
-pub returns-in-Tag-clause-has_all : goal.returns-in-Tag-clause-has_all
-returns-in-Tag-clause-has_all g c = when_ok c.apply_tag.result (all_still c.args.repo.now.1 c.apply_tag.new.repo.1 c.args.checkpoints.now c.apply_tag.ensures.refs c.requires.has_all)
+returns-in-Tag-clause-moves g c = inl (record { count = refl; records = refl; refs = c.apply_tag.ensures.only.refs })
 
 pub returns-in-Reset-clause-keeps : goal.returns-in-Reset-clause-keeps
 returns-in-Reset-clause-keeps g c =
@@ -117,12 +99,6 @@ returns-in-Reset-clause-keeps g c =
 pub returns-in-Reset-clause-moves : goal.returns-in-Reset-clause-moves
 returns-in-Reset-clause-moves g c = inl (record { count = refl; records = refl; refs = refl })
 
-pub returns-in-Reset-clause-sorted : goal.returns-in-Reset-clause-sorted
-returns-in-Reset-clause-sorted g c = when_ok c.apply_reset.result c.requires.sorted
-
-pub returns-in-Reset-clause-has_all : goal.returns-in-Reset-clause-has_all
-returns-in-Reset-clause-has_all g c = when_ok c.apply_reset.result c.requires.has_all
-
 pub returns-in-Progress-clause-keeps : goal.returns-in-Progress-clause-keeps
 returns-in-Progress-clause-keeps g c =
     let name = g.N.Namer.name_of c.args.repo.now.0 in
@@ -130,12 +106,6 @@ returns-in-Progress-clause-keeps g c =
 
 pub returns-in-Progress-clause-moves : goal.returns-in-Progress-clause-moves
 returns-in-Progress-clause-moves g c = inl (record { count = refl; records = refl; refs = refl })
-
-pub returns-in-Progress-clause-sorted : goal.returns-in-Progress-clause-sorted
-returns-in-Progress-clause-sorted g c = when_ok c.apply_progress.result c.requires.sorted
-
-pub returns-in-Progress-clause-has_all : goal.returns-in-Progress-clause-has_all
-returns-in-Progress-clause-has_all g c = when_ok c.apply_progress.result c.requires.has_all
 
 pub returns-in-Feature-clause-keeps : goal.returns-in-Feature-clause-keeps
 returns-in-Feature-clause-keeps g c =
@@ -163,33 +133,34 @@ pub returns-in-Checkpoint-clause-keeps : goal.returns-in-Checkpoint-clause-keeps
 returns-in-Checkpoint-clause-keeps g c =
     let name = g.N.Namer.name_of c.args.repo.now.0 in
     let ensures = c.apply_checkpoint.ensures in
-    rw c.in-Checkpoint.is (kept_anew name c.args.repo.now.1 c.apply_checkpoint.new.repo.1 c.args.tables.now c.args.checkpoints.now c.apply_checkpoint.new.checkpoints c.apply_checkpoint.result ensures.records ensures.next ensures.still ensures.published ensures.entered)
+    rw c.in-Checkpoint.is (kept_anew name c.args.repo.now.1 c.apply_checkpoint.new.repo.1 c.args.tables.now c.apply_checkpoint.new.tables c.args.checkpoints.now c.apply_checkpoint.new.checkpoints c.apply_checkpoint.result ensures.records ensures.next ensures.still ensures.published)
 
 pub returns-in-Checkpoint-clause-moves : goal.returns-in-Checkpoint-clause-moves
 returns-in-Checkpoint-clause-moves g c =
     moved c.args.repo.now.1 c.apply_checkpoint.new.repo.1 c.args.checkpoints.now c.apply_checkpoint.new.checkpoints c.apply_checkpoint.result c.apply_checkpoint.ensures.next c.apply_checkpoint.ensures.still
 
 pub returns-in-Checkpoint-clause-extends : goal.returns-in-Checkpoint-clause-extends
-returns-in-Checkpoint-clause-extends g c = same_records c.args.repo.now.1.records c.apply_checkpoint.new.repo.1.records c.apply_checkpoint.ensures.records
+returns-in-Checkpoint-clause-extends g c = extended_same c.args.repo.now.1.records c.apply_checkpoint.new.repo.1.records c.apply_checkpoint.ensures.records
 
 pub returns-in-Checkpoint-clause-homes : goal.returns-in-Checkpoint-clause-homes
 returns-in-Checkpoint-clause-homes g c =
     let name = g.N.Namer.name_of c.args.repo.now.0 in
-    always _ c.apply_checkpoint.result (subst (λ records. AreTipsAtHome name records c.args.tables.now) (sym c.apply_checkpoint.ensures.records) c.requires.homes)
+    let records = c.apply_checkpoint.new.repo.1.records in
+    c.apply_checkpoint.ensures.homes name records (subst (λ rs. AreTipsAtHome name rs c.args.tables.now) (sym c.apply_checkpoint.ensures.records) c.requires.homes)
 
 pub returns-in-Blob-clause-homes : goal.returns-in-Blob-clause-homes
 returns-in-Blob-clause-homes g c =
     let name = g.N.Namer.name_of c.args.repo.now.0 in
     let new = c.apply_blob.new.repo.1.records in
-    let homes = tips_longer name c.records_keep_home.ensures c.records_keep_loaded.ensures c.args.repo.now.1.records new c.args.tables.now c.apply_blob.ensures.extends c.requires.homes in
-    always _ c.apply_blob.result (tips_with name new c.args.tables.now c.apply_blob.new.tables homes c.apply_blob.ensures.loaded (subst (λ b. AreHome name new (rows_of b)) (sym c.apply_blob.ensures.branches) homes.tips))
+    let homes = tips_longer name c.records_keep_home.ensures c.records_keep_loaded.ensures c.args.repo.now.1.records new c.args.tables.now c.apply_blob.ensures.only.extends c.requires.homes in
+    always _ c.apply_blob.result (tips_with name new c.args.tables.now c.apply_blob.new.tables homes c.apply_blob.ensures.loaded (subst (λ b. AreHome name new b) (sym c.apply_blob.ensures.branches) homes.tips))
 
 pub returns-in-Tag-clause-homes : goal.returns-in-Tag-clause-homes
 returns-in-Tag-clause-homes g c =
     let name = g.N.Namer.name_of c.args.repo.now.0 in
     let new = c.apply_tag.new.repo.1.records in
-    let homes = tips_longer name c.records_keep_home.ensures c.records_keep_loaded.ensures c.args.repo.now.1.records new c.args.tables.now c.apply_tag.ensures.extends c.requires.homes in
-    always _ c.apply_tag.result (tips_with name new c.args.tables.now c.apply_tag.new.tables homes c.apply_tag.ensures.loaded (subst (λ b. AreHome name new (rows_of b)) (sym c.apply_tag.ensures.branches) homes.tips))
+    let homes = tips_longer name c.records_keep_home.ensures c.records_keep_loaded.ensures c.args.repo.now.1.records new c.args.tables.now c.apply_tag.ensures.only.extends c.requires.homes in
+    always _ c.apply_tag.result (tips_with name new c.args.tables.now c.apply_tag.new.tables homes c.apply_tag.ensures.loaded (subst (λ b. AreHome name new b) (sym c.apply_tag.ensures.branches) homes.tips))
 
 pub returns-in-Reset-clause-homes : goal.returns-in-Reset-clause-homes
 returns-in-Reset-clause-homes g c = c.apply_reset.ensures.homes (g.N.Namer.name_of c.args.repo.now.0) c.args.repo.now.1.records c.requires.homes
@@ -203,7 +174,7 @@ pub returns-in-Feature-clause-homes : goal.returns-in-Feature-clause-homes
 returns-in-Feature-clause-homes g c =
     let name = g.N.Namer.name_of c.args.repo.now.0 in
     let records = c.args.repo.now.1.records in
-    tips_with name records c.args.tables.now c.apply_feature.new.tables c.requires.homes c.apply_feature.ensures.loaded (subst (λ b. AreHome name records (rows_of b)) (sym c.apply_feature.ensures.branches) c.requires.homes.tips)
+    tips_with name records c.args.tables.now c.apply_feature.new.tables c.requires.homes c.apply_feature.ensures.loaded (subst (λ b. AreHome name records b) (sym c.apply_feature.ensures.branches) c.requires.homes.tips)
 
 -- ---- what is told
 
@@ -214,10 +185,10 @@ pub apply_tag-requires : goal.apply_tag-requires
 apply_tag-requires g c = record { stands = c.requires.stands; unasked = c.requires.blank.asked }
 
 pub apply_reset-requires : goal.apply_reset-requires
-apply_reset-requires g c = record { sorted = c.requires.stands.1.branches_sorted; unasked = c.requires.blank.asked }
+apply_reset-requires g c = record { unasked = c.requires.blank.asked }
 
 pub apply_checkpoint-requires : goal.apply_checkpoint-requires
-apply_checkpoint-requires g c = record { stands = c.requires.stands; room = c.requires.room; sorted = c.requires.sorted; has_all = c.requires.has_all; blank = c.requires.blank.loss }
+apply_checkpoint-requires g c = record { stands = c.requires.stands; room = c.requires.room; blank = c.requires.blank.loss }
 
 pub returns-in-Commit-clause-told : goal.returns-in-Commit-clause-told
 returns-in-Commit-clause-told g c = λ s h.
@@ -264,5 +235,5 @@ pub returns-in-Checkpoint-clause-told : goal.returns-in-Checkpoint-clause-told
 returns-in-Checkpoint-clause-told g c = λ s h.
     let name = g.N.Namer.name_of c.args.repo.now.0 in
     let told : Explanation g.row.A.Denot = record { change = c.args.told.now.change; path = c.args.told.now.path; asked = c.args.told.now.asked; loss = c.apply_checkpoint.new.loss } in
-    let free = published_free s c.args.repo.now.1 c.apply_checkpoint.new.repo.1 c.apply_checkpoint.result (c.apply_checkpoint.ensures.published s h) in
+    let free = published_free name s c.apply_checkpoint.new.repo.1 c.apply_checkpoint.new.tables c.apply_checkpoint.result (c.apply_checkpoint.ensures.published s h) in
     rw c.in-Checkpoint.is (checkpoint_told name s told c.requires.blank.change c.requires.blank.asked c.apply_checkpoint.result (c.apply_checkpoint.ensures.loss s h) free)

@@ -11,8 +11,8 @@ returns-clause-next g c = record { count = refl; records = c.len-checkpoints.ens
 pub returns-clause-published : goal.returns-clause-published
 returns-clause-published g c = c.in_ok-publish.ensures.published
 
-pub returns-clause-entered : goal.returns-clause-entered
-returns-clause-entered g c = c.in_ok-publish.ensures.entered
+pub returns-clause-homes : goal.returns-clause-homes
+returns-clause-homes g c = c.in_ok-publish.ensures.homes
 
 pub returns-in_err-publish-clause-published : goal.returns-in_err-publish-clause-published
 returns-in_err-publish-clause-published g c =

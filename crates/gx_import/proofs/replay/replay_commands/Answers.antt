@@ -4,7 +4,6 @@ use Rattle.std.proofs.lemmas.Result.{err_from_is_err_and}
 use Rattle.gx_model.specs.Streams.Gitlinks.{HoldsNoNullGitlink}
 use Rattle.gx_model.specs.Records.HistoryOf.{history_of}
 use Rattle.gx_model.specs.Replay.{State}
-use Rattle.gx_model.specs.Texts.{byte_cmp}
 use Rattle.gx_model.proofs.Replay.GitlinkSteps.{none_held}
 use Rattle.gx_command.specs.Views.{shown_command}
 use Rattle.gx_command.specs.CommandFaults.{fault_of as of_command}
@@ -12,20 +11,18 @@ use Rattle.gx_import.specs.Applying.{Applies}
 use Rattle.gx_import.specs.Explaining.{ExplainsFault}
 use Rattle.gx_import.specs.declared.fault.ImportFault.{ImportFault}
 use Rattle.gx_import.specs.Imports.{Imports}
-use Rattle.std.specs.Prelude.{IsTrue}
-use Rattle.std.specs.FinMap.Entries.{is_sorted}
 use Rattle.gx_import.specs.Keeping.{Keeps, left_of}
 use Rattle.gx_import.specs.Replaying.{EndsAs}
-use Rattle.gx_import.proofs.KeptCheckpoints.{all_none, counted_next, kept_start, left_next, left_start}
+use Rattle.gx_import.proofs.Extended.{extended_more}
+use Rattle.gx_import.proofs.KeptCheckpoints.{counted_next, kept_start, left_next, left_start}
 use Rattle.gx_import.specs.Standing.{AreTipsAtHome, Stands}
-use Rattle.gx_import.proofs.ReachedStates.{IsAt, at_end, at_next, at_refused, at_start, at_stopped, extends_more, stand_empty, starting, starting_free, step_keeps, told_refused, told_stopped}
+use Rattle.gx_import.proofs.ReachedStates.{IsAt, at_end, at_next, at_refused, at_start, at_stopped, stand_empty, starting, starting_free, step_keeps, told_refused, told_stopped}
 use Rattle.gx_import.proofs.TipHomes.{AreHome}
 use Rattle.gx_import.proofs.replay.replay_commands.Goals as goal
 
 pub loop-command-init : goal.loop-command-init
 loop-command-init g c =
     let name = g.N.Namer.name_of c.args.repo.now.0 in
-    let kept = kept_start name c.args.repo.now.1 c.args.checkpoints.now c.requires.none in
     record {
       namer = refl;
       blank = c.requires.blank;
@@ -34,14 +31,12 @@ loop-command-init g c =
       room = omega (arith, c.requires.most);
       counted = omega (arith, c.requires.none.count);
       left = left_start c.args.repo.now.1 c.args.checkpoints.now c.requires.none c.sound.ensures.held;
-      sorted = subst (λ rows. IsTrue (is_sorted byte_cmp rows)) (sym c.requires.none.refs) refl;
-      has_all = all_none c.args.repo.now.1 c.args.checkpoints.now c.requires.none;
       stands = (
         starting c.args.tables.now.is_forced (history_of c.args.repo.now.1),
         stand_empty name c.args.repo.now.1 c.args.tables.now c.requires.empty,
         λ asks coming same is. at_start asks name c.args.tables.now.is_forced c.args.repo.now.1 coming c.args.reader.now.commands (g.W.Sink.taken c.args.sink.now) same is,
         λ is none. starting_free c.args.tables.now.is_forced (history_of c.args.repo.now.1) is none,
-        record { leaves = kept.leaves; names = kept.names },
+        kept_start name c.args.repo.now.1 c.args.checkpoints.now c.requires.none,
       );
     }
 
@@ -63,20 +58,20 @@ returns-in_err-command-clause-replayed g c = λ asks coming same is.
     let was = g.W.Sink.taken c.args.sink.now in
     let now = g.W.Sink.taken c.loop-command.sink in
     let q = c.in_err-command.ensures.reads in
-    let h = at_refused asks (g.N.Namer.name_of c.loop-command.repo.0) g.row.A.Denot old last coming c.loop-command.commands inv.stands.0 c.loop-command.reader.commands c.next_command.new.reader.commands was now (inv.stands.2 asks coming same is) q.0 q.2 c.loop-command.checkpoints.count inv.stands.4.leaves in
+    let h = at_refused asks (g.N.Namer.name_of c.loop-command.repo.0) g.row.A.Denot old last coming c.loop-command.commands inv.stands.0 c.loop-command.reader.commands c.next_command.new.reader.commands was now (inv.stands.2 asks coming same is) q.0 q.2 c.loop-command.checkpoints.count inv.stands.4 in
     rw (p.1, p.2) (subst (λ f. Imports asks (g.N.Namer.name_of c.args.repo.now.0) old last coming was now (Err f)) (sym q.1) (subst (λ n. Imports asks (g.N.Namer.name_of n) old last coming was now (Err (record { command = c.loop-command.commands + 1; kind = of_command q.0; checkpoints = c.loop-command.checkpoints.count }))) inv.namer h))
 
 pub overflow_add-commands : goal.overflow_add-commands
 overflow_add-commands g c = omega (arith, c.loop-command.invariant.room)
 
 pub apply-requires : goal.apply-requires
-apply-requires g c = record { blank = c.loop-command.invariant.blank; stands = (c.loop-command.invariant.stands.0, c.loop-command.invariant.stands.1); homes = c.loop-command.invariant.homes; fits = c.loop-command.invariant.left.fits; room = omega (arith, c.loop-command.invariant.room, c.loop-command.invariant.counted); sorted = c.loop-command.invariant.sorted; has_all = c.loop-command.invariant.has_all }
+apply-requires g c = record { blank = c.loop-command.invariant.blank; stands = (c.loop-command.invariant.stands.0, c.loop-command.invariant.stands.1); homes = c.loop-command.invariant.homes; fits = c.loop-command.invariant.left.fits; room = omega (arith, c.loop-command.invariant.room, c.loop-command.invariant.counted) }
 
 pub returns-in-Err-clause-namer : goal.returns-in-Err-clause-namer
 returns-in-Err-clause-namer g c = c.apply.ensures.namer ∙ c.loop-command.invariant.namer
 
 pub returns-in-Err-clause-extends : goal.returns-in-Err-clause-extends
-returns-in-Err-clause-extends g c = extends_more c.args.repo.now.1.records c.loop-command.repo.1.records c.apply.new.repo.1.records c.loop-command.invariant.extends c.apply.ensures.extends
+returns-in-Err-clause-extends g c = extended_more c.args.repo.now.1.records c.loop-command.repo.1.records c.apply.new.repo.1.records c.loop-command.invariant.extends c.apply.ensures.extends
 
 pub returns-in-Err-clause-replayed : goal.returns-in-Err-clause-replayed
 returns-in-Err-clause-replayed g c = λ asks coming same is.
@@ -106,13 +101,11 @@ loop-command-preserved g c =
     record {
       namer = c.apply.ensures.namer ∙ inv.namer;
       blank = c.in_default-apply.ensures.told inv.stands.0 inv.stands.1;
-      extends = extends_more old.records c.loop-command.repo.1.records c.apply.new.repo.1.records inv.extends c.apply.ensures.extends;
+      extends = extended_more old.records c.loop-command.repo.1.records c.apply.new.repo.1.records inv.extends c.apply.ensures.extends;
       homes = subst (λ n. AreTipsAtHome (g.N.Namer.name_of n) c.apply.new.repo.1.records c.apply.new.tables) (sym c.apply.ensures.namer) c.in_default-apply.ensures.homes;
       room = omega (arith, inv.room, falls);
       counted = counted_next c.loop-command.repo.1 c.apply.new.repo.1 c.loop-command.checkpoints c.apply.new.checkpoints c.loop-command.commands c.apply.ensures.moves inv.counted;
       left = left_next old c.loop-command.repo.1 c.apply.new.repo.1 c.loop-command.checkpoints c.apply.new.checkpoints inv.left c.apply.ensures.extends c.apply.ensures.moves;
-      sorted = c.in_default-apply.ensures.sorted;
-      has_all = c.in_default-apply.ensures.has_all;
       stands = (
         h.0,
         subst (λ n. Stands (g.N.Namer.name_of n) c.apply.new.repo.1 c.apply.new.tables h.0) (sym c.apply.ensures.namer) h.3,
@@ -158,7 +151,7 @@ returns-in_err-command-clause-counted g c =
 pub returns-in_err-command-clause-gitlinks_left : goal.returns-in_err-command-clause-gitlinks_left
 returns-in_err-command-clause-gitlinks_left g c = λ is none.
     let stands = c.loop-command.invariant.stands in
-    subst HoldsNoNullGitlink (sym stands.4.leaves.history) (stands.3 is none).kept
+    subst HoldsNoNullGitlink (sym stands.4.history) (stands.3 is none).kept
 
 pub returns-in-Err-clause-left : goal.returns-in-Err-clause-left
 returns-in-Err-clause-left g c =
@@ -174,16 +167,10 @@ returns-in-Err-clause-gitlinks_left g c = λ is none.
 pub returns-clause-left : goal.returns-clause-left
 returns-clause-left g c = c.loop-command.invariant.left
 
-pub returns-clause-sorted : goal.returns-clause-sorted
-returns-clause-sorted g c = c.loop-command.invariant.sorted
-
-pub returns-clause-has_all : goal.returns-clause-has_all
-returns-clause-has_all g c = c.loop-command.invariant.has_all
-
 pub returns-clause-gitlinks_left : goal.returns-clause-gitlinks_left
 returns-clause-gitlinks_left g c = λ is none.
     let stands = c.loop-command.invariant.stands in
-    subst HoldsNoNullGitlink (sym stands.4.leaves.history) (stands.3 is none).kept
+    subst HoldsNoNullGitlink (sym stands.4.history) (stands.3 is none).kept
 
 -- ---- what is told
 

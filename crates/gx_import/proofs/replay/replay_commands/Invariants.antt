@@ -7,13 +7,10 @@ use Rattle.gx_model.specs.Streams.Gitlinks.{HoldsNoNullGitlink}
 use Rattle.gx_model.specs.Histories.{IsHistory}
 use Rattle.gx_model.specs.Records.HistoryOf.{history_of}
 use Rattle.gx_model.specs.Replay.{State}
-use Rattle.gx_model.specs.Texts.{byte_cmp}
 use Rattle.gx_model.proofs.Replay.GitlinkSteps.{IsFreeState}
-use Rattle.std.specs.Prelude.{IsTrue, Option}
-use Rattle.std.specs.FinMap.Entries.{is_sorted}
+use Rattle.std.specs.Prelude.{Option}
 use Rattle.gx_import.specs.Explaining.{TellsNothing}
-use Rattle.gx_import.specs.Keeping.{HoldsAll, IsLeft, Keeps}
-use Rattle.gx_import.specs.Rows.{rows_of}
+use Rattle.gx_import.specs.Keeping.{IsLeft, Keeps}
 use Rattle.gx_import.specs.Standing.{AreTipsAtHome, Extends, Stands}
 use Rattle.gx_import.proofs.ReachedStates.{IsAt}
 use Rattle.gx_import.proofs.replay.replay_commands.Given as goal
@@ -27,8 +24,6 @@ invariant-loop-command g l = record {
   room : l.commands + l.reader.most ≤ 2 ^ 63 - 1;
   counted : l.checkpoints.count ≤ l.commands;
   left : IsLeft l.fn.repo.1 l.repo.1 l.checkpoints;
-  sorted : IsTrue (is_sorted byte_cmp (rows_of l.checkpoints.refs));
-  has_all : HoldsAll l.repo.1 l.checkpoints;
   stands : (s : State) × Stands (g.N.Namer.name_of l.repo.0) l.repo.1 l.tables s
       × ((asks : Features) (coming : Option Coming) → asks.force ≡ l.fn.tables.is_forced → l.fn.reader.commands ≡ option_map (commands_asked_from asks) coming
       → IsAt asks (g.N.Namer.name_of l.repo.0) l.fn.repo.1 coming l.commands s l.reader.commands (g.W.Sink.taken l.fn.sink) (g.W.Sink.taken l.sink))

@@ -1,4 +1,4 @@
-use Rattle.std.proofs.Common.{Ok, refl, sym, ap, subst, ◌∙◌}
+use Rattle.std.proofs.Common.{None, Ok, refl, sym, ap, subst, ◌∙◌}
 use Rattle.std.proofs.lemmas.Result.{err_from_is_err_and}
 use Rattle.std.specs.Option.{option_map}
 use Rattle.gx_model.specs.Faults.{IsFaultOf, ◌>>=◌}
@@ -6,6 +6,7 @@ use Rattle.gx_model.specs.Replay.{on_branch}
 use Rattle.gx_model.specs.declared.faults.Fault.TheVariants.{OutOfMemory}
 use Rattle.gx_command.specs.Views.{shown_commit_ish, shown_reset}
 use Rattle.gx_import.specs.Asking.{AsksInVain}
+use Rattle.gx_import.specs.Standing.{tip_at}
 use Rattle.gx_import.proofs.AskedReferences.{none_vain, reset_vain}
 use Rattle.gx_import.proofs.FaultSteps.{fault_then}
 use Rattle.gx_import.proofs.Resets.{reset_by}
@@ -42,12 +43,12 @@ returns-clause-steps g c = λ s h.
     let k = c.in-Ok.ensures s h in (
       on_branch b k.0 s,
       reset_by name s b x ∙ ap (λ r. r >>= λ y. Ok (on_branch b y s)) k.1,
-      record { stands = moved_branch name c.args.repo.now.1 c.args.tables.now _ s h b c.args.reset.branch.proper k.0 _ (record { commit = k.2; files = tt }) c.set_tip.ensures.marks c.set_tip.ensures.tags c.set_tip.ensures.forced c.in_ok-set_tip.ensures.branches; progress = refl; held = refl },
+      record { stands = moved_branch name c.args.repo.now.1 c.args.tables.now _ s h b c.args.reset.branch.proper k.0 (tip_at c.in-Ok.commit None c.args.tables.now.branches b) (record { commit = k.2; files = tt }) refl c.set_tip.ensures.others c.in_ok-set_tip.ensures.branches; progress = refl; held = refl },
     )
 
 pub returns-clause-homes : goal.returns-clause-homes
 returns-clause-homes g c = λ name records h.
-    tips_with name records c.args.tables.now c.set_tip.new.self h c.set_tip.ensures.loaded (subst (AreHome name records) (sym c.in_ok-set_tip.ensures.branches) (homes_put name records _ _ _ tt h.tips))
+    tips_with name records c.args.tables.now c.set_tip.new.self h (ap (λ t. t.loaded) c.set_tip.ensures.others) (subst (AreHome name records) (sym c.in_ok-set_tip.ensures.branches) (homes_put name records _ _ _ tt h.tips))
 
 pub returns-in_err-set_tip-clause-steps : goal.returns-in_err-set_tip-clause-steps
 returns-in_err-set_tip-clause-steps g c = λ s h.

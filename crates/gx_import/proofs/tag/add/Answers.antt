@@ -29,8 +29,8 @@ returns-in_err-add_tag-clause-steps g c = λ tables s target h is.
     (tag_clashes name namer r c.sound.ensures t c.args.object of (c.puts_add_values.ensures name namer) c.args.tag.now.name.proper (tagger_proper c.args.tag.now) _ c.object_parts.ensures)
     c.in_err-add_tag.ensures.adds)
 
-pub returns-clause-extends : goal.returns-clause-extends
-returns-clause-extends g c = extended_one _ _ _ _ c.add_tag.ensures.adds
+pub returns-clause-only : goal.returns-clause-only
+returns-clause-only g c = record { namer = c.add_tag.ensures.namer; refs = c.add_tag.ensures.refs; extends = extended_one _ _ _ _ c.add_tag.ensures.adds }
 
 pub returns-clause-steps : goal.returns-clause-steps
 returns-clause-steps g c = λ tables s target h is.

@@ -12,9 +12,6 @@ use Rattle.gx_import.proofs.Refusals.{target_answers}
 use Rattle.gx_import.proofs.TagTargets.{tag_next, tag_step}
 use Rattle.gx_import.proofs.tag.apply_tag.Goals as goal
 
-pub target-requires : goal.target-requires
-target-requires g c = record { sorted = c.requires.stands.1.branches_sorted }
-
 pub make_tag-requires : goal.make_tag-requires
 make_tag-requires g c = record { stands = c.requires.stands; target = c.in-Ok.ensures }
 

@@ -10,7 +10,6 @@ use Rattle.gx_model.specs.Histories.Values.{tag_value}
 use Rattle.gx_command.specs.Views.{tag_parts}
 use Rattle.gx_import.specs.Additions.{tag_made}
 use Rattle.gx_import.specs.Objects.{IsCommitOf}
-use Rattle.gx_import.specs.Rows.{rows_of}
 use Rattle.gx_import.specs.Standing.{Follows}
 use Rattle.gx_import.proofs.HeldParts.{commit_holds}
 use Rattle.gx_import.proofs.MarkedStates.{tag_set}
@@ -49,8 +48,8 @@ returns-clause-steps g c = λ s h.
     let ref = c.in_ok-tag_ref.ensures ∙ ap tag_ref c.as_slice.ensures.value in (
       tagged t v (added (tag_value v) s),
       tag_step name s t ∙ ap (λ o. o >>= tag_next t s) d.1,
-      tag_set name c.add.new.repo.1 c.args.tables.now s (added (tag_value v) s) f v called (one_has s.history.values (tag_value v)) a.2.1 t.mark c.set.new.self _ refl refl c.in_ok-set.ensures _ refl refl refl
-          (c.in_ok-set-2.ensures ∙ ap (λ n. put byte_cmp n called (rows_of c.args.tables.now.tags)) ref),
+      tag_set name c.add.new.repo.1 c.args.tables.now s (added (tag_value v) s) f v called (one_has s.history.values (tag_value v)) a.2.1 t.mark c.set.new.self _ refl refl c.in_ok-set.ensures c.set-2.new.self
+          (c.in_ok-set-2.ensures ∙ ap (λ n. put byte_cmp n called c.args.tables.now.tags) ref),
     )
 
 pub returns-in_err-set-clause-steps : goal.returns-in_err-set-clause-steps

@@ -1,13 +1,11 @@
-use Rattle.std.proofs.Common.{OnOk, sym, subst, ◌∙◌}
-use Rattle.gx_import.specs.declared.branches.Tip.{Tip}
-use Rattle.gx_import.specs.declared.table.Table.{Table}
-use Rattle.gx_import.specs.Rows.{IsSorted, SetsRow}
+use Rattle.std.proofs.Common.{OnOk, ap, subst, ◌∙◌}
+use Rattle.std.specs.FinMap.Entries.{put}
+use Rattle.gx_model.specs.Texts.{byte_cmp}
+use Rattle.gx_import.specs.Standing.{tip_at}
 use Rattle.gx_import.proofs.tables.Tables.set_tip.Goals as goal
 
-pub set-requires : goal.set-requires
-set-requires g c =
-    record { sorted = subst (λ (branches : Table (Tip g.row.A.Denot) g.row.A.Denot). IsSorted branches) (sym (c.enter_tip.ensures.branches ∙ c.forget_tip.ensures.branches)) c.requires.sorted }
-
-pub returns-clause-branches : goal.returns-clause-branches
-returns-clause-branches g c =
-    subst (λ branches. OnOk c.set.result (SetsRow c.args.branch.items c.args.tip branches c.set.new.self)) (c.enter_tip.ensures.branches ∙ c.forget_tip.ensures.branches) c.set.ensures
+pub returns-clause-others : goal.returns-clause-others
+returns-clause-others g c =
+    let branches = c.set.new.self in
+    let at_hand = c.enter_tip.new.self.at_hand in
+    ap (λ t. record t { branches = branches }) c.enter_tip.ensures.others ∙ ap (λ t. record t { branches = branches; at_hand = at_hand }) c.forget_tip.ensures

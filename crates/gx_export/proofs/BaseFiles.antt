@@ -16,7 +16,6 @@ use Rattle.gx_model.specs.Records.RecordFaults.{is_held}
 use Rattle.gx_model.specs.Records.Sound.{IsSound}
 use Rattle.gx_model.specs.Texts.{Bytes}
 use Rattle.gx_model.specs.Texts.Paths.{Path}
-use Rattle.gx_model.specs.Texts.Sinks.{Taken}
 use Rattle.gx_model.proofs.Records.HeldTrees.{files_are_held}
 use Rattle.gx_model.proofs.Records.HeldValues.{no_parent_there, parent_there}
 use Rattle.gx_object.specs.declared.name.Name.{Name}
@@ -86,13 +85,13 @@ module _ (name : Kind → Bytes → Bytes) (namer : IsNamer name) (r : Records) 
 
 -- ---- what is gathered from the root
 
-module _ {A : Type 0} (name : Kind → Bytes → Bytes) (r : Records) (ws : List Value) (c : Commit) (front : Path) (f g : FileMap Bytes) (old new : Written A) (was now : Option Taken) (first last : Changes A)
+module _ {W A : Type 0} (name : Kind → Bytes → Bytes) (r : Records) (ws : List Value) (c : Commit) (front : Path) (f g : FileMap Bytes) (old new : Written W A) (first last : Changes A)
     (root : front ≡ []) (same : contents_of (named_values r.records) (changed_files f g) ≡ own_files c) (gone : gone_paths f g ≡ gone_of c) (empty : first.gone.items ≡ []) (none : first.files.text.items ≡ []) where
-  pub of_compared : (result : Result (Unit {0}) ExportFault) → Compares name r ws (below front (changed_files f g)) (paths_below front (gone_paths f g)) old new was now first last result → GathersChanges name r ws c old new was now last result
+  pub of_compared : (result : Result (Unit {0}) ExportFault) → Compares name r ws (below front (changed_files f g)) (paths_below front (gone_paths f g)) old new first last result → GathersChanges name r ws c old new last result
   of_compared (Ok x) k = record {
-    adds = adds_gathered name r ws front (changed_files f g) (own_files c) old new was now first.files last.files (Ok x) root same k.gathered;
-    files = text_gathered name r ws front (changed_files f g) (own_files c) old new was now first.files last.files (Ok x) root same none k.gathered;
+    adds = adds_gathered name r ws front (changed_files f g) (own_files c) old new first.files last.files (Ok x) root same k.gathered;
+    files = text_gathered name r ws front (changed_files f g) (own_files c) old new first.files last.files (Ok x) root same none k.gathered;
     gone = k.gone ∙ ap (λ t. t ++ gone_text (paths_below front (gone_paths f g))) empty ∙ ap gone_text (ap (λ p. paths_below p (gone_paths f g)) root ∙ paths_root (gone_paths f g) ∙ gone);
-    kept = kept_gathered name r ws front (changed_files f g) (own_files c) old new was now first.files last.files (Ok x) root same k.gathered;
+    kept = kept_gathered name r ws front (changed_files f g) (own_files c) old new first.files last.files (Ok x) root same k.gathered;
   }
-  of_compared (Err e) k = adds_gathered name r ws front (changed_files f g) (own_files c) old new was now first.files last.files (Err e) root same k
+  of_compared (Err e) k = adds_gathered name r ws front (changed_files f g) (own_files c) old new first.files last.files (Err e) root same k

@@ -1,5 +1,5 @@
 -- The blobs of files, one after the other.
-use Rattle.std.proofs.Common.{◌≡◌, ◌≢◌, ℕ, suc, true, false, cond, List, [], ◌∷◌, ◌++◌, length, Option, Some, Result, Ok, Bool, not, refl, sym, ap, subst, ◌∙◌}
+use Rattle.std.proofs.Common.{◌≡◌, ◌≢◌, ℕ, suc, true, false, cond, List, [], ◌∷◌, ◌++◌, length, Some, Result, Ok, Err, Bool, not, refl, sym, ap, subst, ◌∙◌}
 use Rattle.std.proofs.lemmas.Grind.{flat_map-append}
 use Rattle.std.proofs.lemmas.List.{map-append}
 use Rattle.std.proofs.lemmas.List.Elements.{filter_map-append}
@@ -13,9 +13,8 @@ use Rattle.gx_model.specs.Histories.{Records, is_in}
 use Rattle.gx_model.specs.Records.HistoryOf.{Named, bytes_of_blob, content_of, contents_of, value_named}
 use Rattle.gx_model.specs.Texts.Paths.{Path}
 use Rattle.gx_model.specs.Histories.Values.{Value, blob_value, unless_gitlink}
-use Rattle.gx_model.specs.Texts.Sinks.{Taken}
 use Rattle.gx_export.specs.Marks.{Adds}
-use Rattle.gx_export.specs.Outputs.{Stops}
+use Rattle.gx_export.specs.Outputs.{Sent, Writes}
 use Rattle.gx_export.specs.Texts.{items_of}
 use Rattle.gx_export.specs.declared.fault.ExportFault.{ExportFault}
 use Rattle.gx_export.specs.declared.written.Written.{Written}
@@ -39,19 +38,19 @@ commands_append ws (x ∷ xs) ys =
 pub blob_items_append : (ws : List Value) (xs ys : List Bytes) → items_of (blob_commands ws (xs ++ ys)) ≡ items_of (blob_commands ws xs) ++ items_of (blob_commands (with_blobs ws xs) ys)
 blob_items_append ws xs ys = ap items_of (commands_append ws xs ys) ∙ flat_map-append command_items (blob_commands ws xs) (blob_commands (with_blobs ws xs) ys)
 
-module _ {A : Type 0} (r : Records) (ws : List Value) (xs ys : List Bytes) (old mid new : Written A) (was between now : Option Taken) where
+module _ {W A : Type 0} (r : Records) (ws : List Value) (xs ys : List Bytes) (old mid new : Written W A) where
   -- blobs go out behind others
-  pub next_blobs : (result : Result (Unit {0}) ExportFault) → Adds r (with_blobs ws xs) (items_of (blob_commands ws xs)) old mid was between (Ok tt) → Adds r (with_blobs (with_blobs ws xs) ys) (items_of (blob_commands (with_blobs ws xs) ys)) mid new between now result
-      → Adds r (with_blobs ws (xs ++ ys)) (items_of (blob_commands ws (xs ++ ys))) old new was now result
+  pub next_blobs : (result : Result (Unit {0}) ExportFault) → Adds r (with_blobs ws xs) (items_of (blob_commands ws xs)) old mid (Ok tt) → Adds r (with_blobs (with_blobs ws xs) ys) (items_of (blob_commands (with_blobs ws xs) ys)) mid new result
+      → Adds r (with_blobs ws (xs ++ ys)) (items_of (blob_commands ws (xs ++ ys))) old new result
   next_blobs result h k =
-      subst (λ us. Adds r us (items_of (blob_commands ws (xs ++ ys))) old new was now result) (sym (blobs_append ws xs ys))
-      (subst (λ is. Adds r (with_blobs (with_blobs ws xs) ys) is old new was now result) (sym (blob_items_append ws xs ys))
-      (adds_later r (with_blobs ws xs) (with_blobs (with_blobs ws xs) ys) (items_of (blob_commands ws xs)) (items_of (blob_commands (with_blobs ws xs) ys)) old mid new was between now result h k))
+      subst (λ us. Adds r us (items_of (blob_commands ws (xs ++ ys))) old new result) (sym (blobs_append ws xs ys))
+      (subst (λ is. Adds r (with_blobs (with_blobs ws xs) ys) is old new result) (sym (blob_items_append ws xs ys))
+      (adds_later r (with_blobs ws xs) (with_blobs (with_blobs ws xs) ys) (items_of (blob_commands ws xs)) (items_of (blob_commands (with_blobs ws xs) ys)) old mid new result h k))
 
 -- what stops within blobs stops within these and others
-pub blobs_sooner : (before : ℕ) (was now : Option Taken) (ws : List Value) (xs ys : List Bytes) (e : ExportFault) → Stops before was now (items_text (items_of (blob_commands ws xs))) e → Stops before was now (items_text (items_of (blob_commands ws (xs ++ ys)))) e
-blobs_sooner before was now ws xs ys e h =
-    subst (λ is. Stops before was now (items_text is) e) (sym (blob_items_append ws xs ys)) (items_sooner before was now (items_of (blob_commands ws xs)) (items_of (blob_commands (with_blobs ws xs) ys)) e h)
+pub blobs_sooner : (old new : Sent) (ws : List Value) (xs ys : List Bytes) (e : ExportFault) → Writes old new (items_text (items_of (blob_commands ws xs))) (Err e) → Writes old new (items_text (items_of (blob_commands ws (xs ++ ys)))) (Err e)
+blobs_sooner old new ws xs ys e h =
+    subst (λ is. Writes old new (items_text is) (Err e)) (sym (blob_items_append ws xs ys)) (items_sooner old new (items_of (blob_commands ws xs)) (items_of (blob_commands (with_blobs ws xs) ys)) e h)
 
 -- a test that fails
 pub denied : (b : Bool) → false ≡ not b → b ≡ true

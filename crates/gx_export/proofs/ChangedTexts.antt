@@ -17,7 +17,6 @@ use Rattle.gx_model.specs.Streams.Commands.{CommitIsh, Remove}
 use Rattle.gx_model.specs.Streams.Items.{Data, Item, Line}
 use Rattle.gx_model.specs.Texts.{Bytes}
 use Rattle.gx_model.specs.Texts.Paths.{Path}
-use Rattle.gx_model.specs.Texts.Sinks.{Taken}
 use Rattle.gx_export.specs.ChangedParts.{AreLinesOf, differing_lines, lines_on, one_on}
 use Rattle.gx_export.specs.Compared.{gone_items, gone_text}
 use Rattle.gx_export.specs.Marks.{Adds, HasWritten}
@@ -72,9 +71,9 @@ lines_some : (branch : Bytes) (names : Commit → CommitIsh) (ws : List Value) (
 lines_some branch names ws text ps gone own = omega arith
 
 -- where a commit's items went out, some bytes give no mark
-pub some_unmarked_on : {A : Type 0} (r : Records) (branch : Bytes) (names : Commit → CommitIsh) (us : List Value) (n : ℕ) (text : CommitText) (ps : List Commit) (gone : List Path) (own : FileMap Bytes) (old new : Written A) (was now : Option Taken) (result : Result (Unit {0}) ExportFault)
-    → HasWritten r us old → Adds r us (root_items branch n ++ lines_on branch names us text ps gone own) old new was now result → OnOk result (new.count < new.bytes)
-some_unmarked_on r branch names us n text ps gone own old new was now (Ok x) h k =
+pub some_unmarked_on : {W A : Type 0} (r : Records) (branch : Bytes) (names : Commit → CommitIsh) (us : List Value) (n : ℕ) (text : CommitText) (ps : List Commit) (gone : List Path) (own : FileMap Bytes) (old new : Written W A) (result : Result (Unit {0}) ExportFault)
+    → HasWritten r us old → Adds r us (root_items branch n ++ lines_on branch names us text ps gone own) old new result → OnOk result (new.count < new.output.bytes)
+some_unmarked_on r branch names us n text ps gone own old new (Ok x) h k =
     let l = lines_some branch names us text ps gone own in
     let lines = lines_on branch names us text ps gone own in
     let long = ap length (items_append (root_items branch n) lines) ∙ length-append (items_text (root_items branch n)) (items_text lines) in
@@ -83,7 +82,7 @@ some_unmarked_on r branch names us n text ps gone own old new was now (Ok x) h k
     let after = k.0.count in
     let bytes = k.1.0 in
     omega (arith, l, long)
-some_unmarked_on r branch names us n text ps gone own old new was now (Err e) h k = tt
+some_unmarked_on r branch names us n text ps gone own old new (Err e) h k = tt
 
 -- the items behind its blobs, of what is shown of a commit
 pub items_told_on : (name : Kind → Bytes → Bytes) (namer : IsNamer name) (r : Records) (sound : IsSound name r) (branch : Bytes) (c : Commit) (view : CommitParts) → IsShownAs name namer r sound c view → (us : List Value)

@@ -21,7 +21,7 @@ use Rattle.gx_export.specs.Branches.{picked}
 use Rattle.gx_export.specs.ChangedParts.{DeliversRange, ExportsChanges, SendsText, closing, opening, sending_front, sending_rest}
 use Rattle.gx_model.specs.Faults.{NeedsNoMemory}
 use Rattle.gx_export.specs.Marks.{Adds}
-use Rattle.gx_export.specs.Outputs.{Stops, StopsAt, most}
+use Rattle.gx_export.specs.Outputs.{Sent, StopsAt, Writes, most}
 use Rattle.gx_export.specs.Texts.{items_of}
 use Rattle.gx_export.specs.declared.fault.ExportFault.{ExportFault}
 use Rattle.gx_export.specs.declared.fault.ExportFault.TheVariants.{OutOfMemory, WriteFailed}
@@ -51,26 +51,27 @@ module _ (name : Kind → Bytes → Bytes) (closed : Bool) where
         ∙ sym (append_assoc (opening closed) (items_of commits) (items_of reset ++ (items_of last ++ closing closed)))
 
     -- an export that stops, and not for want of memory
-    stopped : (was now : Option Taken) (e : ExportFault) → e ≢ OutOfMemory → Stops 0 was now (items_text all_items) e → SendsText name closed sent refs was now (Err e)
-    stopped was now OutOfMemory memory h = absurd (memory refl)
-    stopped was now (WriteFailed count) memory h = subst (λ is. StopsAt 0 count was now (items_text is)) (sym parts_of) h
+    stopped : (old new : Sent) (e : ExportFault) → e ≢ OutOfMemory → old.bytes ≡ 0 → Writes old new (items_text all_items) (Err e) → SendsText name closed sent refs old.taken new.taken (Err e)
+    stopped old new OutOfMemory memory z h = absurd (memory refl)
+    stopped old new (WriteFailed count) memory z h =
+        subst (λ is. StopsAt 0 count old.taken new.taken (items_text is)) (sym parts_of) (subst (λ n. StopsAt n count old.taken new.taken (items_text all_items)) z h.1)
 
     -- an export that stops among the commits
-    pub stopped_at_commits : (n : ℕ) (was now : Option Taken) (e : ExportFault) → n ≡ 0 → Stops n was now (items_text (sending_front name closed sent refs)) e → SendsText name closed sent refs was now (Err e)
-    stopped_at_commits n was now OutOfMemory z h = h
-    stopped_at_commits n was now (WriteFailed count) z h =
+    pub stopped_at_commits : (old new : Sent) (e : ExportFault) → old.bytes ≡ 0 → Writes old new (items_text (sending_front name closed sent refs)) (Err e) → SendsText name closed sent refs old.taken new.taken (Err e)
+    stopped_at_commits old new OutOfMemory z h = h.1
+    stopped_at_commits old new (WriteFailed count) z h =
         let front = sending_front name closed sent refs in
         let rest = sending_rest name closed sent refs (all_changes sent) in
-        let start = subst (λ m. StopsAt m count was now (items_text front)) z h in
-        stopped was now (WriteFailed count) (λ e. absurd cc) (items_sooner 0 was now front rest (WriteFailed count) start)
+        stopped old new (WriteFailed count) (λ e. absurd cc) z (items_sooner old new front rest (WriteFailed count) h)
 
     -- what goes out from the start is an export
-    pub exports : {A : Type 0} (r : Records) (ws : List Value) (old new : Written A) (was now : Option Taken) (result : Result (Unit {0}) ExportFault) → old.bytes ≡ 0 → NeedsNoMemory OutOfMemory result → Adds r ws all_items old new was now result → SendsText name closed sent refs was now result
-    exports r ws old new was now (Ok x) z memory k =
+    pub exports : {W A : Type 0} (r : Records) (ws : List Value) (old new : Written W A) (result : Result (Unit {0}) ExportFault) → old.output.bytes ≡ 0 → NeedsNoMemory OutOfMemory result → Adds r ws all_items old new result
+        → SendsText name closed sent refs old.output.taken new.output.taken result
+    exports r ws old new (Ok x) z memory k =
         let text = items_text all_items in
-        let long : length text ≤ most = omega (arith, z, k.1.0, k.1.1) in
-        subst (λ is. Took was now (items_text is) × (length (items_text is) ≤ most)) (sym parts_of) (k.1.2, long)
-    exports r ws old new was now (Err e) z memory k = stopped was now e memory (subst (λ n. Stops n was now (items_text all_items) e) z k)
+        let long : length text ≤ most = (let most = k.0.most in let count = k.1.1.0 in omega (arith, z)) in
+        subst (λ is. Took old.output.taken new.output.taken (items_text is) × (length (items_text is) ≤ most)) (sym parts_of) (k.1.1.2, long)
+    exports r ws old new (Err e) z memory k = stopped old.output new.output e memory z k
 
   -- the export of all commits that refs reach
   pub whole_sent : (r : Records) (was now : Option Taken) (result : Result (Unit {0}) ExportFault)

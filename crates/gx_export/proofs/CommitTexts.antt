@@ -21,7 +21,6 @@ use Rattle.gx_model.specs.Histories.Values.{Commit, Commits, CommitText, Value, 
 use Rattle.gx_model.proofs.Records.LinkedValues.{parts_in, proper_in}
 use Rattle.gx_model.proofs.ObjectTexts.OneTree.{all_left}
 use Rattle.gx_model.proofs.Texts.PathTests.{is_true}
-use Rattle.gx_model.specs.Texts.Sinks.{Taken}
 use Rattle.gx_model.proofs.Records.HeldValues.{all_whole, commit_stands, names_long, value_held, value_holds}
 use Rattle.gx_model.specs.Records.RecordFaults.{is_held}
 use Rattle.gx_model.specs.Objects.NameMaps.{AreFiles}
@@ -92,9 +91,9 @@ lines_some : (ws : List Value) (text : CommitText) (ps : List Commit) (f : FileM
 lines_some ws text ps f = omega arith
 
 -- where a commit's items went out, some bytes give no mark
-pub some_unmarked : {A : Type 0} (r : Records) (us : List Value) (n : ℕ) (text : CommitText) (ps : List Commit) (f : FileMap Bytes) (old new : Written A) (was now : Option Taken) (result : Result (Unit {0}) ExportFault)
-    → HasWritten r us old → Adds r us (root_items carrier n ++ commit_lines us text ps f) old new was now result → OnOk result (new.count < new.bytes)
-some_unmarked r us n text ps f old new was now (Ok x) h k =
+pub some_unmarked : {W A : Type 0} (r : Records) (us : List Value) (n : ℕ) (text : CommitText) (ps : List Commit) (f : FileMap Bytes) (old new : Written W A) (result : Result (Unit {0}) ExportFault)
+    → HasWritten r us old → Adds r us (root_items carrier n ++ commit_lines us text ps f) old new result → OnOk result (new.count < new.output.bytes)
+some_unmarked r us n text ps f old new (Ok x) h k =
     let l = lines_some us text ps f in
     let long = ap length (items_append (root_items carrier n) (commit_lines us text ps f)) ∙ length-append (items_text (root_items carrier n)) (items_text (commit_lines us text ps f)) in
     let before = h.count in
@@ -102,7 +101,7 @@ some_unmarked r us n text ps f old new was now (Ok x) h k =
     let after = k.0.count in
     let bytes = k.1.0 in
     omega (arith, l, long)
-some_unmarked r us n text ps f old new was now (Err e) h k = tt
+some_unmarked r us n text ps f old new (Err e) h k = tt
 
 -- ---- a held commit
 

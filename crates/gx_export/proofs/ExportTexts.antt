@@ -1,5 +1,5 @@
 -- The items of an export in their parts.
-use Rattle.std.proofs.Common.{◌≡◌, ◌≢◌, ◌≤◌, ℕ, List, [], ◌∷◌, ◌++◌, map, length, Option, Result, Ok, Err, refl, sym, ap, subst, ◌∙◌, append_assoc, arith, codes}
+use Rattle.std.proofs.Common.{◌≡◌, ◌≢◌, ◌≤◌, ℕ, List, [], ◌∷◌, ◌++◌, map, length, Result, Ok, Err, refl, sym, ap, subst, ◌∙◌, append_assoc, arith, codes}
 use Rattle.std.proofs.lemmas.Grind.{flat_map-append}
 use Rattle.gx_model.specs.Streams.Commands as command
 use Rattle.gx_model.specs.Export.{all_written, command_items, commit_commands, export_items, items_text, last_reset, reached_commits, ref_command}
@@ -7,11 +7,11 @@ use Rattle.gx_model.specs.Histories.{History, Records}
 use Rattle.gx_model.specs.Records.HistoryOf.{history_of}
 use Rattle.gx_model.specs.Streams.Items.{Item, Line}
 use Rattle.gx_model.specs.Histories.Values.{Value}
-use Rattle.gx_model.specs.Texts.Sinks.{Taken, Took}
+use Rattle.gx_model.specs.Texts.Sinks.{Took}
 use Rattle.gx_export.specs.Exports.{Exports, front_items, rest_items}
 use Rattle.gx_model.specs.Faults.{NeedsNoMemory}
 use Rattle.gx_export.specs.Marks.{Adds}
-use Rattle.gx_export.specs.Outputs.{Stops, StopsAt, most}
+use Rattle.gx_export.specs.Outputs.{Sent, StopsAt, Writes, most}
 use Rattle.gx_export.specs.Texts.{items_of}
 use Rattle.gx_export.specs.declared.fault.ExportFault.{ExportFault}
 use Rattle.gx_export.specs.declared.fault.ExportFault.TheVariants.{OutOfMemory, WriteFailed}
@@ -46,23 +46,24 @@ parts_of h =
     ∙ ap (λ (is : List Item). is ++ end_items) inner ∙ parted ∙ ap (λ (is : List Item). commits_items [] cs ++ (is ++ (items_of refs ++ end_items))) (sym (last_is cs)))
 
 -- an export that stops, and not for want of memory
-stopped : (r : Records) (was now : Option Taken) (e : ExportFault) → e ≢ OutOfMemory → Stops 0 was now (items_text (all_items (history_of r))) e → Exports r was now (Err e)
-stopped r was now OutOfMemory memory h = absurd (memory refl)
-stopped r was now (WriteFailed count) memory h = subst (λ is. StopsAt 0 count was now (items_text is)) (sym (parts_of (history_of r))) h
+stopped : (r : Records) (old new : Sent) (e : ExportFault) → e ≢ OutOfMemory → old.bytes ≡ 0 → Writes old new (items_text (all_items (history_of r))) (Err e) → Exports r old.taken new.taken (Err e)
+stopped r old new OutOfMemory memory z h = absurd (memory refl)
+stopped r old new (WriteFailed count) memory z h =
+    subst (λ is. StopsAt 0 count old.taken new.taken (items_text is)) (sym (parts_of (history_of r))) (subst (λ n. StopsAt n count old.taken new.taken (items_text (all_items (history_of r)))) z h.1)
 
 -- an export that stops among the commits
-pub stopped_at_commits : (r : Records) (n : ℕ) (was now : Option Taken) (e : ExportFault) → n ≡ 0 → Stops n was now (items_text (front_items (history_of r))) e → Exports r was now (Err e)
-stopped_at_commits r n was now OutOfMemory z h = h
-stopped_at_commits r n was now (WriteFailed count) z h =
+pub stopped_at_commits : (r : Records) (old new : Sent) (e : ExportFault) → old.bytes ≡ 0 → Writes old new (items_text (front_items (history_of r))) (Err e) → Exports r old.taken new.taken (Err e)
+stopped_at_commits r old new OutOfMemory z h = h.1
+stopped_at_commits r old new (WriteFailed count) z h =
     let front = front_items (history_of r) in
     let rest = rest_items (history_of r) (all_written (reached_commits (history_of r))) in
-    let start = subst (λ m. StopsAt m count was now (items_text front)) z h in
-    stopped r was now (WriteFailed count) (λ e. absurd cc) (items_sooner 0 was now front rest (WriteFailed count) start)
+    stopped r old new (WriteFailed count) (λ e. absurd cc) z (items_sooner old new front rest (WriteFailed count) h)
 
 -- what goes out from the start is an export
-pub exports : {A : Type 0} (r : Records) (ws : List Value) (old new : Written A) (was now : Option Taken) (result : Result (Unit {0}) ExportFault) → old.bytes ≡ 0 → NeedsNoMemory OutOfMemory result → Adds r ws (all_items (history_of r)) old new was now result → Exports r was now result
-exports r ws old new was now (Ok x) z memory k =
+pub exports : {W A : Type 0} (r : Records) (ws : List Value) (old new : Written W A) (result : Result (Unit {0}) ExportFault) → old.output.bytes ≡ 0 → NeedsNoMemory OutOfMemory result → Adds r ws (all_items (history_of r)) old new result
+    → Exports r old.output.taken new.output.taken result
+exports r ws old new (Ok x) z memory k =
     let text = items_text (all_items (history_of r)) in
-    let long : length text ≤ most = omega (arith, z, k.1.0, k.1.1) in
-    subst (λ is. Took was now (items_text is) × (length (items_text is) ≤ most)) (sym (parts_of (history_of r))) (k.1.2, long)
-exports r ws old new was now (Err e) z memory k = stopped r was now e memory (subst (λ n. Stops n was now (items_text (all_items (history_of r))) e) z k)
+    let long : length text ≤ most = (let most = k.0.most in let count = k.1.1.0 in omega (arith, z)) in
+    subst (λ is. Took old.output.taken new.output.taken (items_text is) × (length (items_text is) ≤ most)) (sym (parts_of (history_of r))) (k.1.1.2, long)
+exports r ws old new (Err e) z memory k = stopped r old.output new.output e memory z k

@@ -22,7 +22,6 @@ use Rattle.gx_model.specs.Streams.Commands.{Blob}
 use Rattle.gx_model.proofs.Histories.SameValues.{same_value_tells}
 use Rattle.gx_model.proofs.Histories.FileMapEdits.{parts_of}
 use Rattle.gx_model.proofs.ObjectTexts.OneTree.{all_left, all_right}
-use Rattle.gx_model.specs.Texts.Sinks.{Taken}
 use Rattle.gx_tree.specs.HeldTrees.{IsHeldEntry, IsHeldWithin}
 use Rattle.gx_tree.specs.Lists.{below}
 use Rattle.gx_tree.specs.Nodes.{Kept, Level, files, file, folder, kept_map}
@@ -32,10 +31,9 @@ use Rattle.gx_tree.proofs.LevelsOf.{IsLevel-level_of, files-level_of, level_of}
 use Rattle.gx_tree.proofs.Listed.{IsListed, all_listed, below-placed, below_root, map_short}
 use Rattle.gx_export.specs.FileTexts.{AreKept, AreWritten, Gathers, IsEntryBelow, IsGathered, IsKept, IsLinesOf, IsTreeBelow, StandsIn, bytes_in, lines_text}
 use Rattle.gx_export.specs.Marks.{Adds, HasWritten}
-use Rattle.gx_export.specs.Outputs.{Stops, Writes}
+use Rattle.gx_export.specs.Outputs.{Sent, Writes}
 use Rattle.gx_export.specs.Texts.{file_items, file_line, items_of}
 use Rattle.gx_export.specs.declared.fault.ExportFault.{ExportFault}
-use Rattle.gx_export.specs.declared.fault.ExportFault.TheVariants.{OutOfMemory}
 use Rattle.gx_export.specs.declared.lines.Directory.{Directory}
 use Rattle.gx_export.specs.declared.lines.Lines.{Lines}
 use Rattle.gx_export.specs.declared.written.Written.{Written}
@@ -162,7 +160,7 @@ text_append named ws xs ys = ap items_text (lines_append named ws xs ys) ∙ ite
 
 -- ---- files behind others
 
-module _ {A : Type 0} (name : Kind → Bytes → Bytes) (r : Records) (ws : List Value) (xs ys : FileMap Bytes) (old mid new : Written A) (was between now : Option Taken) (first next last : Lines A) where
+module _ {W A : Type 0} (name : Kind → Bytes → Bytes) (r : Records) (ws : List Value) (xs ys : FileMap Bytes) (old mid new : Written W A) (first next last : Lines A) where
   abbrev named : Named
   named = named_values r.records
 
@@ -178,11 +176,11 @@ module _ {A : Type 0} (name : Kind → Bytes → Bytes) (r : Records) (ws : List
       let stay = lines_stay named us vs xs (λ x h. still us (bytes_in named ys) (blob_value x) h) (all_written ws (bytes_in named xs)) in
       ap (λ t. t ++ lines_text named vs ys) (sym stay) ∙ sym (text_append named vs xs ys)
 
-  both_add : (result : Result (Unit {0}) ExportFault) → Adds r us (items_of (blob_commands ws (bytes_in named xs))) old mid was between (Ok tt) → Adds r (with_blobs us (bytes_in named ys)) (items_of (blob_commands us (bytes_in named ys))) mid new between now result
-      → Adds r (with_blobs ws (bytes_in named (xs ++ ys))) (items_of (blob_commands ws (bytes_in named (xs ++ ys)))) old new was now result
-  both_add result h k = subst (λ bs. Adds r (with_blobs ws bs) (items_of (blob_commands ws bs)) old new was now result) (sym (bytes_append named xs ys)) (next_blobs r ws (bytes_in named xs) (bytes_in named ys) old mid new was between now result h k)
+  both_add : (result : Result (Unit {0}) ExportFault) → Adds r us (items_of (blob_commands ws (bytes_in named xs))) old mid (Ok tt) → Adds r (with_blobs us (bytes_in named ys)) (items_of (blob_commands us (bytes_in named ys))) mid new result
+      → Adds r (with_blobs ws (bytes_in named (xs ++ ys))) (items_of (blob_commands ws (bytes_in named (xs ++ ys)))) old new result
+  both_add result h k = subst (λ bs. Adds r (with_blobs ws bs) (items_of (blob_commands ws bs)) old new result) (sym (bytes_append named xs ys)) (next_blobs r ws (bytes_in named xs) (bytes_in named ys) old mid new result h k)
 
-  pub gathers_next : IsGathered name r ws xs old mid was between first next → IsGathered name r us ys mid new between now next last → IsGathered name r ws (xs ++ ys) old new was now first last
+  pub gathers_next : IsGathered name r ws xs old mid first next → IsGathered name r us ys mid new next last → IsGathered name r ws (xs ++ ys) old new first last
   gathers_next h k = record {
     adds = both_add (Ok tt) h.adds k.adds;
     text = k.text ∙ ap (λ t. t ++ lines_text named (with_blobs us (bytes_in named ys)) ys) h.text ∙ append_assoc first.text.items (lines_text named us xs) (lines_text named (with_blobs us (bytes_in named ys)) ys)
@@ -190,24 +188,20 @@ module _ {A : Type 0} (name : Kind → Bytes → Bytes) (r : Records) (ws : List
     kept = subst (λ vs. AreKept name r vs last) both_bytes k.kept;
   }
 
-  pub gathers_stop : (e : ExportFault) → IsGathered name r ws xs old mid was between first next → Stops mid.bytes between now (items_text (items_of (blob_commands us (bytes_in named ys)))) e → Stops old.bytes was now (items_text (items_of (blob_commands ws (bytes_in named (xs ++ ys))))) e
+  pub gathers_stop : (e : ExportFault) → IsGathered name r ws xs old mid first next → Writes mid.output new.output (items_text (items_of (blob_commands us (bytes_in named ys)))) (Err e) → Writes old.output new.output (items_text (items_of (blob_commands ws (bytes_in named (xs ++ ys))))) (Err e)
   gathers_stop e h k = both_add (Err e) h.adds k
 
-pub gathers_sooner : (named : Named) (ws : List Value) (xs ys : FileMap Bytes) (before : ℕ) (was now : Option Taken) (e : ExportFault) → Stops before was now (items_text (items_of (blob_commands ws (bytes_in named xs)))) e → Stops before was now (items_text (items_of (blob_commands ws (bytes_in named (xs ++ ys))))) e
-gathers_sooner named ws xs ys before was now e h = subst (λ bs. Stops before was now (items_text (items_of (blob_commands ws bs))) e) (sym (bytes_append named xs ys)) (blobs_sooner before was now ws (bytes_in named xs) (bytes_in named ys) e h)
-
--- memory runs out once all has gone out
-pub stops_last : (before after : ℕ) (was now : Option Taken) (text : Bytes) → Writes before after was now text (Ok tt) → Stops before was now text OutOfMemory
-stops_last before after was now text h = (text, [], sym (append-nil text), h.2)
+pub gathers_sooner : (named : Named) (ws : List Value) (xs ys : FileMap Bytes) (old new : Sent) (e : ExportFault) → Writes old new (items_text (items_of (blob_commands ws (bytes_in named xs)))) (Err e) → Writes old new (items_text (items_of (blob_commands ws (bytes_in named (xs ++ ys))))) (Err e)
+gathers_sooner named ws xs ys old new e h = subst (λ bs. Writes old new (items_text (items_of (blob_commands ws bs))) (Err e)) (sym (bytes_append named xs ys)) (blobs_sooner old new ws (bytes_in named xs) (bytes_in named ys) e h)
 
 drop_front : (xs ys : Bytes) → drop (length xs) (xs ++ ys) ≡ ys
 drop_front [] ys = refl
 drop_front (x ∷ xs) ys = drop_front xs ys
 
 -- what was gathered are the last lines
-pub lines_gathered : {A : Type 0} (name : Kind → Bytes → Bytes) (r : Records) (ws : List Value) (names : FileMap Bytes) (old new : Written A) (was now : Option Taken) (first last : Lines A) (start : ℕ) → length first.text.items ≡ start → IsGathered name r ws names old new was now first last
+pub lines_gathered : {W A : Type 0} (name : Kind → Bytes → Bytes) (r : Records) (ws : List Value) (names : FileMap Bytes) (old new : Written W A) (first last : Lines A) (start : ℕ) → length first.text.items ≡ start → IsGathered name r ws names old new first last
     → IsLinesOf r (with_blobs ws (bytes_in (named_values r.records) names)) names (drop start last.text.items)
-lines_gathered name r ws names old new was now first last start e k =
+lines_gathered name r ws names old new first last start e k =
     let lines = lines_text (named_values r.records) (with_blobs ws (bytes_in (named_values r.records) names)) names in
     record {
       lines = ap (drop start) k.text ∙ ap (λ n. drop n (first.text.items ++ lines)) (sym e) ∙ drop_front first.text.items lines;
@@ -216,24 +210,24 @@ lines_gathered name r ws names old new was now first last start e k =
 
 -- ---- one file
 
-module _ {A : Type 0} (name : Kind → Bytes → Bytes) (r : Records) (ws : List Value) (path : Path) (mode : Mode) (n : Bytes) (old new : Written A) (was now : Option Taken) (first last : Lines A) where
+module _ {W A : Type 0} (name : Kind → Bytes → Bytes) (r : Records) (ws : List Value) (path : Path) (mode : Mode) (n : Bytes) (old new : Written W A) (first last : Lines A) where
   abbrev here : FileMap Bytes
   here = (path, (mode, n)) ∷ []
 
   -- a gitlink has no blob
-  pub gathers_gitlink : mode ≡ Gitlink → HasWritten r ws old → last.text.items ≡ first.text.items ++ items_text (file_line Gitlink (hex n) (printed (path_text path)) ∷ []) → AreKept name r ws last → IsGathered name r ws here old old was was first last
+  pub gathers_gitlink : mode ≡ Gitlink → HasWritten r ws old → last.text.items ≡ first.text.items ++ items_text (file_line Gitlink (hex n) (printed (path_text path)) ∷ []) → AreKept name r ws last → IsGathered name r ws here old old first last
   gathers_gitlink e h k kept =
-      let link : IsGathered name r ws ((path, (Gitlink, n)) ∷ []) old old was was first last = record { adds = adds_nothing r ws old was h; text = k; kept = kept } in
-      subst (λ m. IsGathered name r ws ((path, (m, n)) ∷ []) old old was was first last) (sym e) link
+      let link : IsGathered name r ws ((path, (Gitlink, n)) ∷ []) old old first last = record { adds = adds_nothing r ws old h; text = k; kept = kept } in
+      subst (λ m. IsGathered name r ws ((path, (m, n)) ∷ []) old old first last) (sym e) link
 
   module _ (link : mode ≢ Gitlink) (dir : mode ≢ Dir) where
     bytes_here : bytes_in (named_values r.records) here ≡ bytes_of_blob (value_of_name r.records n) ∷ []
     bytes_here = one_bytes (named_values r.records) path mode n link
 
     -- another file's blob goes out
-    pub gathers_file : (mark : ℕ) → Adds r (with_blobs ws (bytes_of_blob (value_of_name r.records n) ∷ [])) (items_of (blob_commands ws (bytes_of_blob (value_of_name r.records n) ∷ []))) old new was now (Ok tt)
+    pub gathers_file : (mark : ℕ) → Adds r (with_blobs ws (bytes_of_blob (value_of_name r.records n) ∷ [])) (items_of (blob_commands ws (bytes_of_blob (value_of_name r.records n) ∷ []))) old new (Ok tt)
         → mark ≡ number_in (with_blobs ws (bytes_of_blob (value_of_name r.records n) ∷ [])) (blob_value (bytes_of_blob (value_of_name r.records n)))
-        → last.text.items ≡ first.text.items ++ items_text (file_line mode (mark_text mark) (printed (path_text path)) ∷ []) → AreKept name r ws last → IsGathered name r ws here old new was now first last
+        → last.text.items ≡ first.text.items ++ items_text (file_line mode (mark_text mark) (printed (path_text path)) ∷ []) → AreKept name r ws last → IsGathered name r ws here old new first last
     gathers_file mark adds m text kept =
         let named = named_values r.records in
         let x = bytes_of_blob (value_of_name r.records n) in
@@ -241,13 +235,13 @@ module _ {A : Type 0} (name : Kind → Bytes → Bytes) (r : Records) (ws : List
         let line = ap mark_text m ∙ sym (file_dataref named us mode n link dir) in
         let lines = ap (λ t. items_text (file_line mode t (printed (path_text path)) ∷ [])) line ∙ ap items_text (sym (one_line named us path mode n dir)) in
         record {
-          adds = subst (λ bs. Adds r (with_blobs ws bs) (items_of (blob_commands ws bs)) old new was now (Ok tt)) (sym bytes_here) adds;
+          adds = subst (λ bs. Adds r (with_blobs ws bs) (items_of (blob_commands ws bs)) old new (Ok tt)) (sym bytes_here) adds;
           text = text ∙ ap (λ t. first.text.items ++ t) (lines ∙ ap (λ bs. lines_text named (with_blobs ws bs) here) (sym bytes_here));
           kept = kept_after name r ws (bytes_in named here) last kept;
         }
 
-    pub file_stops : (e : ExportFault) → Stops old.bytes was now (items_text (items_of (blob_commands ws (bytes_of_blob (value_of_name r.records n) ∷ [])))) e → Stops old.bytes was now (items_text (items_of (blob_commands ws (bytes_in (named_values r.records) here)))) e
-    file_stops e h = subst (λ bs. Stops old.bytes was now (items_text (items_of (blob_commands ws bs))) e) (sym bytes_here) h
+    pub file_stops : (e : ExportFault) → Writes old.output new.output (items_text (items_of (blob_commands ws (bytes_of_blob (value_of_name r.records n) ∷ [])))) (Err e) → Writes old.output new.output (items_text (items_of (blob_commands ws (bytes_in (named_values r.records) here)))) (Err e)
+    file_stops e h = subst (λ bs. Writes old.output new.output (items_text (items_of (blob_commands ws bs))) (Err e)) (sym bytes_here) h
 
 -- ---- the entries of a tree
 
@@ -260,47 +254,47 @@ files_more front done c k =
     ∙ below_append front (files done) (placed c (kept_map k))
 
 -- the files of these entries are gathered, and those of the others are to come
-pub record IsWalking {A : Type 0} (name : Kind → Bytes → Bytes) (r : Records) (ws : List Value) (front : Path) (all : Level) (left : List TreeEntry) (old new : Written A) (was now : Option Taken) (first last : Lines A) : Type 0 where
+pub record IsWalking {W A : Type 0} (name : Kind → Bytes → Bytes) (r : Records) (ws : List Value) (front : Path) (all : Level) (left : List TreeEntry) (old new : Written W A) (first last : Lines A) : Type 0 where
   pub done : Level
   pub loading : IsLoading name all left done
-  pub gathered : IsGathered name r ws (below front (files done)) old new was now first last
+  pub gathered : IsGathered name r ws (below front (files done)) old new first last
 
-pub nothing_gathered : {A : Type 0} (name : Kind → Bytes → Bytes) (r : Records) (ws : List Value) (written : Written A) (was : Option Taken) (lines : Lines A) → HasWritten r ws written → AreKept name r ws lines → IsGathered name r ws [] written written was was lines lines
-nothing_gathered name r ws written was lines h kept = record { adds = adds_nothing r ws written was h; text = sym (append-nil lines.text.items); kept = kept }
+pub nothing_gathered : {W A : Type 0} (name : Kind → Bytes → Bytes) (r : Records) (ws : List Value) (written : Written W A) (lines : Lines A) → HasWritten r ws written → AreKept name r ws lines → IsGathered name r ws [] written written lines lines
+nothing_gathered name r ws written lines h kept = record { adds = adds_nothing r ws written h; text = sym (append-nil lines.text.items); kept = kept }
 
 -- files whose blobs were written, and whose lines are there
-pub gathered_again : {A : Type 0} (name : Kind → Bytes → Bytes) (r : Records) (ws : List Value) (names : FileMap Bytes) (written : Written A) (was : Option Taken) (first last : Lines A) (lines : Bytes) → HasWritten r ws written → last.text.items ≡ first.text.items ++ lines → IsLinesOf r ws names lines → AreKept name r ws last → IsGathered name r ws names written written was was first last
-gathered_again name r ws names written was first last lines h e l kept =
+pub gathered_again : {W A : Type 0} (name : Kind → Bytes → Bytes) (r : Records) (ws : List Value) (names : FileMap Bytes) (written : Written W A) (first last : Lines A) (lines : Bytes) → HasWritten r ws written → last.text.items ≡ first.text.items ++ lines → IsLinesOf r ws names lines → AreKept name r ws last → IsGathered name r ws names written written first last
+gathered_again name r ws names written first last lines h e l kept =
     let named = named_values r.records in
     let s = skipped ws (bytes_in named names) l.written in
     record {
-      adds = subst (λ us. Adds r us (items_of (blob_commands ws (bytes_in named names))) written written was was (Ok tt)) (sym s.0) (subst (λ cs. Adds r ws (items_of cs) written written was was (Ok tt)) (sym s.1) (adds_nothing r ws written was h));
+      adds = subst (λ us. Adds r us (items_of (blob_commands ws (bytes_in named names))) written written (Ok tt)) (sym s.0) (subst (λ cs. Adds r ws (items_of cs) written written (Ok tt)) (sym s.1) (adds_nothing r ws written h));
       text = e ∙ ap (λ t. first.text.items ++ t) (l.lines ∙ ap (λ us. lines_text named us names) (sym s.0));
       kept = kept_after name r ws (bytes_in named names) last kept;
     }
 
-module _ {A : Type 0} (name : Kind → Bytes → Bytes) (r : Records) (ws : List Value) (front : Path) (all : Level) (before left : List TreeEntry) (e : TreeEntry) (P : Bytes × Kept → Type 0) (old mid new : Written A) (was between now : Option Taken) (first next last : Lines A) where
-  module _ (w : IsWalking name r ws front all before old mid was between first next) (n : IsNext name P all e left w.done) where
+module _ {W A : Type 0} (name : Kind → Bytes → Bytes) (r : Records) (ws : List Value) (front : Path) (all : Level) (before left : List TreeEntry) (e : TreeEntry) (P : Bytes × Kept → Type 0) (old mid new : Written W A) (first next last : Lines A) where
+  module _ (w : IsWalking name r ws front all before old mid first next) (n : IsNext name P all e left w.done) where
     -- the files of one entry more
-    pub walking_next : IsGathered name r (with_blobs ws (bytes_in (named_values r.records) (below front (files w.done)))) (below front (placed e.component (kept_map n.kept))) mid new between now next last → IsWalking name r ws front all left old new was now first last
+    pub walking_next : IsGathered name r (with_blobs ws (bytes_in (named_values r.records) (below front (files w.done)))) (below front (placed e.component (kept_map n.kept))) mid new next last → IsWalking name r ws front all left old new first last
     walking_next k = record {
       done = w.done ++ (e.component, n.kept) ∷ [];
       loading = n.more (e.component, n.kept) refl;
-      gathered = subst (λ fs. IsGathered name r ws fs old new was now first last) (sym (files_more front w.done e.component n.kept))
-          (gathers_next name r ws (below front (files w.done)) (below front (placed e.component (kept_map n.kept))) old mid new was between now first next last w.gathered k);
+      gathered = subst (λ fs. IsGathered name r ws fs old new first last) (sym (files_more front w.done e.component n.kept))
+          (gathers_next name r ws (below front (files w.done)) (below front (placed e.component (kept_map n.kept))) old mid new first next last w.gathered k);
     }
 
     -- or the export stops within them
-    pub walking_stops : (f : FileMap Bytes) (fault : ExportFault) → files all ≡ f → Stops mid.bytes between now (items_text (items_of (blob_commands (with_blobs ws (bytes_in (named_values r.records) (below front (files w.done)))) (bytes_in (named_values r.records) (below front (placed e.component (kept_map n.kept))))))) fault
-        → Stops old.bytes was now (items_text (items_of (blob_commands ws (bytes_in (named_values r.records) (below front f))))) fault
+    pub walking_stops : (f : FileMap Bytes) (fault : ExportFault) → files all ≡ f → Writes mid.output new.output (items_text (items_of (blob_commands (with_blobs ws (bytes_in (named_values r.records) (below front (files w.done)))) (bytes_in (named_values r.records) (below front (placed e.component (kept_map n.kept))))))) (Err fault)
+        → Writes old.output new.output (items_text (items_of (blob_commands ws (bytes_in (named_values r.records) (below front f))))) (Err fault)
     walking_stops f fault whole k =
         let named = named_values r.records in
         let l = n.more (e.component, n.kept) refl in
-        let here = gathers_stop name r ws (below front (files w.done)) (below front (placed e.component (kept_map n.kept))) old mid new was between now first next last fault w.gathered k in
+        let here = gathers_stop name r ws (below front (files w.done)) (below front (placed e.component (kept_map n.kept))) old mid new first next last fault w.gathered k in
         let done = w.done ++ (e.component, n.kept) ∷ [] in
-        let these = subst (λ fs. Stops old.bytes was now (items_text (items_of (blob_commands ws (bytes_in named fs)))) fault) (sym (files_more front w.done e.component n.kept)) here in
+        let these = subst (λ fs. Writes old.output new.output (items_text (items_of (blob_commands ws (bytes_in named fs)))) (Err fault)) (sym (files_more front w.done e.component n.kept)) here in
         let parts : below front (files done) ++ below front (files l.rest) ≡ below front f = sym (below_append front (files done) (files l.rest)) ∙ ap (below front) (sym (flat_map-append (λ e. placed e.0 (kept_map e.1)) done l.rest) ∙ ap files (sym l.split) ∙ whole) in
-        subst (λ fs. Stops old.bytes was now (items_text (items_of (blob_commands ws (bytes_in named fs)))) fault) parts (gathers_sooner named ws (below front (files done)) (below front (files l.rest)) old.bytes was now fault these)
+        subst (λ fs. Writes old.output new.output (items_text (items_of (blob_commands ws (bytes_in named fs)))) (Err fault)) parts (gathers_sooner named ws (below front (files done)) (below front (files l.rest)) old.output new.output fault these)
 
 -- ---- what is held below a path
 
@@ -357,30 +351,30 @@ whole_tree name r n g h held = record {
   held = held;
 }
 
-module _ {A : Type 0} (name : Kind → Bytes → Bytes) (r : Records) (ws : List Value) (front : Path) (names files : FileMap Bytes) (old new : Written A) (was now : Option Taken) (first last : Lines A) (result : Result (Unit {0}) ExportFault) (root : front ≡ []) (same : contents_of (named_values r.records) names ≡ files) where
+module _ {W A : Type 0} (name : Kind → Bytes → Bytes) (r : Records) (ws : List Value) (front : Path) (names files : FileMap Bytes) (old new : Written W A) (first last : Lines A) (result : Result (Unit {0}) ExportFault) (root : front ≡ []) (same : contents_of (named_values r.records) names ≡ files) where
   names_are : contents_of (named_values r.records) (below front names) ≡ files
   names_are = ap (contents_of (named_values r.records)) (ap (λ p. below p names) root ∙ below_root names) ∙ same
 
   -- the blobs of all files went out
-  pub adds_gathered : Gathers name r ws (below front names) old new was now first last result → Adds r (with_blobs ws (contents files)) (items_of (blob_commands ws (contents files))) old new was now result
-  adds_gathered h = subst (λ fs. Adds r (with_blobs ws (contents fs)) (items_of (blob_commands ws (contents fs))) old new was now result) names_are (by result h)
+  pub adds_gathered : Gathers name r ws (below front names) old new first last result → Adds r (with_blobs ws (contents files)) (items_of (blob_commands ws (contents files))) old new result
+  adds_gathered h = subst (λ fs. Adds r (with_blobs ws (contents fs)) (items_of (blob_commands ws (contents fs))) old new result) names_are (by result h)
     where
-      by : (result : Result (Unit {0}) ExportFault) → Gathers name r ws (below front names) old new was now first last result → Adds r (with_blobs ws (bytes_in (named_values r.records) (below front names))) (items_of (blob_commands ws (bytes_in (named_values r.records) (below front names)))) old new was now result
+      by : (result : Result (Unit {0}) ExportFault) → Gathers name r ws (below front names) old new first last result → Adds r (with_blobs ws (bytes_in (named_values r.records) (below front names))) (items_of (blob_commands ws (bytes_in (named_values r.records) (below front names)))) old new result
       by (Ok x) k = k.adds
       by (Err e) k = k
 
   -- and their lines are all that is gathered
-  pub text_gathered : first.text.items ≡ [] → Gathers name r ws (below front names) old new was now first last result → OnOk result (last.text.items ≡ items_text (file_items (with_blobs ws (contents files)) files))
+  pub text_gathered : first.text.items ≡ [] → Gathers name r ws (below front names) old new first last result → OnOk result (last.text.items ≡ items_text (file_items (with_blobs ws (contents files)) files))
   text_gathered none h = by result h
     where
-      by : (result : Result (Unit {0}) ExportFault) → Gathers name r ws (below front names) old new was now first last result → OnOk result (last.text.items ≡ items_text (file_items (with_blobs ws (contents files)) files))
+      by : (result : Result (Unit {0}) ExportFault) → Gathers name r ws (below front names) old new first last result → OnOk result (last.text.items ≡ items_text (file_items (with_blobs ws (contents files)) files))
       by (Ok x) k = k.text ∙ ap (λ t. t ++ lines_text (named_values r.records) (with_blobs ws (bytes_in (named_values r.records) (below front names))) (below front names)) none ∙ ap (λ fs. items_text (file_items (with_blobs ws (contents fs)) fs)) names_are
       by (Err e) k = tt
 
   -- and they are kept
-  pub kept_gathered : Gathers name r ws (below front names) old new was now first last result → OnOk result (AreKept name r (with_blobs ws (contents files)) last)
+  pub kept_gathered : Gathers name r ws (below front names) old new first last result → OnOk result (AreKept name r (with_blobs ws (contents files)) last)
   kept_gathered h = by result h
     where
-      by : (result : Result (Unit {0}) ExportFault) → Gathers name r ws (below front names) old new was now first last result → OnOk result (AreKept name r (with_blobs ws (contents files)) last)
+      by : (result : Result (Unit {0}) ExportFault) → Gathers name r ws (below front names) old new first last result → OnOk result (AreKept name r (with_blobs ws (contents files)) last)
       by (Ok x) k = subst (λ fs. AreKept name r (with_blobs ws (contents fs)) last) names_are k.kept
       by (Err e) k = tt

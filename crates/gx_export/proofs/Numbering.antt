@@ -23,10 +23,9 @@ use Rattle.gx_model.specs.Records.{body_of, kind_of}
 use Rattle.gx_model.specs.Laws.RepositoryLaws.{values_of}
 use Rattle.gx_model.specs.Histories.Values.{CommitText, Value, blob_value, commit_value, same_value, tag_value, tree_value}
 use Rattle.gx_model.proofs.Histories.SameValues.{same_value_tells}
-use Rattle.gx_model.specs.Texts.Sinks.{Taken}
 use Rattle.gx_rev.specs.Objects.{body_in_place}
 use Rattle.gx_export.specs.Marks.{Adds, AreNumbers, HasWritten, IsBlobAt}
-use Rattle.gx_export.specs.Outputs.{Stops, Writes, most}
+use Rattle.gx_export.specs.Outputs.{Sent, Writes, most}
 use Rattle.gx_export.specs.Texts.{command_text, head_items, items_of, last_items}
 use Rattle.gx_export.specs.declared.fault.ExportFault.{ExportFault}
 use Rattle.gx_export.specs.declared.written.Written.{Written}
@@ -82,8 +81,8 @@ next_numbers values ws marks v place p within h = record {
         apart true k = absurd (f.1 (p.only i (e ∙ ap Some (sym ((same_value_tells v u).0 k)))))
 
 -- one value more is written, in some bytes
-pub next_written : {A : Type 0} (r : Records) (ws : List Value) (v : Value) (place : ℕ) (old new : Written A) → IsPlaceOf (values_of r) v place → place < length old.marks.items → HasWritten r ws old
-    → new.count ≡ old.count + 1 → new.marks.items ≡ set old.marks.items place (old.count + 1) → old.bytes < new.bytes → new.bytes ≤ most → HasWritten r (v ∷ ws) new
+pub next_written : {W A : Type 0} (r : Records) (ws : List Value) (v : Value) (place : ℕ) (old new : Written W A) → IsPlaceOf (values_of r) v place → place < length old.marks.items → HasWritten r ws old
+    → new.count ≡ old.count + 1 → new.marks.items ≡ set old.marks.items place (old.count + 1) → old.output.bytes < new.output.bytes → new.output.bytes ≤ most → HasWritten r (v ∷ ws) new
 next_written r ws v place old new p within h count marks bytes room =
     let all : new.marks.items ≡ set old.marks.items place (length ws + 1) = marks ∙ ap (λ n. set old.marks.items place (n + 1)) h.count in
     record {
@@ -94,9 +93,10 @@ next_written r ws v place old new p within h count marks bytes room =
     }
 
 -- one value more has its mark, where some bytes have none
-pub next_marked : {A : Type 0} (r : Records) (ws : List Value) (v : Value) (place : ℕ) (old new : Written A) → IsPlaceOf (values_of r) v place → place < length old.marks.items → HasWritten r ws old → old.count < old.bytes
-    → new.bytes ≡ old.bytes → new.count ≡ old.count + 1 → new.marks.items ≡ set old.marks.items place (old.count + 1) → HasWritten r (v ∷ ws) new
-next_marked r ws v place old new p within h more bytes count marks =
+pub next_marked : {W A : Type 0} (r : Records) (ws : List Value) (v : Value) (place : ℕ) (old new : Written W A) → IsPlaceOf (values_of r) v place → place < length old.marks.items → HasWritten r ws old → old.count < old.output.bytes
+    → new.output ≡ old.output → new.count ≡ old.count + 1 → new.marks.items ≡ set old.marks.items place (old.count + 1) → HasWritten r (v ∷ ws) new
+next_marked r ws v place old new p within h more same count marks =
+    let bytes = ap (λ s. s.bytes) same in
     let all : new.marks.items ≡ set old.marks.items place (length ws + 1) = marks ∙ ap (λ n. set old.marks.items place (n + 1)) h.count in
     record {
       count = (let k = h.count in omega (arith, count));
@@ -111,7 +111,7 @@ no_marks (suc n) zero = refl
 no_marks (suc n) (suc i) = no_marks n i
 
 -- nothing is written yet
-pub none_written : {A : Type 0} (r : Records) (n : ℕ) (written : Written A) → n ≡ length (values_of r) → written.bytes ≡ 0 → written.count ≡ 0 → written.marks.items ≡ replicate n 0 → HasWritten r [] written
+pub none_written : {W A : Type 0} (r : Records) (n : ℕ) (written : Written W A) → n ≡ length (values_of r) → written.output.bytes ≡ 0 → written.count ≡ 0 → written.marks.items ≡ replicate n 0 → HasWritten r [] written
 none_written r n written long bytes count marks =
     let zero_long : length (replicate {A = ℕ} n 0) ≡ n = length-replicate n 0 in
     record {
@@ -121,39 +121,48 @@ none_written r n written long bytes count marks =
       most = omega (arith, bytes);
     }
 
--- bytes alone go out
-pub same_written : {A : Type 0} (r : Records) (ws : List Value) (old : Written A) (bytes : ℕ) → HasWritten r ws old → old.bytes ≤ bytes → bytes ≤ most → HasWritten r ws (record old { bytes = bytes })
-same_written r ws old bytes h more room = record { count = h.count; marks = h.marks; each = (let k = h.each in omega (arith, more)); most = room }
-
 -- ---- what goes out one after the other
 
 -- items that give no marks
-pub adds_bytes : {A : Type 0} (r : Records) (ws : List Value) (items : List Item) (old : Written A) (bytes : ℕ) (was now : Option Taken) (result : Result (Unit {0}) ExportFault) → HasWritten r ws old → Writes old.bytes bytes was now (items_text items) result
-    → Adds r ws items old (record old { bytes = bytes }) was now result
-adds_bytes r ws items old bytes was now (Ok x) h k = (same_written r ws old bytes h (let l = k.0 in omega arith) k.1, k)
-adds_bytes r ws items old bytes was now (Err e) h k = k
+pub adds_bytes : {W A : Type 0} (r : Records) (ws : List Value) (items : List Item) (old : Written W A) (after : Sent) (result : Result (Unit {0}) ExportFault) → HasWritten r ws old → Writes old.output after (items_text items) result
+    → Adds r ws items old (record old { output = after }) result
+adds_bytes r ws items old after (Ok x) h k = (
+  record {
+    count = h.count;
+    marks = h.marks;
+    each = (let more = h.each in let l = k.1.0 in omega (arith, l, more));
+    most = k.1.1 h.most;
+  },
+  k,
+)
+adds_bytes r ws items old after (Err e) h k = k
 
 -- the reset behind the commits
-pub adds_last : {A : Type 0} (r : Records) (ws : List Value) (old : Written A) (bytes : ℕ) (was now : Option Taken) (result : Result (Unit {0}) ExportFault) → HasWritten r ws old → Writes old.bytes bytes was now (items_text (last_items old.count)) result
-    → Adds r ws (last_items (length ws)) old (record old { bytes = bytes }) was now result
-adds_last r ws old bytes was now result h k = adds_bytes r ws (last_items (length ws)) old bytes was now result h (subst (λ n. Writes old.bytes bytes was now (items_text (last_items n)) result) h.count k)
+pub adds_last : {W A : Type 0} (r : Records) (ws : List Value) (old : Written W A) (after : Sent) (result : Result (Unit {0}) ExportFault) → HasWritten r ws old → Writes old.output after (items_text (last_items old.count)) result
+    → Adds r ws (last_items (length ws)) old (record old { output = after }) result
+adds_last r ws old after result h k = adds_bytes r ws (last_items (length ws)) old after result h (subst (λ n. Writes old.output after (items_text (last_items n)) result) h.count k)
 
 -- a commit's lines up to its message, under the next mark
-pub adds_head : {A : Type 0} (r : Records) (ws : List Value) (ref : Bytes) (text : CommitText) (old : Written A) (bytes : ℕ) (was now : Option Taken) (result : Result (Unit {0}) ExportFault) → HasWritten r ws old
-    → Writes old.bytes bytes was now (items_text (head_items ref (old.count + 1) text)) result → Adds r ws (head_items ref (suc (length ws)) text) old (record old { bytes = bytes }) was now result
-adds_head r ws ref text old bytes was now result h k =
+pub adds_head : {W A : Type 0} (r : Records) (ws : List Value) (ref : Bytes) (text : CommitText) (old : Written W A) (after : Sent) (result : Result (Unit {0}) ExportFault) → HasWritten r ws old
+    → Writes old.output after (items_text (head_items ref (old.count + 1) text)) result → Adds r ws (head_items ref (suc (length ws)) text) old (record old { output = after }) result
+adds_head r ws ref text old after result h k =
     let mark : old.count + 1 ≡ suc (length ws) = (let e = h.count in omega arith) in
-    adds_bytes r ws (head_items ref (suc (length ws)) text) old bytes was now result h (subst (λ n. Writes old.bytes bytes was now (items_text (head_items ref n text)) result) mark k)
+    adds_bytes r ws (head_items ref (suc (length ws)) text) old after result h (subst (λ n. Writes old.output after (items_text (head_items ref n text)) result) mark k)
 
 -- items behind others
-pub adds_later : {A : Type 0} (r : Records) (us vs : List Value) (xs ys : List Item) (old mid new : Written A) (was between now : Option Taken) (result : Result (Unit {0}) ExportFault)
-    → Adds r us xs old mid was between (Ok tt) → Adds r vs ys mid new between now result → Adds r vs (xs ++ ys) old new was now result
-adds_later r us vs xs ys old mid new was between now (Ok x) h k = (k.0, items_later old.bytes mid.bytes new.bytes was between now xs ys (Ok x) h.1 k.1)
-adds_later r us vs xs ys old mid new was between now (Err e) h k = items_later old.bytes mid.bytes new.bytes was between now xs ys (Err e) h.1 k
+pub adds_later : {W A : Type 0} (r : Records) (us vs : List Value) (xs ys : List Item) (old mid new : Written W A) (result : Result (Unit {0}) ExportFault)
+    → Adds r us xs old mid (Ok tt) → Adds r vs ys mid new result → Adds r vs (xs ++ ys) old new result
+adds_later r us vs xs ys old mid new (Ok x) h k = (k.0, items_later old.output mid.output new.output xs ys (Ok x) h.1 k.1)
+adds_later r us vs xs ys old mid new (Err e) h k = items_later old.output mid.output new.output xs ys (Err e) h.1 k
 
 -- nothing goes out
-pub adds_nothing : {A : Type 0} (r : Records) (ws : List Value) (written : Written A) (was : Option Taken) → HasWritten r ws written → Adds r ws [] written written was was (Ok tt)
-adds_nothing r ws written was h = (h, writes_none written.bytes was h.most)
+pub adds_nothing : {W A : Type 0} (r : Records) (ws : List Value) (written : Written W A) → HasWritten r ws written → Adds r ws [] written written (Ok tt)
+adds_nothing r ws written h = (h, writes_none written.output)
+
+-- the sink stays
+pub adds_name : {W A : Type 0} (r : Records) (ws : List Value) (items : List Item) (old new : Written W A) (result : Result (Unit {0}) ExportFault) → Adds r ws items old new result → new.output.name ≡ old.output.name
+adds_name r ws items old new (Ok x) k = k.1.0
+adds_name r ws items old new (Err e) k = k.0
 
 -- ---- a blob
 
@@ -185,28 +194,28 @@ module _ (ws : List Value) (x : Bytes) where
       by (inl h) = (ap (λ b. cond b ws (blob_value x ∷ ws)) h.0, ap (λ b. items_of (cond b [] (Blob (record { mark = Some (suc (length ws)); bytes = x }) ∷ []))) h.0)
       by (inr h) = absurd (let k = h.1 in omega (arith, l))
 
-  module _ {A : Type 0} (r : Records) (old : Written A) (h : HasWritten r ws old) (was : Option Taken) where
-    pub adds_old_blob : 0 < number_in ws (blob_value x) → Adds r (with_blobs ws (x ∷ [])) (items_of (blob_commands ws (x ∷ []))) old old was was (Ok tt)
+  module _ {W A : Type 0} (r : Records) (old : Written W A) (h : HasWritten r ws old) where
+    pub adds_old_blob : 0 < number_in ws (blob_value x) → Adds r (with_blobs ws (x ∷ [])) (items_of (blob_commands ws (x ∷ []))) old old (Ok tt)
     adds_old_blob l =
         let e = old_blob l in
-        subst (λ us. Adds r us (items_of (blob_commands ws (x ∷ []))) old old was was (Ok tt)) (sym e.0) (subst (λ is. Adds r ws is old old was was (Ok tt)) (sym e.1) (adds_nothing r ws old was h))
+        subst (λ us. Adds r us (items_of (blob_commands ws (x ∷ []))) old old (Ok tt)) (sym e.0) (subst (λ is. Adds r ws is old old (Ok tt)) (sym e.1) (adds_nothing r ws old h))
 
     blob_text : number_in ws (blob_value x) ≡ 0 → command_text (Blob (record { mark = Some (old.count + 1); bytes = x })) ≡ items_text (items_of (blob_commands ws (x ∷ [])))
     blob_text e =
         let mark : old.count + 1 ≡ suc (length ws) = (let k = h.count in omega arith) in
         ap (λ n. command_text (Blob (record { mark = Some n; bytes = x }))) mark ∙ ap items_text (sym (new_blob e).1)
 
-    pub stops_new_blob : (now : Option Taken) (e : ExportFault) → number_in ws (blob_value x) ≡ 0 → Stops old.bytes was now (command_text (Blob (record { mark = Some (old.count + 1); bytes = x }))) e
-        → Stops old.bytes was now (items_text (items_of (blob_commands ws (x ∷ [])))) e
-    stops_new_blob now e n k = subst (λ t. Stops old.bytes was now t e) (blob_text n) k
+    pub stops_new_blob : (after : Sent) (e : ExportFault) → number_in ws (blob_value x) ≡ 0 → Writes old.output after (command_text (Blob (record { mark = Some (old.count + 1); bytes = x }))) (Err e)
+        → Writes old.output after (items_text (items_of (blob_commands ws (x ∷ [])))) (Err e)
+    stops_new_blob after e n k = subst (λ t. Writes old.output after t (Err e)) (blob_text n) k
 
-    pub adds_new_blob : (new : Written A) (place : ℕ) (now : Option Taken) → number_in ws (blob_value x) ≡ 0 → IsPlaceOf (values_of r) (blob_value x) place → place < length old.marks.items
-        → new.count ≡ old.count + 1 → new.marks.items ≡ set old.marks.items place (old.count + 1) → Writes old.bytes new.bytes was now (command_text (Blob (record { mark = Some (old.count + 1); bytes = x }))) (Ok tt)
-        → Adds r (with_blobs ws (x ∷ [])) (items_of (blob_commands ws (x ∷ []))) old new was now (Ok tt)
-    adds_new_blob new place now n p within count marks k =
-        let bytes : old.bytes < new.bytes = (let l = k.0 in omega arith) in (
-          subst (λ us. HasWritten r us new) (sym (new_blob n).0) (next_written r ws (blob_value x) place old new p within h count marks bytes k.1),
-          subst (λ t. Writes old.bytes new.bytes was now t (Ok tt)) (blob_text n) k,
+    pub adds_new_blob : (new : Written W A) (place : ℕ) → number_in ws (blob_value x) ≡ 0 → IsPlaceOf (values_of r) (blob_value x) place → place < length old.marks.items
+        → new.count ≡ old.count + 1 → new.marks.items ≡ set old.marks.items place (old.count + 1) → Writes old.output new.output (command_text (Blob (record { mark = Some (old.count + 1); bytes = x }))) (Ok tt)
+        → Adds r (with_blobs ws (x ∷ [])) (items_of (blob_commands ws (x ∷ []))) old new (Ok tt)
+    adds_new_blob new place n p within count marks k =
+        let bytes : old.output.bytes < new.output.bytes = (let l = k.1.0 in omega arith) in (
+          subst (λ us. HasWritten r us new) (sym (new_blob n).0) (next_written r ws (blob_value x) place old new p within h count marks bytes (k.1.1 h.most)),
+          subst (λ t. Writes old.output new.output t (Ok tt)) (blob_text n) k,
         )
 
 -- an element within a list needs no other one

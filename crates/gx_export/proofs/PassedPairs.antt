@@ -1,5 +1,5 @@
 -- What differs between two held trees, gathered pair by pair.
-use Rattle.std.proofs.Common.{◌≡◌, ◌∙◌, ℕ, List, [], ◌∷◌, ◌++◌, map, Option, Some, None, refl, sym, ap, subst, append_assoc, append-nil}
+use Rattle.std.proofs.Common.{◌≡◌, ◌∙◌, ℕ, List, [], ◌∷◌, ◌++◌, map, Option, Some, None, refl, sym, ap, subst, append_assoc, append-nil, Err}
 use Rattle.std.specs.List.{flat_map, AllByRecursion}
 use Rattle.std.proofs.lemmas.Grind.{flat_map-append}
 use Rattle.std.proofs.lemmas.List.{map-append}
@@ -15,7 +15,6 @@ use Rattle.gx_model.specs.Records.Walks.{entries_named}
 use Rattle.gx_model.specs.Streams.Commands.{Remove}
 use Rattle.gx_model.specs.Texts.{Bytes}
 use Rattle.gx_model.specs.Texts.Paths.{Path}
-use Rattle.gx_model.specs.Texts.Sinks.{Taken}
 use Rattle.gx_model.proofs.Histories.FileMapEdits.{parts_of}
 use Rattle.gx_model.proofs.ObjectTexts.OneTree.{all_right}
 use Rattle.gx_object.specs.declared.name.Name.{Name}
@@ -26,7 +25,7 @@ use Rattle.gx_tree.proofs.TreeRecords.{kept_entry}
 use Rattle.gx_export.specs.Compared.{IsBelowIf, IsCompared, IsPair, IsPairBelow, IsTreeIf, entries_if, gone_items, gone_text, paths_below}
 use Rattle.gx_export.specs.FileTexts.{AreKept, IsEntryBelow, IsTreeBelow, bytes_in}
 use Rattle.gx_export.specs.Marks.{HasWritten}
-use Rattle.gx_export.specs.Outputs.{Stops}
+use Rattle.gx_export.specs.Outputs.{Writes}
 use Rattle.gx_export.specs.Pairs.{entry_order, shown_pair, side_by_side}
 use Rattle.gx_object.specs.Parts.{bytes_if}
 use Rattle.gx_export.specs.Texts.{items_of}
@@ -47,14 +46,14 @@ gone_texts gs hs =
     ∙ ap items_text (flat_map-append change_items (map Remove gs) (map Remove hs))
     ∙ items_append (gone_items gs) (gone_items hs)
 
-module _ {A : Type 0} (name : Kind → Bytes → Bytes) (r : Records) (ws : List Value) where
-  pub compared_nothing : (written : Written A) (was : Option Taken) (changes : Changes A) → HasWritten r ws written → AreKept name r ws changes.files → IsCompared name r ws [] [] written written was was changes changes
-  compared_nothing written was changes h kept = record { gathered = nothing_gathered name r ws written was changes.files h kept; gone = sym (append-nil changes.gone.items) }
+module _ {W A : Type 0} (name : Kind → Bytes → Bytes) (r : Records) (ws : List Value) where
+  pub compared_nothing : (written : Written W A) (changes : Changes A) → HasWritten r ws written → AreKept name r ws changes.files → IsCompared name r ws [] [] written written changes changes
+  compared_nothing written changes h kept = record { gathered = nothing_gathered name r ws written changes.files h kept; gone = sym (append-nil changes.gone.items) }
 
-  module _ (xs ys : FileMap Bytes) (gs hs : List Path) (old mid new : Written A) (was between now : Option Taken) (first next last : Changes A) where
-    pub compares_next : IsCompared name r ws xs gs old mid was between first next → IsCompared name r (with_blobs ws (bytes_in (named_values r.records) xs)) ys hs mid new between now next last → IsCompared name r ws (xs ++ ys) (gs ++ hs) old new was now first last
+  module _ (xs ys : FileMap Bytes) (gs hs : List Path) (old mid new : Written W A) (first next last : Changes A) where
+    pub compares_next : IsCompared name r ws xs gs old mid first next → IsCompared name r (with_blobs ws (bytes_in (named_values r.records) xs)) ys hs mid new next last → IsCompared name r ws (xs ++ ys) (gs ++ hs) old new first last
     compares_next h k = record {
-      gathered = gathers_next name r ws xs ys old mid new was between now first.files next.files last.files h.gathered k.gathered;
+      gathered = gathers_next name r ws xs ys old mid new first.files next.files last.files h.gathered k.gathered;
       gone = k.gone ∙ ap (λ t. t ++ gone_text hs) h.gone ∙ append_assoc first.gone.items (gone_text gs) (gone_text hs) ∙ ap (λ t. first.gone.items ++ t) (sym (gone_texts gs hs));
     }
 
@@ -71,12 +70,12 @@ gone_more front done x =
     ∙ map-append (λ p. front ++ p) (gone_by done) (gone_paths (files x.0) (files x.1))
 
 -- what differs in some pairs is gathered, and the others are to come
-pub record IsPassing {A : Type 0} (name : Kind → Bytes → Bytes) (r : Records) (ws : List Value) (front : Path) (all : List (Level × Level)) (left : List (List TreeEntry × List TreeEntry)) (old new : Written A) (was now : Option Taken) (first last : Changes A) : Type 0 where
+pub record IsPassing {W A : Type 0} (name : Kind → Bytes → Bytes) (r : Records) (ws : List Value) (front : Path) (all : List (Level × Level)) (left : List (List TreeEntry × List TreeEntry)) (old new : Written W A) (first last : Changes A) : Type 0 where
   pub done : List (Level × Level)
   pub rest : List (Level × Level)
   pub split : all ≡ done ++ rest
   pub to_come : left ≡ map (both_entries name) rest
-  pub compared : IsCompared name r ws (below front (changed_by done)) (paths_below front (gone_by done)) old new was now first last
+  pub compared : IsCompared name r ws (below front (changed_by done)) (paths_below front (gone_by done)) old new first last
 
 -- the pair at hand, and those behind it
 pub record IsAtPair (name : Kind → Bytes → Bytes) (all done : List (Level × Level)) (item : List TreeEntry × List TreeEntry) (left : List (List TreeEntry × List TreeEntry)) : Type 0 where
@@ -92,44 +91,44 @@ next_pair name all done (x ∷ rest) item before left s t b =
     let both : item ∷ left ≡ both_entries name x ∷ map (both_entries name) rest = sym b ∙ t in
     record { pair = x; rest = rest; split = s; told = (let e : item ≡ both_entries name x = cc both in e); to_come = (let e : left ≡ map (both_entries name) rest = cc both in e) }
 
-module _ {A : Type 0} (name : Kind → Bytes → Bytes) (r : Records) (ws : List Value) (front : Path) (all : List (Level × Level)) (before left : List (List TreeEntry × List TreeEntry)) (item : List TreeEntry × List TreeEntry) (old mid new : Written A) (was between now : Option Taken) (first next last : Changes A) where
+module _ {W A : Type 0} (name : Kind → Bytes → Bytes) (r : Records) (ws : List Value) (front : Path) (all : List (Level × Level)) (before left : List (List TreeEntry × List TreeEntry)) (item : List TreeEntry × List TreeEntry) (old mid new : Written W A) (first next last : Changes A) where
   abbrev named : List (Level × Level) → List Value
   named done = with_blobs ws (bytes_in (named_values r.records) (below front (changed_by done)))
 
-  module _ (w : IsPassing name r ws front all before old mid was between first next) (n : IsAtPair name all w.done item left) where
+  module _ (w : IsPassing name r ws front all before old mid first next) (n : IsAtPair name all w.done item left) where
     -- one pair more
-    pub pair_next : IsCompared name r (named w.done) (below front (changed_files (files n.pair.0) (files n.pair.1))) (paths_below front (gone_paths (files n.pair.0) (files n.pair.1))) mid new between now next last → IsPassing name r ws front all left old new was now first last
+    pub pair_next : IsCompared name r (named w.done) (below front (changed_files (files n.pair.0) (files n.pair.1))) (paths_below front (gone_paths (files n.pair.0) (files n.pair.1))) mid new next last → IsPassing name r ws front all left old new first last
     pair_next k = record {
       done = w.done ++ n.pair ∷ [];
       rest = n.rest;
       split = n.split ∙ sym (append_assoc w.done (n.pair ∷ []) n.rest);
       to_come = n.to_come;
       compared =
-          let both = compares_next name r ws (below front (changed_by w.done)) (below front (changed_files (files n.pair.0) (files n.pair.1))) (paths_below front (gone_by w.done)) (paths_below front (gone_paths (files n.pair.0) (files n.pair.1))) old mid new was between now first next last w.compared k in
-          subst (λ gs. IsCompared name r ws (below front (changed_by (w.done ++ n.pair ∷ []))) gs old new was now first last) (sym (gone_more front w.done n.pair))
-          (subst (λ fs. IsCompared name r ws fs (paths_below front (gone_by w.done) ++ paths_below front (gone_paths (files n.pair.0) (files n.pair.1))) old new was now first last) (sym (changed_more front w.done n.pair)) both);
+          let both = compares_next name r ws (below front (changed_by w.done)) (below front (changed_files (files n.pair.0) (files n.pair.1))) (paths_below front (gone_by w.done)) (paths_below front (gone_paths (files n.pair.0) (files n.pair.1))) old mid new first next last w.compared k in
+          subst (λ gs. IsCompared name r ws (below front (changed_by (w.done ++ n.pair ∷ []))) gs old new first last) (sym (gone_more front w.done n.pair))
+          (subst (λ fs. IsCompared name r ws fs (paths_below front (gone_by w.done) ++ paths_below front (gone_paths (files n.pair.0) (files n.pair.1))) old new first last) (sym (changed_more front w.done n.pair)) both);
     }
 
     -- or the export stops within it
-    pub pair_stops : (total : FileMap Bytes) (fault : ExportFault) → total ≡ changed_by all → Stops mid.bytes between now (items_text (items_of (blob_commands (named w.done) (bytes_in (named_values r.records) (below front (changed_files (files n.pair.0) (files n.pair.1))))))) fault
-        → Stops old.bytes was now (items_text (items_of (blob_commands ws (bytes_in (named_values r.records) (below front total))))) fault
+    pub pair_stops : (total : FileMap Bytes) (fault : ExportFault) → total ≡ changed_by all → Writes mid.output new.output (items_text (items_of (blob_commands (named w.done) (bytes_in (named_values r.records) (below front (changed_files (files n.pair.0) (files n.pair.1))))))) (Err fault)
+        → Writes old.output new.output (items_text (items_of (blob_commands ws (bytes_in (named_values r.records) (below front total))))) (Err fault)
     pair_stops total fault whole k =
         let values = named_values r.records in
-        let here = gathers_stop name r ws (below front (changed_by w.done)) (below front (changed_files (files n.pair.0) (files n.pair.1))) old mid new was between now first.files next.files last.files fault w.compared.gathered k in
-        let these = subst (λ fs. Stops old.bytes was now (items_text (items_of (blob_commands ws (bytes_in values fs)))) fault) (sym (changed_more front w.done n.pair)) here in
+        let here = gathers_stop name r ws (below front (changed_by w.done)) (below front (changed_files (files n.pair.0) (files n.pair.1))) old mid new first.files next.files last.files fault w.compared.gathered k in
+        let these = subst (λ fs. Writes old.output new.output (items_text (items_of (blob_commands ws (bytes_in values fs)))) (Err fault)) (sym (changed_more front w.done n.pair)) here in
         let parts : below front (changed_by (w.done ++ n.pair ∷ [])) ++ below front (changed_by n.rest) ≡ below front total =
         sym (map-append (λ e. (front ++ e.0, e.1)) (changed_by (w.done ++ n.pair ∷ [])) (changed_by n.rest))
         ∙ ap (below front) (sym (flat_map-append (λ p. changed_files (files p.0) (files p.1)) (w.done ++ n.pair ∷ []) n.rest) ∙ ap changed_by (append_assoc w.done (n.pair ∷ []) n.rest ∙ sym n.split) ∙ sym whole) in
-        subst (λ fs. Stops old.bytes was now (items_text (items_of (blob_commands ws (bytes_in values fs)))) fault) parts
-        (gathers_sooner values ws (below front (changed_by (w.done ++ n.pair ∷ []))) (below front (changed_by n.rest)) old.bytes was now fault these)
+        subst (λ fs. Writes old.output new.output (items_text (items_of (blob_commands ws (bytes_in values fs)))) (Err fault)) parts
+        (gathers_sooner values ws (below front (changed_by (w.done ++ n.pair ∷ []))) (below front (changed_by n.rest)) old.output new.output fault these)
 
 -- with no pair left all is gathered
-pub all_passed : {A : Type 0} (name : Kind → Bytes → Bytes) (r : Records) (ws : List Value) (front : Path) (all : List (Level × Level)) (left : List (List TreeEntry × List TreeEntry)) (old new : Written A) (was now : Option Taken) (first last : Changes A) (total : FileMap Bytes) (gone : List Path)
-    → left ≡ [] → total ≡ changed_by all → gone ≡ gone_by all → IsPassing name r ws front all left old new was now first last → IsCompared name r ws (below front total) (paths_below front gone) old new was now first last
-all_passed name r ws front all left old new was now first last total gone e t u w =
+pub all_passed : {W A : Type 0} (name : Kind → Bytes → Bytes) (r : Records) (ws : List Value) (front : Path) (all : List (Level × Level)) (left : List (List TreeEntry × List TreeEntry)) (old new : Written W A) (first last : Changes A) (total : FileMap Bytes) (gone : List Path)
+    → left ≡ [] → total ≡ changed_by all → gone ≡ gone_by all → IsPassing name r ws front all left old new first last → IsCompared name r ws (below front total) (paths_below front gone) old new first last
+all_passed name r ws front all left old new first last total gone e t u w =
     let done : w.done ≡ all = by w.rest w.split (sym e ∙ w.to_come) in
-    subst (λ gs. IsCompared name r ws (below front total) (paths_below front gs) old new was now first last) (ap gone_by done ∙ sym u)
-    (subst (λ fs. IsCompared name r ws (below front fs) (paths_below front (gone_by w.done)) old new was now first last) (ap changed_by done ∙ sym t) w.compared)
+    subst (λ gs. IsCompared name r ws (below front total) (paths_below front gs) old new first last) (ap gone_by done ∙ sym u)
+    (subst (λ fs. IsCompared name r ws (below front fs) (paths_below front (gone_by w.done)) old new first last) (ap changed_by done ∙ sym t) w.compared)
   where
     by : (rest : List (Level × Level)) → all ≡ w.done ++ rest → [] ≡ map (both_entries name) rest → w.done ≡ all
     by [] s c = sym (s ∙ append-nil w.done)

@@ -6,11 +6,11 @@ use Rattle.std.proofs.lemmas.Grind.{flat_map-append}
 use Rattle.std.proofs.lemmas.List.{append-nil, length-append, length-drop, length-take, take-append-drop}
 use Rattle.std.proofs.Math.Seq.{take-suc, drop-cons}
 use Rattle.gx_model.specs.Texts.{Bytes}
-use Rattle.gx_model.specs.Texts.Sinks.{Sends, Taken, Took}
+use Rattle.gx_model.specs.Texts.Sinks.{Sends, Taken, Took, TookFront}
 use Rattle.gx_model.specs.Streams.Items.{Item}
 use Rattle.gx_model.specs.Export.{item_text, items_text}
 use Rattle.gx_model.proofs.Texts.SentTexts.{took_both, took_nothing}
-use Rattle.gx_export.specs.Outputs.{Stops, StopsAfter, StopsAt, Writes, most}
+use Rattle.gx_export.specs.Outputs.{Goes, Sent, Stops, StopsAfter, StopsAt, Writes, most}
 use Rattle.gx_export.specs.declared.fault.ExportFault.{ExportFault}
 use Rattle.gx_export.specs.declared.fault.ExportFault.TheVariants.{OutOfMemory, WriteFailed}
 
@@ -18,6 +18,10 @@ use Rattle.gx_export.specs.declared.fault.ExportFault.TheVariants.{OutOfMemory, 
 pub on_any : {X E : Type 0} (result : Result X E) (P : Type 0) → P → OnOk result P
 on_any (Ok x) P p = p
 on_any (Err e) P p = tt
+
+-- of a text nothing was taken yet
+pub nothing_yet : (was : Option Taken) (text : Bytes) → TookFront was was text
+nothing_yet was text = ([], text, refl, took_nothing was)
 
 -- ---- stops
 
@@ -28,9 +32,9 @@ longer x y k = omega (arith, length-append x y)
 pub stopped_sooner : (before count : ℕ) (was now : Option Taken) (a b : Bytes) → StopsAt before count was now a → StopsAt before count was now (a ++ b)
 stopped_sooner before count was now a b h = (h.0, h.1 ++ b, ap (λ x. x ++ b) h.2 ∙ append_assoc h.0 h.1 b, longer h.1 b h.3, h.4, h.5)
 
-pub stops_sooner : (before : ℕ) (was now : Option Taken) (a b : Bytes) (e : ExportFault) → Stops before was now a e → Stops before was now (a ++ b) e
-stops_sooner before was now a b OutOfMemory h = (h.0, h.1 ++ b, ap (λ x. x ++ b) h.2 ∙ append_assoc h.0 h.1 b, h.3)
-stops_sooner before was now a b (WriteFailed count) h = stopped_sooner before count was now a b h
+stops_sooner : (old new : Sent) (a b : Bytes) (e : ExportFault) → Stops old new a e → Stops old new (a ++ b) e
+stops_sooner old new a b OutOfMemory h = (h.0, h.1 ++ b, ap (λ x. x ++ b) h.2 ∙ append_assoc h.0 h.1 b, h.3)
+stops_sooner old new a b (WriteFailed count) h = stopped_sooner old.bytes count old.taken new.taken a b h
 
 -- a sink that failed behind what it took before failed behind both
 fails_later : (count : ℕ) (was between now : Option Taken) (a front : Bytes) → Took was between a → StopsAfter count between now front → StopsAfter count was now (a ++ front)
@@ -45,24 +49,35 @@ pub stopped_later : (before mid count : ℕ) (was between now : Option Taken) (a
 stopped_later before mid count was between now a b m h k =
     (a ++ k.0, k.1, ap (λ x. a ++ x) k.2 ∙ sym (append_assoc a k.0 k.1), k.3, (let l = k.4 in omega (arith, length-append a k.0)), fails_later count was between now a k.0 h k.5)
 
-pub stops_later : (before mid : ℕ) (was between now : Option Taken) (a b : Bytes) (e : ExportFault) → mid ≡ before + length a → Took was between a → Stops mid between now b e → Stops before was now (a ++ b) e
-stops_later before mid was between now a b OutOfMemory m h k = (a ++ k.0, k.1, ap (λ x. a ++ x) k.2 ∙ sym (append_assoc a k.0 k.1), took_both was between now a k.0 h k.3)
-stops_later before mid was between now a b (WriteFailed count) m h k = stopped_later before mid count was between now a b m h k
-
--- memory runs out before a text
-pub stops_first : (before : ℕ) (was : Option Taken) (text : Bytes) → Stops before was was text OutOfMemory
-stops_first before was text = ([], text, refl, took_nothing was)
+stops_later : (old mid new : Sent) (a b : Bytes) (e : ExportFault) → Goes old mid a (Ok tt) → Stops mid new b e → Stops old new (a ++ b) e
+stops_later old mid new a b OutOfMemory h k = (a ++ k.0, k.1, ap (λ x. a ++ x) k.2 ∙ sym (append_assoc a k.0 k.1), took_both old.taken mid.taken new.taken a k.0 h.2 k.3)
+stops_later old mid new a b (WriteFailed count) h k = stopped_later old.bytes mid.bytes count old.taken mid.taken new.taken a b h.0 h.2 k
 
 -- ---- writes
 
+goes_later : (old mid new : Sent) (a b : Bytes) (r : Result (Unit {0}) ExportFault) → Goes old mid a (Ok tt) → Goes mid new b r → Goes old new (a ++ b) r
+goes_later old mid new a b (Ok x) h k = ((let m = h.0 in let n = k.0 in omega (arith, length-append a b)), (λ m. k.1 (h.1 m)), took_both old.taken mid.taken new.taken a b h.2 k.2)
+goes_later old mid new a b (Err e) h k = stops_later old mid new a b e h k
+
 -- a text that is written behind another one
-pub writes_later : (before mid after : ℕ) (was between now : Option Taken) (a b : Bytes) (r : Result (Unit {0}) ExportFault) → Writes before mid was between a (Ok tt) → Writes mid after between now b r → Writes before after was now (a ++ b) r
-writes_later before mid after was between now a b (Ok x) h k = ((let m = h.0 in let n = k.0 in omega (arith, length-append a b)), k.1, took_both was between now a b h.2 k.2)
-writes_later before mid after was between now a b (Err e) h k = stops_later before mid was between now a b e h.0 h.2 k
+pub writes_later : (old mid new : Sent) (a b : Bytes) (r : Result (Unit {0}) ExportFault) → Writes old mid a (Ok tt) → Writes mid new b r → Writes old new (a ++ b) r
+writes_later old mid new a b r h k = (k.0 ∙ h.0, goes_later old mid new a b r h.1 k.1)
+
+-- the export stops within the first of two texts
+pub writes_sooner : (old new : Sent) (a b : Bytes) (e : ExportFault) → Writes old new a (Err e) → Writes old new (a ++ b) (Err e)
+writes_sooner old new a b e h = (h.0, stops_sooner old new a b e h.1)
+
+-- memory runs out before a text
+pub stops_first : (old : Sent) (text : Bytes) → Writes old old text (Err OutOfMemory)
+stops_first old text = (refl, nothing_yet old.taken text)
+
+-- memory runs out behind a text
+pub stops_last : (old new : Sent) (text : Bytes) → Writes old new text (Ok tt) → Writes old new text (Err OutOfMemory)
+stops_last old new text h = (h.0, (text, [], sym (append-nil text), h.1.2))
 
 -- nothing is written
-pub writes_none : (before : ℕ) (was : Option Taken) → before ≤ most → Writes before before was was [] (Ok tt)
-writes_none before was h = (omega arith, h, took_nothing was)
+pub writes_none : (old : Sent) → Writes old old [] (Ok tt)
+writes_none old = (refl, (omega arith, (λ h. h), took_nothing old.taken))
 
 -- ---- items
 
@@ -71,12 +86,12 @@ pub items_append : (xs ys : List Item) → items_text (xs ++ ys) ≡ items_text 
 items_append xs ys = flat_map-append item_text xs ys
 
 -- items are written behind others, or the export stops within them
-pub items_later : (before mid after : ℕ) (was between now : Option Taken) (xs ys : List Item) (r : Result (Unit {0}) ExportFault) → Writes before mid was between (items_text xs) (Ok tt) → Writes mid after between now (items_text ys) r → Writes before after was now (items_text (xs ++ ys)) r
-items_later before mid after was between now xs ys r h k = subst (λ t. Writes before after was now t r) (sym (items_append xs ys)) (writes_later before mid after was between now (items_text xs) (items_text ys) r h k)
+pub items_later : (old mid new : Sent) (xs ys : List Item) (r : Result (Unit {0}) ExportFault) → Writes old mid (items_text xs) (Ok tt) → Writes mid new (items_text ys) r → Writes old new (items_text (xs ++ ys)) r
+items_later old mid new xs ys r h k = subst (λ t. Writes old new t r) (sym (items_append xs ys)) (writes_later old mid new (items_text xs) (items_text ys) r h k)
 
 -- what stops within items stops within these and others
-pub items_sooner : (before : ℕ) (was now : Option Taken) (xs ys : List Item) (e : ExportFault) → Stops before was now (items_text xs) e → Stops before was now (items_text (xs ++ ys)) e
-items_sooner before was now xs ys e h = subst (λ t. Stops before was now t e) (sym (items_append xs ys)) (stops_sooner before was now (items_text xs) (items_text ys) e h)
+pub items_sooner : (old new : Sent) (xs ys : List Item) (e : ExportFault) → Writes old new (items_text xs) (Err e) → Writes old new (items_text (xs ++ ys)) (Err e)
+items_sooner old new xs ys e h = subst (λ t. Writes old new t (Err e)) (sym (items_append xs ys)) (writes_sooner old new (items_text xs) (items_text ys) e h)
 
 -- ---- one text
 
@@ -128,11 +143,11 @@ module _ {X Y : Type 0} (f : X → List Y) (xs : List X) (i : ℕ) (d : X) (h : 
 
 module _ {X : Type 0} (f : X → Bytes) (xs : List X) (i : ℕ) (d : X) (h : i < length xs) where
   -- what stops within one text stops within all
-  pub stops_within : (before mid : ℕ) (was between now : Option Taken) (e : ExportFault) → Writes before mid was between (flat_map f (take i xs)) (Ok tt) → Stops mid between now (f (get_or xs i d)) e → Stops before was now (flat_map f xs) e
-  stops_within before mid was between now e k s =
-      subst (λ t. Stops before was now t e) (sym (text_parts f xs i d h))
-      (stops_later before mid was between now (flat_map f (take i xs)) (f (get_or xs i d) ++ flat_map f (drop (suc i) xs)) e k.0 k.2 (stops_sooner mid between now (f (get_or xs i d)) (flat_map f (drop (suc i) xs)) e s))
+  pub stops_within : (old mid new : Sent) (e : ExportFault) → Writes old mid (flat_map f (take i xs)) (Ok tt) → Writes mid new (f (get_or xs i d)) (Err e) → Writes old new (flat_map f xs) (Err e)
+  stops_within old mid new e k s =
+      subst (λ t. Writes old new t (Err e)) (sym (text_parts f xs i d h))
+      (writes_later old mid new (flat_map f (take i xs)) (f (get_or xs i d) ++ flat_map f (drop (suc i) xs)) (Err e) k (writes_sooner mid new (f (get_or xs i d)) (flat_map f (drop (suc i) xs)) e s))
 
   -- one text more is written
-  pub writes_next : (before mid after : ℕ) (was between now : Option Taken) → Writes before mid was between (flat_map f (take i xs)) (Ok tt) → Writes mid after between now (f (get_or xs i d)) (Ok tt) → Writes before after was now (flat_map f (take (i + 1) xs)) (Ok tt)
-  writes_next before mid after was between now k s = subst (λ t. Writes before after was now t (Ok tt)) (sym (text_next f xs i d h)) (writes_later before mid after was between now (flat_map f (take i xs)) (f (get_or xs i d)) (Ok tt) k s)
+  pub writes_next : (old mid new : Sent) → Writes old mid (flat_map f (take i xs)) (Ok tt) → Writes mid new (f (get_or xs i d)) (Ok tt) → Writes old new (flat_map f (take (i + 1) xs)) (Ok tt)
+  writes_next old mid new k s = subst (λ t. Writes old new t (Ok tt)) (sym (text_next f xs i d h)) (writes_later old mid new (flat_map f (take i xs)) (f (get_or xs i d)) (Ok tt) k s)

@@ -1,13 +1,12 @@
 -- The ref that each commit goes out on, by the ranks of refs.
 use Rattle.std.specs.Prelude.{◌≡◌, ◌<◌, ◌≤◌, ◌+◌, ℕ, Bool, false, nat_le, List, ◌++◌, map, length, take, Option, Some, None, slice_index_or}
 use Rattle.std.specs.Borrow.{Bor}
-use Rattle.std.specs.List.{filter, filter_map, list_all, slice_get, AllByRecursion}
+use Rattle.std.specs.List.{filter, filter_map, slice_get, AllByRecursion}
 use Rattle.gx_model.specs.Changes.{commit_ref, is_branch}
 use Rattle.gx_model.specs.Export.{carrier, is_reached}
 use Rattle.gx_model.specs.Histories.Marks.{IsAt, IsMarked, Marks, marks_of}
 use Rattle.gx_model.specs.Histories.Values.{Commit, Value, commit_of}
 use Rattle.gx_model.specs.Histories.{Records, Target}
-use Rattle.gx_model.specs.Laws.HistoryLaws.{IsParent}
 use Rattle.gx_model.specs.Laws.RepositoryLaws.{values_of}
 use Rattle.gx_model.specs.Records.HistoryOf.{target_in, value_of_name}
 use Rattle.gx_model.specs.Records.Sound.{IsTarget}
@@ -15,7 +14,6 @@ use Rattle.gx_model.specs.Replay.{peeled_at}
 use Rattle.gx_model.specs.Texts.{Bytes}
 use Rattle.gx_object.specs.declared.name.Name.{Name}
 use Rattle.gx_repo.specs.Refs.{shown_lent_ref}
-use Rattle.gx_rev.specs.Objects.{commit_at, parents_at}
 use Rattle.gx_rev.specs.Tips.{AreTips}
 use Rattle.gx_export.specs.declared.branches.Branches.{Branches}
 
@@ -63,22 +61,12 @@ pub record AreRanked (repository : Records) (refs : List (Bytes × Target)) (fir
 
 -- ---- the calls
 
-abbrev pub LowersOne : Records → Name → ℕ → List ℕ → List ℕ → Type 0
-LowersOne repository called rank old new = IsLowered repository (λ lowered. lowered ≡ commit_at repository called) rank old new
-
-abbrev pub LowersParents : Records → Name → ℕ → List ℕ → List ℕ → Type 0
-LowersParents repository called rank old new = IsLowered repository (λ parent. IsParent parent (parents_at repository called)) rank old new
-
 -- the tips have ranks
 abbrev pub HaveTipsOf : Records → List (Bor Bytes × Name) → List ℕ → Type 0
 HaveTipsOf repository tips ranks = HaveTips repository (targets repository (shown_tips tips)) ranks
 
 abbrev pub AreRankedBy : Records → List (Bor Bytes × Name) → ℕ → List ℕ → Type 0
 AreRankedBy repository tips first ranks = AreRanked repository (targets repository (shown_tips tips)) first ranks
-
--- no place before this one is marked
-abbrev pub IsBeforeMarks : List Bool → ℕ → Type 0
-IsBeforeMarks marks first = (place : ℕ) → IsMarked marks place → first ≤ place
 
 -- a ref's name, or the carrier
 abbrev pub name_or_carrier : Option (Bor Bytes × Name) → Bytes
@@ -112,22 +100,11 @@ pub record FindsBranches {A : Type 0} (repository : Records) (sent : List Bool) 
   pub found : (place : ℕ) (made : Commit) → IsMarked sent place → IsAt repository place made → branch_at branches place ≡ commit_ref (refs_of repository branches) made
   pub reached : (place : ℕ) (made : Commit) → IsMarked sent place → IsAt repository place made → is_ranked branches place ≡ is_reached (refs_of repository branches) made
 
--- whether the refs reach all commits that are sent
-abbrev pub ReachAll : {A : Type 0} → Branches A → List Bool → Bool → Type 0
-ReachAll branches sent answer = (repository : Records) (test : Commit → Bool)
-    → FindsBranches repository sent branches → sent ≡ marks_of test (values_of repository)
-    → answer ≡ list_all (is_reached (refs_of repository branches)) (picked test (values_of repository))
-
 -- ---- the refs that are set
 
 -- the commit that a ref's object peels to
 abbrev pub commit_of_ref : Records → Bytes → Commit
 commit_of_ref repository object = peeled_at (target_in (value_of_name repository.records object))
-
--- whether that of this name is marked
-abbrev pub IsSetAt : Records → List Bool → Name → Bool → Type 0
-IsSetAt repository set object answer = (test : Commit → Bool)
-    → set ≡ marks_of test (values_of repository) → answer ≡ test (commit_of_ref repository object.bytes)
 
 -- these are the refs whose commits are marked
 abbrev pub AreSet : Records → List Bool → List (Bor Bytes × Name) → Type 0

@@ -1,19 +1,15 @@
 -- What each part of an export of changes does, whatever was written before it.
-use Rattle.std.specs.Prelude.{◌≡◌, [], ◌∷◌, ◌++◌, ◌||◌, ℕ, suc, Bool, true, false, length, List, map, reverse, Option, Result, Ok, Err, OnOk, slice_index_or}
-use Rattle.std.specs.Borrow.{Bor}
-use Rattle.std.specs.List.{filter}
+use Rattle.std.specs.Prelude.{◌≡◌, [], ◌∷◌, ◌++◌, ◌||◌, ℕ, suc, Bool, true, false, length, List, map, reverse, Option, Result, Ok, Err, slice_index_or}
 use Rattle.gx_model.specs.declared.objects.Kind.{Kind}
 use Rattle.gx_model.specs.declared.features.Feature.TheVariants as features
-use Rattle.gx_model.specs.Changes.{all_changes, carrier_reset, changes_text, closed_by, commit_changes, commits_with_changes, named_in, own_files, range_text, sending_commands, set_refs, with_changes}
+use Rattle.gx_model.specs.Changes.{carrier_reset, changes_text, closed_by, commit_changes, commits_with_changes, named_in, own_files, range_text, sending_commands, set_refs}
 use Rattle.gx_model.specs.Export.{blob_commands, command_items, commit_on, contents, items_text, reached_commits, ref_by, reset_before, with_blobs}
 use Rattle.gx_model.specs.Histories.Files.{FileMap}
-use Rattle.gx_model.specs.Histories.Marks.{IsAt, marks_of}
+use Rattle.gx_model.specs.Histories.Marks.{marks_of}
 use Rattle.gx_model.specs.Histories.Values.{Commit, CommitText, Value, list_of, parents_of}
 use Rattle.gx_model.specs.Histories.{History, Records, Target}
 use Rattle.gx_model.specs.Laws.RepositoryLaws.{values_of}
-use Rattle.gx_model.specs.Objects.{CommitParts}
-use Rattle.gx_model.specs.Records.HistoryOf.{history_of, target_in}
-use Rattle.gx_model.specs.Replay.{peeled_at}
+use Rattle.gx_model.specs.Records.HistoryOf.{history_of}
 use Rattle.gx_model.specs.Revisions.{RangeWord}
 use Rattle.gx_model.specs.Revisions.Ranges.{Word, listed, listing, words_denoted}
 use Rattle.gx_model.specs.Streams.Commands.{Asks, Command, CommitIsh, Done}
@@ -21,24 +17,16 @@ use Rattle.gx_model.specs.Streams.Items.{Item, Line}
 use Rattle.gx_model.specs.Texts.{Bytes}
 use Rattle.gx_model.specs.Texts.Paths.{Path}
 use Rattle.gx_model.specs.Texts.Sinks.{Taken}
-use Rattle.gx_object.specs.declared.name.Name.{Name}
-use Rattle.gx_rev.specs.Objects.{commit_at, value_at}
 use Rattle.gx_rev.specs.RevFaults.{fault_of}
 use Rattle.gx_rev.specs.Walking.{IsWordFault}
-use Rattle.gx_export.specs.Branches.{FindsBranches, picked, refs_of, shown_tips, targets}
 use Rattle.gx_export.specs.Compared.{gone_items, gone_text}
-use Rattle.gx_export.specs.FileTexts.{AreKept}
-use Rattle.gx_export.specs.Marks.{Adds, AreNumbers, HasWritten}
-use Rattle.gx_export.specs.Naming.{shown_commit}
-use Rattle.gx_export.specs.Outputs.{Delivers, Writes}
-use Rattle.gx_export.specs.Parts.{AddsItems, commits_called}
-use Rattle.gx_export.specs.Texts.{file_items, head_items, items_of, parents_by, root_items}
-use Rattle.gx_export.specs.declared.branches.Branches.{Branches}
+use Rattle.gx_export.specs.Marks.{Adds, HasWritten}
+use Rattle.gx_export.specs.Outputs.{Delivers}
+use Rattle.gx_export.specs.Texts.{file_items, head_items, items_of, parents_by}
 use Rattle.gx_export.specs.declared.changes.Changes.{Changes}
 use Rattle.gx_export.specs.declared.fault.ExportFault.{ExportFault}
 use Rattle.gx_export.specs.declared.fault.RangeFault.{RangeFault}
 use Rattle.gx_export.specs.declared.fault.RangeFault.TheVariants.{Export, Walk}
-use Rattle.gx_export.specs.declared.naming.CommitIsh.{CommitIsh as Naming}
 use Rattle.gx_export.specs.declared.written.Written.{Written}
 
 -- ---- the items of a commit
@@ -111,10 +99,6 @@ module _ (name : Kind → Bytes → Bytes) where
   ExportsRange closed repository asked was now (Err (Export fault)) = DeliversWords closed (history_of repository) asked was now (Err fault)
   ExportsRange closed repository asked was now (Err (Walk e)) = (now ≡ was) × IsWordFault e.word (fault_of e.kind) (listed name (history_of repository) asked)
 
-  -- whatever was written, this names a commit
-  abbrev pub NamesCommit : Records → List ℕ → Commit → Naming → Type 0
-  NamesCommit repository marks made named = (ws : List Value) → AreNumbers (values_of repository) ws marks → shown_commit named ≡ named_in name ws made
-
   -- the commands of a commit on a branch, the blobs of its files that differ first
   abbrev pub one_on : Bytes → List Value → Commit → List Command
   one_on branch ws c =
@@ -122,93 +106,9 @@ module _ (name : Kind → Bytes → Bytes) where
       blob_commands ws (contents (own_files c))
       ++ (reset_before branch (list_of (parents_of c)) ++ (commit_on branch (named_in name us) (commit_changes us c) us c ∷ []))
 
--- a repository by its namer and its records
-module _ {N : Type 0} (name_of : N → Kind → Bytes → Bytes) (repo : N × Records) where
-  -- with the commit at this place written, the lines are kept
-  abbrev pub KeepsChangedCommit : {A : Type 0} → ℕ → Written A → Changes A → Changes A → Result (Unit {0}) ExportFault → Type 0
-  KeepsChangedCommit place written old new result =
-      (made : Commit) (ws : List Value) → IsAt repo.1 place made → HasWritten repo.1 ws written → AreKept (name_of repo.0) repo.1 ws old.files → OnOk result (AreKept (name_of repo.0) repo.1 (with_changes ws made) new.files)
-
-  -- with the blobs of the commit of this name written, the lines are kept
-  abbrev pub KeepsUnmarked : {A : Type 0} → Name → Written A → Changes A → Changes A → Result (Unit {0}) ExportFault → Type 0
-  KeepsUnmarked commit written old new result =
-      (ws : List Value) → HasWritten repo.1 ws written → AreKept (name_of repo.0) repo.1 ws old.files → OnOk result (AreKept (name_of repo.0) repo.1 (with_blobs ws (contents (own_files (commit_at repo.1 commit)))) new.files)
-
--- the same, and a sink by what it took
-module _ {N W : Type 0} (name_of : N → Kind → Bytes → Bytes) (taken : W → Option Taken) (repo : N × Records) where
-  -- the lines of these parents go out
-  abbrev pub AddsNamedParents : {A : Type 0} → List Bytes → Written A → Written A → W → W → Result (Unit {0}) ExportFault → Type 0
-  AddsNamedParents parents old new was now result =
-      AddsItems repo.1 (λ ws. parents_by (named_in (name_of repo.0) ws) (commits_called repo.1 parents)) old new (taken was) (taken now) result
-
-  -- the lines of a commit on a branch go out, where these are those of what differs
-  abbrev pub AddsLinesOn : {A : Type 0} → CommitParts → Bytes → Changes A → Written A → Written A → W → W → Result (Unit {0}) ExportFault → Type 0
-  AddsLinesOn parts branch changes old new was now result =
-      (ws : List Value) (gone : List Path) (own : FileMap Bytes) → HasWritten repo.1 ws old → AreLinesOf ws gone own changes
-      → Adds repo.1 ws (lines_on branch (named_in (name_of repo.0) ws) ws parts.text (commits_called repo.1 parts.parents) gone own) old new (taken was) (taken now) result
-
-  -- the lines of such a commit go out, and before them the reset of one without parents
-  abbrev pub AddsBehindOn : {A : Type 0} → CommitParts → Bytes → Changes A → Written A → Written A → W → W → Result (Unit {0}) ExportFault → Type 0
-  AddsBehindOn parts branch changes old new was now result =
-      (ws : List Value) (gone : List Path) (own : FileMap Bytes) → HasWritten repo.1 ws old → AreLinesOf ws gone own changes
-      → Adds repo.1 ws (root_items branch (length parts.parents) ++ lines_on branch (named_in (name_of repo.0) ws) ws parts.text (commits_called repo.1 parts.parents) gone own) old new (taken was) (taken now) result
-
-  -- the commit of this name goes out on a branch, behind its blobs, and has no mark yet
-  abbrev pub AddsUnmarkedOn : {A : Type 0} → Bytes → Name → Written A → Written A → W → W → Changes A → Result (Unit {0}) ExportFault → Type 0
-  AddsUnmarkedOn branch commit old new was now changes result =
-      (ws : List Value) → HasWritten repo.1 ws old → AreKept (name_of repo.0) repo.1 ws changes.files
-      → Adds repo.1 (with_blobs ws (contents (own_files (commit_at repo.1 commit)))) (items_of (one_on (name_of repo.0) branch ws (commit_at repo.1 commit))) old new (taken was) (taken now) result
-
-  -- the commit at this place goes out on a branch, behind its blobs
-  abbrev pub AddsChangedCommit : {A : Type 0} → Bytes → ℕ → Written A → Written A → W → W → Changes A → Result (Unit {0}) ExportFault → Type 0
-  AddsChangedCommit branch place old new was now changes result =
-      (made : Commit) (ws : List Value) → IsAt repo.1 place made → HasWritten repo.1 ws old → AreKept (name_of repo.0) repo.1 ws changes.files
-      → Adds repo.1 (with_changes ws made) (items_of (one_on (name_of repo.0) branch ws made)) old new (taken was) (taken now) result
-
-  -- the commits that are marked go out, on the refs that are found
-  abbrev pub AddsSentCommits : {A B : Type 0} → Branches B → List Bool → Written A → Written A → W → W → Result (Unit {0}) ExportFault → Type 0
-  AddsSentCommits branches sent old new was now result = (test : Commit → Bool) → sent ≡ marks_of test (values_of repo.1)
-      → Adds repo.1 (all_changes (picked test (values_of repo.1))) (items_of (commits_with_changes (name_of repo.0) (refs_of repo.1 branches) [] (picked test (values_of repo.1)))) old new (taken was) (taken now) result
-
-  -- the text up to the last of them goes out
-  abbrev pub AddsSendingFront : {A B : Type 0} → Bool → Branches B → List Bool → Written A → Written A → W → W → Result (Unit {0}) ExportFault → Type 0
-  AddsSendingFront closed branches sent old new was now result = (test : Commit → Bool) → sent ≡ marks_of test (values_of repo.1)
-      → Adds repo.1 (all_changes (picked test (values_of repo.1))) (sending_front (name_of repo.0) closed (picked test (values_of repo.1)) (refs_of repo.1 branches)) old new (taken was) (taken now) result
-
-  -- the text behind it goes out
-  abbrev pub AddsSendingRest : {A B : Type 0} → Bool → Branches B → List Bool → Written A → Written A → W → W → Result (Unit {0}) ExportFault → Type 0
-  AddsSendingRest closed branches sent old new was now result = (test : Commit → Bool) → sent ≡ marks_of test (values_of repo.1)
-      → AddsItems repo.1 (sending_rest (name_of repo.0) closed (picked test (values_of repo.1)) (refs_of repo.1 branches)) old new (taken was) (taken now) result
-
-  -- the commits that are marked are sent, and the refs that were found
-  abbrev pub SendsOn : {B : Type 0} → Bool → Branches B → List Bool → W → W → Result (Unit {0}) ExportFault → Type 0
-  SendsOn closed branches sent was now result = (test : Commit → Bool) → sent ≡ marks_of test (values_of repo.1)
-      → SendsText (name_of repo.0) closed (picked test (values_of repo.1)) (refs_of repo.1 branches) (taken was) (taken now) result
-
-  -- the commits that are marked are sent, and the refs whose commits are
-  abbrev pub SendsMarked : Bool → List Bool → List Bool → W → W → Result (Unit {0}) ExportFault → Type 0
-  SendsMarked closed sent set was now result = (test wanted : Commit → Bool) → sent ≡ marks_of test (values_of repo.1) → set ≡ marks_of wanted (values_of repo.1)
-      → SendsText (name_of repo.0) closed (picked test (values_of repo.1)) (filter (λ ref. wanted (peeled_at ref.1)) (history_of repo.1).refs) (taken was) (taken now) result
-
-  -- the items of these refs go out
-  abbrev pub AddsNamedRefs : {A : Type 0} → List (Bor Bytes × Name) → Written A → Written A → W → W → Result (Unit {0}) ExportFault → Type 0
-  AddsNamedRefs refs old new was now result = AddsItems repo.1 (λ ws. items_of (map (ref_by (named_in (name_of repo.0) ws)) (targets repo.1 (shown_tips refs)))) old new (taken was) (taken now) result
-
-  -- the items of a ref go out
-  abbrev pub AddsNamedRef : {A : Type 0} → Bytes → Name → Written A → Written A → W → W → Result (Unit {0}) ExportFault → Type 0
-  AddsNamedRef ref object old new was now result = AddsItems repo.1 (λ ws. command_items (ref_by (named_in (name_of repo.0) ws) (ref, target_in (value_at repo.1 object)))) old new (taken was) (taken now) result
-
--- items go out, and the lines of what is gone and of what differs
-module _ {W : Type 0} (taken : W → Option Taken) where
-  abbrev pub WritesItems : List Item → ℕ → ℕ → W → W → Result (Unit {0}) ExportFault → Type 0
-  WritesItems items before after was now result = Writes before after (taken was) (taken now) (items_text items) result
-
-  -- the reset behind the commits that are marked, where one is reached by none of the refs
-  abbrev pub WritesCarrier : {A : Type 0} → Branches A → List Bool → ℕ → ℕ → W → W → Result (Unit {0}) ExportFault → Type 0
-  WritesCarrier branches sent before after was now result = (repository : Records) (test : Commit → Bool)
-      → FindsBranches repository sent branches → sent ≡ marks_of test (values_of repository)
-      → WritesItems (items_of (carrier_reset (refs_of repository branches) (picked test (values_of repository)))) before after was now result
-
-  abbrev pub WritesDiffering : {A : Type 0} → Changes A → ℕ → ℕ → W → W → Result (Unit {0}) ExportFault → Type 0
-  WritesDiffering changes before after was now result =
-      (ws : List Value) (gone : List Path) (own : FileMap Bytes) → AreLinesOf ws gone own changes → Writes before after (taken was) (taken now) (items_text (differing_lines ws gone own)) result
+-- items go out that have paths and files in them, of which these are the lines of what differs
+abbrev pub AddsChanges : {W A : Type 0} → Records → Changes A → (List Value → List Path → FileMap Bytes → List Item)
+    → Written W A → Written W A → Result (Unit {0}) ExportFault → Type 0
+AddsChanges repository changes items old new result =
+    (ws : List Value) (gone : List Path) (own : FileMap Bytes) → HasWritten repository ws old
+    → AreLinesOf ws gone own changes → Adds repository ws (items ws gone own) old new result

@@ -5,7 +5,7 @@ use Rattle.gx_model.specs.declared.objects.Kind.{Kind}
 use Rattle.gx_model.specs.declared.objects.Kind.TheVariants as kinds
 use Rattle.gx_model.specs.declared.objects.Mode.TheVariants.{Dir}
 use Rattle.gx_model.specs.Changes.{base_files, changed_files, gone_paths, own_files}
-use Rattle.gx_model.specs.Export.{blob_commands, change_items, contents, items_text, with_blobs}
+use Rattle.gx_model.specs.Export.{change_items, contents, items_text, with_blobs}
 use Rattle.gx_model.specs.Histories.Files.{FileMap}
 use Rattle.gx_model.specs.Histories.Values.{Commit, Value, files_of, list_of, parents_of}
 use Rattle.gx_model.specs.Histories.{Records}
@@ -15,7 +15,6 @@ use Rattle.gx_model.specs.Streams.Commands.{Remove}
 use Rattle.gx_model.specs.Streams.Items.{Item}
 use Rattle.gx_model.specs.Texts.{Bytes}
 use Rattle.gx_model.specs.Texts.Paths.{Path}
-use Rattle.gx_model.specs.Texts.Sinks.{Taken}
 use Rattle.gx_object.specs.declared.entry.Entry.{Entry}
 use Rattle.gx_object.specs.declared.name.Name.{Name}
 use Rattle.gx_rev.specs.Objects.{commit_at, entries_at}
@@ -26,11 +25,9 @@ use Rattle.gx_tree.specs.Lists.{below}
 use Rattle.gx_tree.specs.Nodes.{Kept, Level, files, key}
 use Rattle.gx_tree.specs.Writes.{kept_leaf}
 use Rattle.gx_export.specs.FileTexts.{AreKept, IsEntryBelow, IsGathered, IsTreeBelow, bytes_in}
-use Rattle.gx_export.specs.Marks.{AddsBlobs, HasWritten}
-use Rattle.gx_export.specs.Outputs.{Stops}
+use Rattle.gx_export.specs.Marks.{AddsBlobs}
 use Rattle.gx_export.specs.Pairs.{shown_pair}
-use Rattle.gx_object.specs.Parts.{bytes_if}
-use Rattle.gx_export.specs.Texts.{file_items, items_of}
+use Rattle.gx_export.specs.Texts.{file_items}
 use Rattle.gx_export.specs.declared.changes.Changes.{Changes}
 use Rattle.gx_export.specs.declared.fault.ExportFault.{ExportFault}
 use Rattle.gx_export.specs.declared.pairs.Pair.{Pair}
@@ -79,9 +76,6 @@ abbrev pub or_other : Option Entry → Option Entry → Option Entry
 or_other None d = d
 or_other (Some e) d = Some e
 
-abbrev pub IsOneOf : Pair → Option Entry → Type 0
-IsOneOf pair result = result ≡ or_other pair.old pair.new
-
 -- what an entry is and names, of what stands there
 abbrev pub told_entry : (Kind → Bytes → Bytes) → Bytes × Kept → TreeEntry
 told_entry name e = entry name e.0 (kept_leaf name e.1)
@@ -118,69 +112,36 @@ path_unless path None = path ∷ []
 path_unless path (Some e) = []
 
 -- the blobs of files went out, and the lines of these and of paths that are gone stand behind those gathered before
-pub record IsCompared {A : Type 0} (name : Kind → Bytes → Bytes) (repository : Records) (ws : List Value) (names : FileMap Bytes) (paths : List Path) (old new : Written A) (was now : Option Taken) (before after : Changes A) : Type 0 where
-  pub gathered : IsGathered name repository ws names old new was now before.files after.files
+pub record IsCompared {W A : Type 0} (name : Kind → Bytes → Bytes) (repository : Records) (ws : List Value)
+    (names : FileMap Bytes) (paths : List Path) (old new : Written W A) (before after : Changes A) : Type 0 where
+  pub gathered : IsGathered name repository ws names old new before.files after.files
   pub gone : after.gone.items ≡ before.gone.items ++ gone_text paths
 
 -- Or the export stops within the blobs.
-abbrev pub Compares : {A : Type 0} → (Kind → Bytes → Bytes) → Records → List Value → FileMap Bytes → List Path → Written A → Written A → Option Taken → Option Taken → Changes A → Changes A → Result (Unit {0}) ExportFault → Type 0
-Compares name repository ws names gone old new was now before after (Ok _) = IsCompared name repository ws names gone old new was now before after
-Compares name repository ws names gone old new was now before after (Err fault) = Stops old.bytes was now (items_text (items_of (blob_commands ws (bytes_in (named_values repository.records) names)))) fault
+abbrev pub Compares : {W A : Type 0} → (Kind → Bytes → Bytes) → Records → List Value → FileMap Bytes → List Path
+    → Written W A → Written W A → Changes A → Changes A → Result (Unit {0}) ExportFault → Type 0
+Compares name repository ws names gone old new before after (Ok _) =
+    IsCompared name repository ws names gone old new before after
+Compares name repository ws names gone old new before after (Err fault) =
+    AddsBlobs repository ws (bytes_in (named_values repository.records) names) old new (Err fault)
+
+-- what differs between two maps of names, below a path
+abbrev pub ComparesMaps : {W A : Type 0} → (Kind → Bytes → Bytes) → Records → List Value → Path → FileMap Bytes
+    → FileMap Bytes → Written W A → Written W A → Changes A → Changes A → Result (Unit {0}) ExportFault → Type 0
+ComparesMaps name repository ws front f g old new before after result =
+    Compares name repository ws (below front (changed_files f g)) (paths_below front (gone_paths f g)) old new before after result
 
 -- the blobs of a commit's files that differ went out, and all lines of what differs are gathered
-pub record IsOfChanges {A : Type 0} (name : Kind → Bytes → Bytes) (repository : Records) (ws : List Value) (c : Commit) (old new : Written A) (was now : Option Taken) (changes : Changes A) : Type 0 where
-  pub adds : AddsBlobs repository ws (contents (own_files c)) old new was now (Ok tt)
+pub record IsOfChanges {W A : Type 0} (name : Kind → Bytes → Bytes) (repository : Records) (ws : List Value)
+    (c : Commit) (old new : Written W A) (changes : Changes A) : Type 0 where
+  pub adds : AddsBlobs repository ws (contents (own_files c)) old new (Ok tt)
   pub files : changes.files.text.items ≡ items_text (file_items (with_blobs ws (contents (own_files c))) (own_files c))
   pub gone : changes.gone.items ≡ gone_text (gone_paths (base_files (list_of (parents_of c))) (files_of c))
   pub kept : AreKept name repository (with_blobs ws (contents (own_files c))) changes.files
 
 -- Or the export stops within the blobs.
-abbrev pub GathersChanges : {A : Type 0} → (Kind → Bytes → Bytes) → Records → List Value → Commit → Written A → Written A → Option Taken → Option Taken → Changes A → Result (Unit {0}) ExportFault → Type 0
-GathersChanges name repository ws c old new was now changes (Ok _) = IsOfChanges name repository ws c old new was now changes
-GathersChanges name repository ws c old new was now changes (Err fault) = Stops old.bytes was now (items_text (items_of (blob_commands ws (contents (own_files c))))) fault
-
--- a repository, by its namer and its records
-module _ {N : Type 0} (name_of : N → Kind → Bytes → Bytes) (repo : N × Records) where
-  -- the trees that may be there are held whole, and their paths below a path are short
-  abbrev pub HasTreesBelow : ℕ → Path → Option Name → Option Name → Type 0
-  HasTreesBelow room front first second =
-      (f : FileMap Bytes) × (g : FileMap Bytes) × IsBelowIf (name_of repo.0) repo.1 room front (bytes_if first) f × IsBelowIf (name_of repo.0) repo.1 room front (bytes_if second) g
-
-  -- and so are entries of two such trees at one component
-  abbrev pub HasPairBelow : ℕ → Path → Pair → Type 0
-  HasPairBelow room front pair = (p : Level × Level) × IsPairBelow (name_of repo.0) repo.1 room front pair p
-
-  -- some values were written, and with them lines are kept
-  abbrev pub IsComparing : {A : Type 0} → Written A → Changes A → Type 0
-  IsComparing written changes = (ws : List Value) × HasWritten repo.1 ws written × AreKept (name_of repo.0) repo.1 ws changes.files
-
--- the same, and a sink by what it took
-module _ {N W : Type 0} (name_of : N → Kind → Bytes → Bytes) (taken : W → Option Taken) (repo : N × Records) where
-  -- what differs between two maps of names is gathered, below a path
-  abbrev pub ComparesMaps : {A : Type 0} → List Value → Path → FileMap Bytes → FileMap Bytes → Written A → Written A → W → W → Changes A → Changes A → Result (Unit {0}) ExportFault → Type 0
-  ComparesMaps ws front f g old new was now before after result =
-      Compares (name_of repo.0) repo.1 ws (below front (changed_files f g)) (paths_below front (gone_paths f g)) old new (taken was) (taken now) before after result
-
-  -- what differs between two trees that may be there
-  abbrev pub ComparesTrees : {A : Type 0} → ℕ → Path → Option Name → Option Name → Written A → Written A → W → W → Changes A → Changes A → Result (Unit {0}) ExportFault → Type 0
-  ComparesTrees room front first second old new was now before after result =
-      (ws : List Value) (f g : FileMap Bytes) → HasWritten repo.1 ws old → IsBelowIf (name_of repo.0) repo.1 room front (bytes_if first) f → IsBelowIf (name_of repo.0) repo.1 room front (bytes_if second) g → AreKept (name_of repo.0) repo.1 ws before.files
-      → ComparesMaps ws front f g old new was now before after result
-
-  -- what differs between two directories at one component
-  abbrev pub ComparesPair : {A : Type 0} → ℕ → Path → Pair → Written A → Written A → W → W → Changes A → Changes A → Result (Unit {0}) ExportFault → Type 0
-  ComparesPair room front pair old new was now before after result =
-      (ws : List Value) (p : Level × Level) → HasWritten repo.1 ws old → IsPairBelow (name_of repo.0) repo.1 room front pair p → AreKept (name_of repo.0) repo.1 ws before.files
-      → ComparesMaps ws front (files p.0) (files p.1) old new was now before after result
-
-  -- what differs at a path that is no directory's: the file is gone, or is new or another
-  abbrev pub ComparesFile : {A : Type 0} → Path → Option Entry → Written A → Written A → W → W → Changes A → Changes A → Result (Unit {0}) ExportFault → Type 0
-  ComparesFile path found old new was now before after result =
-      (ws : List Value) → HasWritten repo.1 ws old → AreKept (name_of repo.0) repo.1 ws before.files
-      → Compares (name_of repo.0) repo.1 ws (file_if path found) (path_unless path found) old new (taken was) (taken now) before after result
-
-  -- what differs between the commit of this name and its first parent
-  abbrev pub ComparesCommit : {A : Type 0} → Name → Written A → Written A → W → W → Changes A → Changes A → Result (Unit {0}) ExportFault → Type 0
-  ComparesCommit commit old new was now before after result =
-      (ws : List Value) → HasWritten repo.1 ws old → AreKept (name_of repo.0) repo.1 ws before.files
-      → GathersChanges (name_of repo.0) repo.1 ws (commit_at repo.1 commit) old new (taken was) (taken now) after result
+abbrev pub GathersChanges : {W A : Type 0} → (Kind → Bytes → Bytes) → Records → List Value → Commit
+    → Written W A → Written W A → Changes A → Result (Unit {0}) ExportFault → Type 0
+GathersChanges name repository ws c old new changes (Ok _) = IsOfChanges name repository ws c old new changes
+GathersChanges name repository ws c old new changes (Err fault) =
+    AddsBlobs repository ws (contents (own_files c)) old new (Err fault)

@@ -1,9 +1,9 @@
 -- The lines of files as they are gathered, and the trees that the files stand in.
-use Rattle.std.specs.Prelude.{◌≡◌, ◌≤◌, ◌++◌, [], ◌∷◌, ℕ, Bool, true, false, length, drop, List, Option, Result, Ok, Err, IfOk, IfSome, IsTrue, OnOk}
+use Rattle.std.specs.Prelude.{◌≡◌, ◌≤◌, ◌++◌, [], ◌∷◌, ℕ, Bool, true, false, length, List, Result, Ok, Err, IfSome, IsTrue}
 use Rattle.std.specs.List.{list_all, slice_range, AllByRecursion}
 use Rattle.gx_model.specs.declared.objects.Kind.{Kind}
 use Rattle.gx_model.specs.declared.objects.Mode.{Mode}
-use Rattle.gx_model.specs.Export.{blob_commands, contents, items_text, with_blobs}
+use Rattle.gx_model.specs.Export.{contents, items_text, with_blobs}
 use Rattle.gx_model.specs.Histories.Files.{FileMap}
 use Rattle.gx_model.specs.Histories.{Records, is_in}
 use Rattle.gx_model.specs.Records.HistoryOf.{Named, contents_of, named_values}
@@ -12,13 +12,11 @@ use Rattle.gx_model.specs.Texts.Paths.{Path, is_component, is_short, path_of, pa
 use Rattle.gx_model.specs.Records.Sound.{IsHeldAs}
 use Rattle.gx_model.specs.Texts.{Bytes}
 use Rattle.gx_model.specs.Histories.Values.{Value, blob_value}
-use Rattle.gx_model.specs.Texts.Sinks.{Taken}
 use Rattle.gx_tree.specs.HeldTrees.{IsHeldEntry, IsHeldWithin}
 use Rattle.gx_tree.specs.Lists.{below}
 use Rattle.gx_tree.specs.Nodes.{Kept, kept_map}
 use Rattle.gx_export.specs.Marks.{AddsBlobs}
-use Rattle.gx_export.specs.Outputs.{Stops}
-use Rattle.gx_export.specs.Texts.{file_items, file_line, items_of}
+use Rattle.gx_export.specs.Texts.{file_items, file_line}
 use Rattle.gx_export.specs.declared.fault.ExportFault.{ExportFault}
 use Rattle.gx_export.specs.declared.lines.Directory.{Directory}
 use Rattle.gx_export.specs.declared.lines.Lines.{Lines}
@@ -91,21 +89,6 @@ TakesOver name repository ws path tree old new true =
     × ((front : Path) (g : FileMap Bytes) → path_of path ≡ Ok front → IsHeldTree name repository.records tree g → (lines : Bytes) × (new.text.items ≡ old.text.items ++ lines) × IsLinesOf repository ws (below front g) lines)
 TakesOver name repository ws path tree old new false = AreKept name repository ws new × (new.text ≡ old.text)
 
--- Where directories were kept, they stay so, and the lines of a tree's files are taken over or nothing is.
-abbrev pub MayTakeOver : {A E : Type 0} → Bytes → Bytes → Lines A → Lines A → Result Bool E → Type 0
-MayTakeOver path tree old new result =
-    (name : Kind → Bytes → Bytes) (repository : Records) (ws : List Value) → AreKept name repository ws old → IfOk result (TakesOver name repository ws path tree old new)
-
--- Where directories were kept, they stay so, if the text ends with what stood between two places of the text before.
-abbrev pub Carries : {A E : Type 0} → ℕ → ℕ → ℕ → Lines A → Lines A → Result (Unit {0}) E → Type 0
-Carries start end place old new result =
-    (name : Kind → Bytes → Bytes) (repository : Records) (ws : List Value) (before : Bytes) → old.text.items ≡ before ++ slice_range old.earlier.items start end → length before ≡ place → AreKept name repository ws old → OnOk result (AreKept name repository ws new)
-
--- Where directories were kept, they stay so, if the lines from a place on are those of a tree's files.
-abbrev pub Closes : {A : Type 0} → Bytes → Bytes → ℕ → Lines A → Lines A → Type 0
-Closes path tree start old new =
-    (name : Kind → Bytes → Bytes) (repository : Records) (ws : List Value) → AreKept name repository ws old → start ≤ length old.text.items → IsLinesOfTree name repository ws path tree (drop start old.text.items) → AreKept name repository ws new
-
 -- the line of a file stands behind those that were gathered before
 abbrev pub AppendsLine : {A : Type 0} → Lines A → Lines A → Mode → Bytes → Path → Type 0
 AppendsLine old new mode dataref path = new.text.items ≡ old.text.items ++ items_text (file_line mode dataref (printed (path_text path)) ∷ [])
@@ -113,12 +96,15 @@ AppendsLine old new mode dataref path = new.text.items ≡ old.text.items ++ ite
 -- ---- what is gathered
 
 -- the blobs of files went out, and the lines of the files stand behind those that were gathered before
-pub record IsGathered {A : Type 0} (name : Kind → Bytes → Bytes) (repository : Records) (ws : List Value) (names : FileMap Bytes) (old new : Written A) (was now : Option Taken) (before after : Lines A) : Type 0 where
-  pub adds : AddsBlobs repository ws (bytes_in (named_values repository.records) names) old new was now (Ok tt)
+pub record IsGathered {W A : Type 0} (name : Kind → Bytes → Bytes) (repository : Records) (ws : List Value)
+    (names : FileMap Bytes) (old new : Written W A) (before after : Lines A) : Type 0 where
+  pub adds : AddsBlobs repository ws (bytes_in (named_values repository.records) names) old new (Ok tt)
   pub text : after.text.items ≡ before.text.items ++ lines_text (named_values repository.records) (with_blobs ws (bytes_in (named_values repository.records) names)) names
   pub kept : AreKept name repository (with_blobs ws (bytes_in (named_values repository.records) names)) after
 
 -- Or the export stops within the blobs.
-abbrev pub Gathers : {A : Type 0} → (Kind → Bytes → Bytes) → Records → List Value → FileMap Bytes → Written A → Written A → Option Taken → Option Taken → Lines A → Lines A → Result (Unit {0}) ExportFault → Type 0
-Gathers name repository ws names old new was now before after (Ok _) = IsGathered name repository ws names old new was now before after
-Gathers name repository ws names old new was now before after (Err fault) = Stops old.bytes was now (items_text (items_of (blob_commands ws (bytes_in (named_values repository.records) names)))) fault
+abbrev pub Gathers : {W A : Type 0} → (Kind → Bytes → Bytes) → Records → List Value → FileMap Bytes
+    → Written W A → Written W A → Lines A → Lines A → Result (Unit {0}) ExportFault → Type 0
+Gathers name repository ws names old new before after (Ok _) = IsGathered name repository ws names old new before after
+Gathers name repository ws names old new before after (Err fault) =
+    AddsBlobs repository ws (bytes_in (named_values repository.records) names) old new (Err fault)

@@ -9,5 +9,4 @@ pub mod Naming
 pub mod Outputs
 pub mod Pairs
 pub mod Parts
-pub mod Sinks
 pub mod Texts

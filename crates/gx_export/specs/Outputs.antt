@@ -9,6 +9,12 @@ use Rattle.gx_export.specs.declared.fault.ExportFault.TheVariants.{OutOfMemory, 
 abbrev pub most : ℕ
 most = 2 ^ 63 - 1
 
+-- a sink, by the name of its loan, what it took, and how many bytes of a text went there
+pub record Sent : Type 0 where
+  pub name : ℕ
+  pub taken : Option Taken
+  pub bytes : ℕ
+
 -- the sink failed after this front, or its bytes are the most; of a sink that tells nothing, nothing is claimed
 abbrev pub StopsAfter : ℕ → Option Taken → Option Taken → Bytes → Type 0
 StopsAfter count None now front = ⊤
@@ -23,14 +29,19 @@ StopsAt before count was now text =
     (front : Bytes) × (rest : Bytes) × (text ≡ front ++ rest) × (0 < length rest) × (count ≡ before + length front) × StopsAfter count was now front
 
 -- what an export that stops within this text leaves
-abbrev pub Stops : ℕ → Option Taken → Option Taken → Bytes → ExportFault → Type 0
-Stops before was now text OutOfMemory = TookFront was now text
-Stops before was now text (WriteFailed count) = StopsAt before count was now text
+abbrev pub Stops : Sent → Sent → Bytes → ExportFault → Type 0
+Stops old new text OutOfMemory = TookFront old.taken new.taken text
+Stops old new text (WriteFailed count) = StopsAt old.bytes count old.taken new.taken text
 
--- A text goes out behind so many bytes, and these are then counted; or the export stops within it.
-abbrev pub Writes : ℕ → ℕ → Option Taken → Option Taken → Bytes → Result (Unit {0}) ExportFault → Type 0
-Writes before after was now text (Ok _) = (after ≡ before + length text) × (after ≤ most) × Took was now text
-Writes before after was now text (Err fault) = Stops before was now text fault
+-- a text goes out behind so many bytes, and is then counted with them; or the export stops within it
+abbrev pub Goes : Sent → Sent → Bytes → Result (Unit {0}) ExportFault → Type 0
+Goes old new text (Ok _) =
+    (new.bytes ≡ old.bytes + length text) × (old.bytes ≤ most → new.bytes ≤ most) × Took old.taken new.taken text
+Goes old new text (Err fault) = Stops old new text fault
+
+-- It goes to this sink and no other.
+abbrev pub Writes : Sent → Sent → Bytes → Result (Unit {0}) ExportFault → Type 0
+Writes old new text result = (new.name ≡ old.name) × Goes old new text result
 
 -- The sink took a text of at most 2^63 - 1 bytes; or memory ran out within this front of the text; or the sink didn't take
 -- all of it.

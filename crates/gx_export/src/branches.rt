@@ -1,13 +1,19 @@
 //! The refs that commits go out on: a branch that reaches the commit, where there is one.
 
-ghost use Rattle.std.specs.Prelude.{◌≡◌, IfOk, length, replicate};
+ghost use Rattle.std.specs.List.{list_all};
+ghost use Rattle.std.specs.Prelude.{◌≡◌, ◌≤◌, ℕ, Bool, IfOk, length, replicate};
 ghost use Rattle.gx_model.specs.declared.objects.Kind.TheVariants as kinds;
 ghost use Rattle.gx_model.specs.Changes.{is_branch};
+ghost use Rattle.gx_model.specs.Export.{is_reached};
+ghost use Rattle.gx_model.specs.Histories.Marks.{IsMarked, marks_of};
+ghost use Rattle.gx_model.specs.Histories.Values.{Commit};
+ghost use Rattle.gx_model.specs.Histories.{Records};
+ghost use Rattle.gx_model.specs.Laws.HistoryLaws.{IsParent};
 ghost use Rattle.gx_model.specs.Laws.RepositoryLaws.{values_of};
 ghost use Rattle.gx_model.specs.Records.Sound.{IsTarget};
 ghost use Rattle.gx_model.specs.Texts.{Bytes};
-ghost use Rattle.gx_rev.specs.Objects.{IsHeldAs};
-ghost use Rattle.gx_export.specs.Branches.{AreRankedBy, AreSet, AreTargets, FindsBranches, HaveTipsOf, IsBeforeMarks, IsSetAt, LowersOne, LowersParents, ReachAll, branch_at, candidates, is_ranked, shown_tips};
+ghost use Rattle.gx_rev.specs.Objects.{IsHeldAs, commit_at, parents_at};
+ghost use Rattle.gx_export.specs.Branches.{AreRankedBy, AreSet, AreTargets, FindsBranches, HaveTipsOf, IsLowered, branch_at, candidates, commit_of_ref, is_ranked, picked, refs_of, shown_tips};
 
 use gx_object::{Name, Namer};
 use gx_repo::Repo;
@@ -62,7 +68,11 @@ impl<'a, A: Allocator + Copy> Branches<'a, A> {
 
     /// Whether the refs reach all commits that are sent. Takes no memory.
     pub(crate) fn reach_all(&self, sent: &[bool]) -> bool
-        ensures { ReachAll self.now sent.now result }
+        ensures { (repository : Records) (test : Commit → Bool)
+            → FindsBranches repository sent.now self.now
+            → sent.now ≡ marks_of test (values_of repository)
+            → result ≡ list_all (is_reached (refs_of repository self.now)) (picked test (values_of
+            repository)) }
     {
         for place in 0..sent.len() {
             if sent[place] && !self.reach(place) {
@@ -106,7 +116,8 @@ fn set_refs<'a, N: Namer, A: Allocator + Copy>(
 fn is_set<N: Namer, A: Allocator + Copy>(repo: &Repo<N, A>, set: &[bool], object: &Name) -> bool
     requires target { (ref : Bytes) × IsTarget repo.now.1.records ref object.now.bytes }
     requires long { length set.now ≡ length (values_of repo.now.1) }
-    ensures { IsSetAt repo.now.1 set.now object.now result }
+    ensures { (test : Commit → Bool) → set.now ≡ marks_of test (values_of repo.now.1)
+        → result ≡ test (commit_of_ref repo.now.1 object.now.bytes) }
 {
     repo.sound();
     let Some(commit) = repo.peel(object) else {
@@ -142,7 +153,7 @@ fn is_branch(name: &[u8]) -> bool
 
 /// The first place that is marked, or behind all where none is.
 fn first_marked(marks: &[bool]) -> usize
-    ensures { IsBeforeMarks marks.now result }
+    ensures { (place : ℕ) → IsMarked marks.now place → result ≤ place }
 {
     for place in 0..marks.len() {
         if marks[place] {
@@ -215,7 +226,8 @@ fn lower_parents<N: Namer, A: Allocator + Copy>(
 )
     requires held { IsHeldAs kinds.Commit repo.now.1 commit.now }
     requires long { length ranks.old ≡ length (values_of repo.now.1) }
-    ensures { LowersParents repo.now.1 commit.now rank ranks.old ranks.new }
+    ensures { IsLowered repo.now.1 (λ parent. IsParent parent (parents_at repo.now.1
+        commit.now)) rank ranks.old ranks.new }
 {
     repo.sound();
     let view = view_of(repo, commit);
@@ -235,7 +247,8 @@ fn lower<N: Namer, A: Allocator + Copy>(
 )
     requires held { IsHeldAs kinds.Commit repo.now.1 commit.now }
     requires long { length ranks.old ≡ length (values_of repo.now.1) }
-    ensures { LowersOne repo.now.1 commit.now rank ranks.old ranks.new }
+    ensures { IsLowered repo.now.1 (λ lowered. lowered ≡ commit_at repo.now.1 commit.now) rank
+        ranks.old ranks.new }
 {
     repo.sound();
     let place = place_of(repo, commit);

@@ -1,15 +1,21 @@
 //! One commit by what differs from its first parent, after the blobs that weren't written yet.
 
-ghost use Rattle.std.specs.Prelude.{◌<◌, ◌≤◌, OnOk};
+ghost use Rattle.std.specs.Prelude.{◌<◌, ◌++◌, List, length, OnOk};
 ghost use Rattle.gx_model.specs.declared.objects.Kind.TheVariants as kinds;
-ghost use Rattle.gx_model.specs.Histories.Marks.{IsAt};
-ghost use Rattle.gx_model.specs.Histories.Values.{Commit};
-ghost use Rattle.gx_rev.specs.Objects.{IsHeldAs};
-ghost use Rattle.gx_export.specs.ChangedParts.{AddsBehindOn, AddsChangedCommit, AddsLinesOn, AddsNamedParents, AddsUnmarkedOn, KeepsChangedCommit, KeepsUnmarked, WritesDiffering};
-ghost use Rattle.gx_export.specs.Compared.{IsComparing};
+ghost use Rattle.gx_model.specs.Changes.{named_in, own_files, with_changes};
+ghost use Rattle.gx_model.specs.Export.{contents, items_text, with_blobs};
 ghost use Rattle.gx_model.specs.Faults.{NeedsNoMemory};
-ghost use Rattle.gx_export.specs.Outputs.{most};
-ghost use Rattle.gx_export.specs.Parts.{IsUnderWayBehind};
+ghost use Rattle.gx_model.specs.Histories.Files.{FileMap};
+ghost use Rattle.gx_model.specs.Histories.Marks.{IsAt};
+ghost use Rattle.gx_model.specs.Histories.Values.{Commit, Value};
+ghost use Rattle.gx_model.specs.Texts.Paths.{Path};
+ghost use Rattle.gx_model.specs.Texts.{Bytes};
+ghost use Rattle.gx_rev.specs.Objects.{IsHeldAs, commit_at};
+ghost use Rattle.gx_export.specs.ChangedParts.{AddsChanges, AreLinesOf, differing_lines, lines_on, one_on};
+ghost use Rattle.gx_export.specs.Marks.{Adds};
+ghost use Rattle.gx_export.specs.Outputs.{Writes};
+ghost use Rattle.gx_export.specs.Parts.{AddsItems, IsUnderWay, IsUnderWayBehind, Keeps, WhileUnderWay, commits_called};
+ghost use Rattle.gx_export.specs.Texts.{items_of, parents_by, root_items};
 
 use crate::ExportFault;
 use crate::changes::Changes;
@@ -17,7 +23,7 @@ use crate::commands::{write_commit_head, write_parent};
 use crate::commit::{parent_word, write_root};
 use crate::comparing::add_changes;
 use crate::naming::commit_ish;
-use crate::output::write_all;
+use crate::output::Output;
 use crate::written::Written;
 use gx_object::{CommitView, Name, Namer};
 use gx_repo::Repo;
@@ -29,22 +35,26 @@ use std::alloc::Allocator;
 pub(crate) fn write_changed_commit<N: Namer, A: Allocator + Copy, W: Sink>(
     alloc: A,
     repo: &Repo<N, A>,
-    sink: &mut W,
-    written: &mut Written<A>,
+    written: &mut Written<'_, W, A>,
     changes: &mut Changes<A>,
     branch: &[u8],
     place: usize,
 ) -> Result<(), ExportFault>
     requires commit { (made : Commit) × IsAt repo.now.1 place made }
-    requires written { IsComparing N.name_of repo.now written.old changes.old }
-    ensures adds { AddsChangedCommit N.name_of W.taken repo.now branch.now place written.old
-        written.new sink.old sink.new changes.old result }
-    ensures kept { KeepsChangedCommit N.name_of repo.now place written.old changes.old changes.new
-        result }
+    requires written { IsUnderWay N.name_of repo.now written.old changes.old.files }
+    ensures adds { (made : Commit)
+        → IsAt repo.now.1 place made
+        → WhileUnderWay N.name_of repo.now written.old changes.old.files (λ ws. Adds repo.now.1
+        (with_changes ws made) (items_of (one_on (N.name_of repo.now.0) branch.now ws made))
+        written.old written.new result) }
+    ensures kept { (made : Commit)
+        → IsAt repo.now.1 place made
+        → Keeps N.name_of repo.now written.old changes.old.files changes.new.files (λ ws.
+        with_changes ws made) result }
 {
     repo.sound();
     let commit = name_at(repo, place);
-    write_unmarked(alloc, repo, sink, written, changes, branch, &commit)?;
+    write_unmarked(alloc, repo, written, changes, branch, &commit)?;
     written.mark(place);
     Ok(())
 }
@@ -53,80 +63,81 @@ pub(crate) fn write_changed_commit<N: Namer, A: Allocator + Copy, W: Sink>(
 fn write_unmarked<N: Namer, A: Allocator + Copy, W: Sink>(
     alloc: A,
     repo: &Repo<N, A>,
-    sink: &mut W,
-    written: &mut Written<A>,
+    written: &mut Written<'_, W, A>,
     changes: &mut Changes<A>,
     branch: &[u8],
     commit: &Name,
 ) -> Result<(), ExportFault>
     requires held { IsHeldAs kinds.Commit repo.now.1 commit.now }
-    requires written { IsComparing N.name_of repo.now written.old changes.old }
-    ensures adds { AddsUnmarkedOn N.name_of W.taken repo.now branch.now commit.now written.old
-        written.new sink.old sink.new changes.old result }
-    ensures kept { KeepsUnmarked N.name_of repo.now commit.now written.old changes.old changes.new
-        result }
-    ensures room { OnOk result (written.new.count < written.new.bytes) }
+    requires written { IsUnderWay N.name_of repo.now written.old changes.old.files }
+    ensures adds { let made = commit_at repo.now.1 commit.now in WhileUnderWay N.name_of
+        repo.now written.old changes.old.files (λ ws. Adds repo.now.1 (with_blobs ws (contents
+        (own_files made))) (items_of (one_on (N.name_of repo.now.0) branch.now ws made)) written.old
+        written.new result) }
+    ensures kept { Keeps N.name_of repo.now written.old changes.old.files changes.new.files
+        (λ ws. with_blobs ws (contents (own_files (commit_at repo.now.1 commit.now)))) result }
+    ensures room { OnOk result (written.new.count < written.new.output.bytes) }
 {
     repo.sound();
-    add_changes(alloc, repo, sink, written, changes, commit)?;
+    add_changes(alloc, repo, written, changes, commit)?;
     let view = view_of(repo, commit);
-    write_behind_blobs(repo, sink, written, changes, branch, &view)
+    write_behind_blobs(repo, written, changes, branch, &view)
 }
 
 /// Writes a commit whose blobs were written and whose changes were gathered.
 fn write_behind_blobs<N: Namer, A: Allocator + Copy, W: Sink>(
     repo: &Repo<N, A>,
-    sink: &mut W,
-    written: &mut Written<A>,
+    written: &mut Written<'_, W, A>,
     changes: &Changes<A>,
     branch: &[u8],
     commit: &CommitView<'_>,
 ) -> Result<(), ExportFault>
     requires { IsUnderWayBehind repo.now.1 commit.now.parents written.old }
-    ensures adds { AddsBehindOn N.name_of W.taken repo.now commit.now branch.now changes.now
-        written.old written.new sink.old sink.new result }
+    ensures adds { AddsChanges repo.now.1 changes.now (λ ws gone own. root_items branch.now
+        (length commit.now.parents) ++ lines_on branch.now (named_in (N.name_of repo.now.0) ws) ws
+        commit.now.text (commits_called repo.now.1 commit.now.parents) gone own) written.old
+        written.new result }
     ensures memory { NeedsNoMemory ExportFault.OutOfMemory result }
 {
-    write_root(sink, &mut written.bytes, branch, commit)?;
-    write_lines(repo, sink, written, changes, branch, commit)
+    write_root(&mut written.output, branch, commit)?;
+    write_lines(repo, written, changes, branch, commit)
 }
 
 /// Writes the lines of a commit whose changes were gathered.
 fn write_lines<N: Namer, A: Allocator + Copy, W: Sink>(
     repo: &Repo<N, A>,
-    sink: &mut W,
-    written: &mut Written<A>,
+    written: &mut Written<'_, W, A>,
     changes: &Changes<A>,
     branch: &[u8],
     commit: &CommitView<'_>,
 ) -> Result<(), ExportFault>
     requires { IsUnderWayBehind repo.now.1 commit.now.parents written.old }
-    ensures adds { AddsLinesOn N.name_of W.taken repo.now commit.now branch.now changes.now
-        written.old written.new sink.old sink.new result }
+    ensures adds { AddsChanges repo.now.1 changes.now (λ ws gone own. lines_on branch.now
+        (named_in (N.name_of repo.now.0) ws) ws commit.now.text
+        (commits_called repo.now.1 commit.now.parents) gone own) written.old written.new result }
     ensures memory { NeedsNoMemory ExportFault.OutOfMemory result }
 {
-    write_commit_head(sink, &mut written.bytes, branch, written.count + 1, commit)?;
-    write_named_parents(repo, sink, written, commit)?;
-    write_differing(sink, &mut written.bytes, changes)
+    write_commit_head(&mut written.output, branch, written.count + 1, commit)?;
+    write_named_parents(repo, written, commit)?;
+    write_differing(&mut written.output, changes)
 }
 
 /// Writes the lines of a commit's parents.
 fn write_named_parents<N: Namer, A: Allocator + Copy, W: Sink>(
     repo: &Repo<N, A>,
-    sink: &mut W,
-    written: &mut Written<A>,
+    written: &mut Written<'_, W, A>,
     commit: &CommitView<'_>,
 ) -> Result<(), ExportFault>
     requires { IsUnderWayBehind repo.now.1 commit.now.parents written.old }
-    ensures adds { AddsNamedParents N.name_of W.taken repo.now commit.now.parents written.old
-        written.new sink.old sink.new result }
+    ensures adds { AddsItems repo.now.1 (λ ws. parents_by (named_in (N.name_of repo.now.0) ws)
+        (commits_called repo.now.1 commit.now.parents)) written.old written.new result }
     ensures memory { NeedsNoMemory ExportFault.OutOfMemory result }
 {
     repo.sound();
     for number in 0..commit.parent_count() {
         if let Some(parent) = commit.parent(number) {
             let named = commit_ish(repo, written, &parent);
-            write_parent(sink, &mut written.bytes, parent_word(number), named)?;
+            write_parent(&mut written.output, parent_word(number), named)?;
         }
     }
     Ok(())
@@ -134,16 +145,15 @@ fn write_named_parents<N: Namer, A: Allocator + Copy, W: Sink>(
 
 /// Writes the lines of what is gone and of what differs, and an empty line.
 fn write_differing<A: Allocator + Copy, W: Sink>(
-    sink: &mut W,
-    written: &mut u64,
+    output: &mut Output<'_, W>,
     changes: &Changes<A>,
 ) -> Result<(), ExportFault>
-    requires { written.old ≤ most }
-    ensures text { WritesDiffering W.taken changes.now written.old written.new sink.old sink.new
-        result }
+    ensures text { (ws : List Value) (gone : List Path) (own : FileMap Bytes)
+        → AreLinesOf ws gone own changes.now
+        → Writes output.old output.new (items_text (differing_lines ws gone own)) result }
     ensures memory { NeedsNoMemory ExportFault.OutOfMemory result }
 {
     let gone = changes.gone.as_slice();
     let files = changes.files.text.as_slice();
-    write_all(sink, written, &[gone, files, b"\n"])
+    output.write_all(&[gone, files, b"\n"])
 }

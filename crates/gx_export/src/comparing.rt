@@ -2,10 +2,14 @@
 
 ghost use Rattle.std.specs.Prelude.{◌≡◌, false, IfSome};
 ghost use Rattle.gx_model.specs.declared.objects.Kind.TheVariants as kinds;
-ghost use Rattle.gx_rev.specs.Objects.{IsHeldAs};
-ghost use Rattle.gx_export.specs.Compared.{ComparesCommit, ComparesFile, ComparesPair, ComparesTrees, HasFileIf, HasPairBelow, HasTreesBelow, IsComparing, IsOneOf, IsTreeIf, entries_if, tree_if};
-ghost use Rattle.gx_export.specs.Pairs.{is_same, shown_pair};
+ghost use Rattle.gx_model.specs.Histories.Files.{FileMap};
+ghost use Rattle.gx_model.specs.Texts.{Bytes};
 ghost use Rattle.gx_object.specs.Parts.{bytes_if};
+ghost use Rattle.gx_rev.specs.Objects.{IsHeldAs, commit_at};
+ghost use Rattle.gx_tree.specs.Nodes.{Level, files};
+ghost use Rattle.gx_export.specs.Compared.{Compares, ComparesMaps, GathersChanges, HasFileIf, IsBelowIf, IsPairBelow, IsTreeIf, entries_if, file_if, or_other, path_unless, tree_if};
+ghost use Rattle.gx_export.specs.Pairs.{is_same, shown_pair};
+ghost use Rattle.gx_export.specs.Parts.{IsUnderWay, WhileUnderWay};
 
 use crate::ExportFault;
 use crate::changes::Changes;
@@ -24,15 +28,15 @@ use std::alloc::Allocator;
 pub(crate) fn add_changes<N: Namer, A: Allocator + Copy, W: Sink>(
     alloc: A,
     repo: &Repo<N, A>,
-    sink: &mut W,
-    written: &mut Written<A>,
+    written: &mut Written<'_, W, A>,
     changes: &mut Changes<A>,
     commit: &Name,
 ) -> Result<(), ExportFault>
     requires held { IsHeldAs kinds.Commit repo.now.1 commit.now }
-    requires written { IsComparing N.name_of repo.now written.old changes.old }
-    ensures { ComparesCommit N.name_of W.taken repo.now commit.now written.old written.new sink.old
-        sink.new changes.old changes.new result }
+    requires written { IsUnderWay N.name_of repo.now written.old changes.old.files }
+    ensures { WhileUnderWay N.name_of repo.now written.old changes.old.files (λ ws.
+        GathersChanges (N.name_of repo.now.0) repo.now.1 ws (commit_at repo.now.1 commit.now)
+        written.old written.new changes.new result) }
 {
     repo.sound();
     let view = view_of(repo, commit);
@@ -42,7 +46,6 @@ pub(crate) fn add_changes<N: Namer, A: Allocator + Copy, W: Sink>(
     compare_trees(
         alloc,
         repo,
-        sink,
         written,
         changes,
         &root,
@@ -69,22 +72,27 @@ fn tree_of<N: Namer, A: Allocator + Copy>(repo: &Repo<N, A>, commit: Option<Name
 fn compare_trees<N: Namer, A: Allocator + Copy, W: Sink>(
     alloc: A,
     repo: &Repo<N, A>,
-    sink: &mut W,
-    written: &mut Written<A>,
+    written: &mut Written<'_, W, A>,
     changes: &mut Changes<A>,
     front: &TreePath<A>,
     old: Option<Name>,
     new: Option<Name>,
     room: usize,
 ) -> Result<(), ExportFault>
-    requires held { HasTreesBelow N.name_of repo.now room front.now old new }
-    requires written { IsComparing N.name_of repo.now written.old changes.old }
-    ensures { ComparesTrees N.name_of W.taken repo.now room front.now old new written.old
-        written.new sink.old sink.new changes.old changes.new result }
+    requires held { (f : FileMap Bytes) × (g : FileMap Bytes)
+        × IsBelowIf (N.name_of repo.now.0) repo.now.1 room front.now (bytes_if old) f
+        × IsBelowIf (N.name_of repo.now.0) repo.now.1 room front.now (bytes_if new) g }
+    requires written { IsUnderWay N.name_of repo.now written.old changes.old.files }
+    ensures { (f g : FileMap Bytes)
+        → IsBelowIf (N.name_of repo.now.0) repo.now.1 room front.now (bytes_if old) f
+        → IsBelowIf (N.name_of repo.now.0) repo.now.1 room front.now (bytes_if new) g
+        → WhileUnderWay N.name_of repo.now written.old changes.old.files (λ ws. ComparesMaps
+        (N.name_of repo.now.0) repo.now.1 ws front.now f g written.old written.new changes.old
+        changes.new result) }
 {
     for pair in Pairs::new(entries_in(repo, old), entries_in(repo, new)) {
         if !is_same(&pair) {
-            compare_pair(alloc, repo, sink, written, changes, front, &pair, room)?;
+            compare_pair(alloc, repo, written, changes, front, &pair, room)?;
         }
     }
     Ok(())
@@ -95,25 +103,28 @@ fn compare_trees<N: Namer, A: Allocator + Copy, W: Sink>(
 fn compare_pair<N: Namer, A: Allocator + Copy, W: Sink>(
     alloc: A,
     repo: &Repo<N, A>,
-    sink: &mut W,
-    written: &mut Written<A>,
+    written: &mut Written<'_, W, A>,
     changes: &mut Changes<A>,
     front: &TreePath<A>,
     pair: &Pair<'_>,
     room: usize,
 ) -> Result<(), ExportFault>
-    requires held { HasPairBelow N.name_of repo.now room front.now pair.now }
-    requires written { IsComparing N.name_of repo.now written.old changes.old }
+    requires held { (p : Level × Level)
+        × IsPairBelow (N.name_of repo.now.0) repo.now.1 room front.now pair.now p }
+    requires written { IsUnderWay N.name_of repo.now written.old changes.old.files }
     requires other { is_same (shown_pair pair.now) ≡ false }
-    ensures { ComparesPair N.name_of W.taken repo.now room front.now pair.now written.old
-        written.new sink.old sink.new changes.old changes.new result }
+    ensures { (p : Level × Level)
+        → IsPairBelow (N.name_of repo.now.0) repo.now.1 room front.now pair.now p
+        → WhileUnderWay N.name_of repo.now written.old changes.old.files (λ ws. ComparesMaps
+        (N.name_of repo.now.0) repo.now.1 ws front.now (files p.0) (files p.1) written.old
+        written.new changes.old changes.new result) }
 {
     let Some(entry) = one_of(pair) else {
         unreachable!();
     };
     let path = child(alloc, front, entry.component)?;
     if entry.mode != Mode::Dir {
-        return compare_files(repo, sink, written, changes, &path, &pair.new);
+        return compare_files(repo, written, changes, &path, &pair.new);
     }
     let used = entry.component.len();
     if used >= room {
@@ -122,7 +133,6 @@ fn compare_pair<N: Namer, A: Allocator + Copy, W: Sink>(
     compare_trees(
         alloc,
         repo,
-        sink,
         written,
         changes,
         &path,
@@ -135,37 +145,29 @@ fn compare_pair<N: Namer, A: Allocator + Copy, W: Sink>(
 /// Gathers the line of a file that is gone, or writes the blob of one that is new or another and gathers its line.
 fn compare_files<N: Namer, A: Allocator + Copy, W: Sink>(
     repo: &Repo<N, A>,
-    sink: &mut W,
-    written: &mut Written<A>,
+    written: &mut Written<'_, W, A>,
     changes: &mut Changes<A>,
     path: &TreePath<A>,
     new: &Option<Entry<'_>>,
 ) -> Result<(), ExportFault>
     requires held { HasFileIf repo.now.1 new.now }
-    requires written { IsComparing N.name_of repo.now written.old changes.old }
-    ensures { ComparesFile N.name_of W.taken repo.now path.now new.now written.old written.new
-        sink.old sink.new changes.old changes.new result }
+    requires written { IsUnderWay N.name_of repo.now written.old changes.old.files }
+    ensures { WhileUnderWay N.name_of repo.now written.old changes.old.files (λ ws. Compares
+        (N.name_of repo.now.0) repo.now.1 ws (file_if path.now new.now) (path_unless path.now
+        new.now) written.old written.new changes.old changes.new result) }
 {
     match new {
         None => {
             changes.add_gone(path)?;
             Ok(())
         }
-        Some(new) => add_file(
-            repo,
-            sink,
-            written,
-            &mut changes.files,
-            path,
-            new.mode,
-            &new.name,
-        ),
+        Some(new) => add_file(repo, written, &mut changes.files, path, new.mode, &new.name),
     }
 }
 
 /// An entry of a pair: both are at one component, and both are directories or none is.
 fn one_of<'a>(pair: &Pair<'a>) -> Option<Entry<'a>>
-    ensures { IsOneOf pair.now result }
+    ensures { result ≡ or_other pair.now.old pair.now.new }
 {
     match pair.old {
         Some(old) => Some(old),

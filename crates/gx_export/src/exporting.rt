@@ -1,19 +1,21 @@
 //! Exports of whole repositories. Source: git-fast-export(1).
 
-ghost use Rattle.std.specs.Prelude.{◌≡◌, ◌≤◌, List};
-ghost use Rattle.gx_model.specs.Histories.Values.{Value};
-ghost use Rattle.gx_export.specs.Exports.{Exports};
+ghost use Rattle.std.specs.Prelude.{◌≡◌, [], List};
+ghost use Rattle.gx_model.specs.Export.{all_written, commit_commands, items_text, reached_commits};
 ghost use Rattle.gx_model.specs.Faults.{NeedsNoMemory};
-ghost use Rattle.gx_export.specs.Marks.{HasWritten};
-ghost use Rattle.gx_export.specs.Outputs.{most};
-ghost use Rattle.gx_export.specs.Parts.{AddsFront, AddsReachedCommits, AddsRest, IsToBegin};
-ghost use Rattle.gx_export.specs.Sinks.{WritesLast};
+ghost use Rattle.gx_model.specs.Histories.Values.{Value};
+ghost use Rattle.gx_model.specs.Records.HistoryOf.{history_of};
+ghost use Rattle.gx_export.specs.Exports.{Exports, front_items, rest_items};
+ghost use Rattle.gx_export.specs.Marks.{Adds, HasWritten};
+ghost use Rattle.gx_export.specs.Outputs.{Writes};
+ghost use Rattle.gx_export.specs.Parts.{AddsItems, IsToBegin};
+ghost use Rattle.gx_export.specs.Texts.{items_of, last_items};
 
 use crate::ExportFault;
 use crate::commands::write_reset;
 use crate::commit::write_commit;
 use crate::lines::Lines;
-use crate::output::write;
+use crate::output::Output;
 use crate::refs::write_refs;
 use crate::written::Written;
 use gx_object::Namer;
@@ -40,56 +42,59 @@ pub fn export<N: Namer, A: Allocator + Copy, W: Sink>(
     ensures { Exports repo.now.1 (W.taken sink.old) (W.taken sink.new) result }
 {
     let reached = reached_from_refs(alloc, repo)?;
-    let mut written = Written::new(alloc, repo.store().len())?;
-    write_text(alloc, repo, sink, &mut written, &reached)
+    let marks = vec![in alloc; 0; repo.store().len()]?;
+    let mut written = Written::new(sink, marks);
+    let result = write_text(alloc, repo, &mut written, &reached);
+    let _ = written.into_sink();
+    result
 }
 
 /// Writes the whole text, of which nothing was written yet.
 fn write_text<N: Namer, A: Allocator + Copy, W: Sink>(
     alloc: A,
     repo: &Repo<N, A>,
-    sink: &mut W,
-    written: &mut Written<A>,
+    written: &mut Written<'_, W, A>,
     reached: &[bool],
 ) -> Result<(), ExportFault>
     requires begins { IsToBegin repo.now.1 reached.now written.old }
-    requires bytes { written.old.bytes ≡ 0 }
-    ensures { Exports repo.now.1 (W.taken sink.old) (W.taken sink.new) result }
+    requires bytes { written.old.output.bytes ≡ 0 }
+    ensures name { written.new.output.name ≡ written.old.output.name }
+    ensures text { Exports repo.now.1 written.old.output.taken written.new.output.taken result }
 {
-    write_front(alloc, repo, sink, written, reached)?;
-    write_rest(repo, sink, written)
+    write_front(alloc, repo, written, reached)?;
+    write_rest(repo, written)
 }
 
 /// Writes the text up to the last commit.
 fn write_front<N: Namer, A: Allocator + Copy, W: Sink>(
     alloc: A,
     repo: &Repo<N, A>,
-    sink: &mut W,
-    written: &mut Written<A>,
+    written: &mut Written<'_, W, A>,
     reached: &[bool],
 ) -> Result<(), ExportFault>
     requires { IsToBegin repo.now.1 reached.now written.old }
-    ensures { AddsFront W.taken repo.now.1 written.old written.new sink.old sink.new result }
+    ensures { let h = history_of repo.now.1 in Adds repo.now.1 (all_written (reached_commits h))
+        (front_items h) written.old written.new result }
 {
-    write(sink, &mut written.bytes, b"feature done\n")?;
-    write_commits(alloc, repo, sink, written, reached)
+    written.output.write(b"feature done\n")?;
+    write_commits(alloc, repo, written, reached)
 }
 
 /// Writes the commits that are reached.
 fn write_commits<N: Namer, A: Allocator + Copy, W: Sink>(
     alloc: A,
     repo: &Repo<N, A>,
-    sink: &mut W,
-    written: &mut Written<A>,
+    written: &mut Written<'_, W, A>,
     reached: &[bool],
 ) -> Result<(), ExportFault>
     requires { IsToBegin repo.now.1 reached.now written.old }
-    ensures { AddsReachedCommits W.taken repo.now.1 written.old written.new sink.old sink.new result }
+    ensures { let commits = reached_commits (history_of repo.now.1) in Adds repo.now.1
+        (all_written commits) (items_of (commit_commands [] commits)) written.old written.new result }
 {
     let mut lines = Lines::new(alloc);
     for place in 0..reached.len() {
         if reached[place] {
-            write_commit(alloc, repo, sink, written, &mut lines, place)?;
+            write_commit(alloc, repo, written, &mut lines, place)?;
         }
     }
     Ok(())
@@ -98,26 +103,25 @@ fn write_commits<N: Namer, A: Allocator + Copy, W: Sink>(
 /// Writes the text behind the commits.
 fn write_rest<N: Namer, A: Allocator + Copy, W: Sink>(
     repo: &Repo<N, A>,
-    sink: &mut W,
-    written: &mut Written<A>,
+    written: &mut Written<'_, W, A>,
 ) -> Result<(), ExportFault>
     requires written { (ws : List Value) × HasWritten repo.now.1 ws written.old }
-    ensures adds { AddsRest W.taken repo.now.1 written.old written.new sink.old sink.new result }
+    ensures adds { AddsItems repo.now.1 (rest_items (history_of repo.now.1)) written.old
+        written.new result }
     ensures memory { NeedsNoMemory ExportFault.OutOfMemory result }
 {
-    write_last(sink, &mut written.bytes, written.count)?;
-    write_refs(repo, sink, written)?;
-    write(sink, &mut written.bytes, b"done\n")
+    write_last(&mut written.output, written.count)?;
+    write_refs(repo, written)?;
+    written.output.write(b"done\n")
 }
 
 /// Writes the reset behind the commits, where so many marks were given.
-fn write_last<W: Sink>(sink: &mut W, written: &mut u64, marks: u64) -> Result<(), ExportFault>
-    requires { written.old ≤ most }
-    ensures text { WritesLast W.taken marks written.old written.new sink.old sink.new result }
+fn write_last<W: Sink>(output: &mut Output<'_, W>, marks: u64) -> Result<(), ExportFault>
+    ensures text { Writes output.old output.new (items_text (last_items marks)) result }
     ensures memory { NeedsNoMemory ExportFault.OutOfMemory result }
 {
     if marks > 0 {
-        return write_reset(sink, written, b"refs/gx/export");
+        return write_reset(output, b"refs/gx/export");
     }
     Ok(())
 }

@@ -1,22 +1,33 @@
 //! Exports of changes. Source: git-fast-export(1).
 
-ghost use Rattle.std.specs.Prelude.{◌≡◌, ◌≤◌, [], List, length, map};
-ghost use Rattle.gx_model.specs.Histories.Values.{Value};
+ghost use Rattle.std.specs.List.{filter};
+ghost use Rattle.std.specs.Prelude.{◌≡◌, [], Bool, List, length, map};
+ghost use Rattle.gx_model.specs.Changes.{all_changes, carrier_reset, commits_with_changes, named_in};
+ghost use Rattle.gx_model.specs.Export.{command_items, items_text, ref_by};
+ghost use Rattle.gx_model.specs.Faults.{NeedsNoMemory};
+ghost use Rattle.gx_model.specs.Histories.Marks.{marks_of};
+ghost use Rattle.gx_model.specs.Histories.Values.{Commit, Value};
+ghost use Rattle.gx_model.specs.Histories.{Records};
+ghost use Rattle.gx_model.specs.Laws.RepositoryLaws.{values_of};
+ghost use Rattle.gx_model.specs.Records.HistoryOf.{history_of, target_in};
 ghost use Rattle.gx_model.specs.Records.Sound.{IsTarget};
+ghost use Rattle.gx_model.specs.Replay.{peeled_at};
+ghost use Rattle.gx_rev.specs.Objects.{value_at};
 ghost use Rattle.gx_rev.specs.Views.{shown_range};
 ghost use Rattle.gx_rev.specs.Walking.{AreWithout};
-ghost use Rattle.gx_export.specs.Branches.{AreTargets, FindsBranches};
-ghost use Rattle.gx_export.specs.ChangedParts.{AddsNamedRef, AddsNamedRefs, AddsSendingFront, AddsSendingRest, AddsSentCommits, AreCommitMarks, AreEither, ExportsChanges, ExportsRange, SendsMarked, SendsOn, WritesCarrier, WritesItems, closing, opening};
-ghost use Rattle.gx_model.specs.Faults.{NeedsNoMemory};
-ghost use Rattle.gx_export.specs.Marks.{HasWritten};
-ghost use Rattle.gx_export.specs.Outputs.{most};
+ghost use Rattle.gx_export.specs.Branches.{AreTargets, FindsBranches, picked, refs_of, shown_tips, targets};
+ghost use Rattle.gx_export.specs.ChangedParts.{AreCommitMarks, AreEither, ExportsChanges, ExportsRange, SendsText, closing, opening, sending_front, sending_rest};
+ghost use Rattle.gx_export.specs.Marks.{Adds, HasWritten};
+ghost use Rattle.gx_export.specs.Outputs.{Writes};
+ghost use Rattle.gx_export.specs.Parts.{AddsItems};
+ghost use Rattle.gx_export.specs.Texts.{items_of};
 
 use crate::branches::Branches;
 use crate::changed_commit::write_changed_commit;
 use crate::changes::Changes;
 use crate::commands::{write_reset, write_reset_to, write_tag};
 use crate::naming::commit_ish;
-use crate::output::write;
+use crate::output::Output;
 use crate::written::Written;
 use crate::{ExportFault, RangeFault};
 use gx_object::{Name, Namer};
@@ -105,20 +116,26 @@ fn write_sent<N: Namer, A: Allocator + Copy, W: Sink>(
 ) -> Result<(), ExportFault>
     requires sent { AreCommitMarks repo.now.1 sent.now }
     requires set { AreCommitMarks repo.now.1 set.now }
-    ensures { SendsMarked N.name_of W.taken repo.now closed sent.now set.now sink.old sink.new
-        result }
+    ensures { (test wanted : Commit → Bool)
+        → sent.now ≡ marks_of test (values_of repo.now.1)
+        → set.now ≡ marks_of wanted (values_of repo.now.1)
+        → SendsText (N.name_of repo.now.0) closed (picked test (values_of repo.now.1)) (filter (λ
+        ref. wanted (peeled_at ref.1)) (history_of repo.now.1).refs) (W.taken sink.old) (W.taken
+        sink.new) result }
 {
     let branches = Branches::new(alloc, repo, sent, set)?;
-    let mut written = Written::new(alloc, repo.store().len())?;
-    write_text(alloc, repo, sink, &mut written, &branches, sent, closed)
+    let marks = vec![in alloc; 0; repo.store().len()]?;
+    let mut written = Written::new(sink, marks);
+    let result = write_text(alloc, repo, &mut written, &branches, sent, closed);
+    let _ = written.into_sink();
+    result
 }
 
 /// Writes the whole text, of which nothing was written yet.
 fn write_text<N: Namer, A: Allocator + Copy, W: Sink>(
     alloc: A,
     repo: &Repo<N, A>,
-    sink: &mut W,
-    written: &mut Written<A>,
+    written: &mut Written<'_, W, A>,
     branches: &Branches<'_, A>,
     sent: &[bool],
     closed: bool,
@@ -126,20 +143,21 @@ fn write_text<N: Namer, A: Allocator + Copy, W: Sink>(
     requires sent { AreCommitMarks repo.now.1 sent.now }
     requires branches { FindsBranches repo.now.1 sent.now branches.now }
     requires written { HasWritten repo.now.1 [] written.old }
-    requires bytes { written.old.bytes ≡ 0 }
-    ensures { SendsOn N.name_of W.taken repo.now closed branches.now sent.now sink.old sink.new
-        result }
+    requires bytes { written.old.output.bytes ≡ 0 }
+    ensures name { written.new.output.name ≡ written.old.output.name }
+    ensures text { (test : Commit → Bool) → sent.now ≡ marks_of test (values_of repo.now.1)
+        → SendsText (N.name_of repo.now.0) closed (picked test (values_of repo.now.1))
+        (refs_of repo.now.1 branches.now) written.old.output.taken written.new.output.taken result }
 {
-    write_front(alloc, repo, sink, written, branches, sent, closed)?;
-    write_rest(repo, sink, written, branches, sent, closed)
+    write_front(alloc, repo, written, branches, sent, closed)?;
+    write_rest(repo, written, branches, sent, closed)
 }
 
 /// Writes the text up to the last commit.
 fn write_front<N: Namer, A: Allocator + Copy, W: Sink>(
     alloc: A,
     repo: &Repo<N, A>,
-    sink: &mut W,
-    written: &mut Written<A>,
+    written: &mut Written<'_, W, A>,
     branches: &Branches<'_, A>,
     sent: &[bool],
     closed: bool,
@@ -147,22 +165,22 @@ fn write_front<N: Namer, A: Allocator + Copy, W: Sink>(
     requires sent { AreCommitMarks repo.now.1 sent.now }
     requires branches { FindsBranches repo.now.1 sent.now branches.now }
     requires written { HasWritten repo.now.1 [] written.old }
-    ensures { AddsSendingFront N.name_of W.taken repo.now closed branches.now sent.now written.old
-        written.new sink.old sink.new result }
+    ensures { (test : Commit → Bool) → sent.now ≡ marks_of test (values_of repo.now.1)
+        → Adds repo.now.1 (all_changes (picked test (values_of repo.now.1)))
+        (sending_front (N.name_of repo.now.0) closed (picked test (values_of repo.now.1))
+        (refs_of repo.now.1 branches.now)) written.old written.new result }
 {
-    write_opening(sink, &mut written.bytes, closed)?;
-    write_commits(alloc, repo, sink, written, branches, sent)
+    write_opening(&mut written.output, closed)?;
+    write_commits(alloc, repo, written, branches, sent)
 }
 
 /// Writes the line that tells that `done` comes, where it does.
-fn write_opening<W: Sink>(sink: &mut W, written: &mut u64, closed: bool) -> Result<(), ExportFault>
-    requires { written.old ≤ most }
-    ensures text { WritesItems W.taken (opening closed) written.old written.new sink.old sink.new
-        result }
+fn write_opening<W: Sink>(output: &mut Output<'_, W>, closed: bool) -> Result<(), ExportFault>
+    ensures text { Writes output.old output.new (items_text (opening closed)) result }
     ensures memory { NeedsNoMemory ExportFault.OutOfMemory result }
 {
     if closed {
-        return write(sink, written, b"feature done\n");
+        return output.write(b"feature done\n");
     }
     Ok(())
 }
@@ -171,22 +189,23 @@ fn write_opening<W: Sink>(sink: &mut W, written: &mut u64, closed: bool) -> Resu
 fn write_commits<N: Namer, A: Allocator + Copy, W: Sink>(
     alloc: A,
     repo: &Repo<N, A>,
-    sink: &mut W,
-    written: &mut Written<A>,
+    written: &mut Written<'_, W, A>,
     branches: &Branches<'_, A>,
     sent: &[bool],
 ) -> Result<(), ExportFault>
     requires sent { AreCommitMarks repo.now.1 sent.now }
     requires branches { FindsBranches repo.now.1 sent.now branches.now }
     requires written { HasWritten repo.now.1 [] written.old }
-    ensures { AddsSentCommits N.name_of W.taken repo.now branches.now sent.now written.old
-        written.new sink.old sink.new result }
+    ensures { (test : Commit → Bool) → sent.now ≡ marks_of test (values_of repo.now.1)
+        → Adds repo.now.1 (all_changes (picked test (values_of repo.now.1)))
+        (items_of (commits_with_changes (N.name_of repo.now.0) (refs_of repo.now.1 branches.now) []
+        (picked test (values_of repo.now.1)))) written.old written.new result }
 {
     let mut changes = Changes::new(alloc);
     for place in 0..sent.len() {
         if sent[place] {
             let branch = branches.of(place);
-            write_changed_commit(alloc, repo, sink, written, &mut changes, branch, place)?;
+            write_changed_commit(alloc, repo, written, &mut changes, branch, place)?;
         }
     }
     Ok(())
@@ -195,8 +214,7 @@ fn write_commits<N: Namer, A: Allocator + Copy, W: Sink>(
 /// Writes the text behind the commits.
 fn write_rest<N: Namer, A: Allocator + Copy, W: Sink>(
     repo: &Repo<N, A>,
-    sink: &mut W,
-    written: &mut Written<A>,
+    written: &mut Written<'_, W, A>,
     branches: &Branches<'_, A>,
     sent: &[bool],
     closed: bool,
@@ -204,42 +222,43 @@ fn write_rest<N: Namer, A: Allocator + Copy, W: Sink>(
     requires sent { AreCommitMarks repo.now.1 sent.now }
     requires branches { FindsBranches repo.now.1 sent.now branches.now }
     requires written { (ws : List Value) × HasWritten repo.now.1 ws written.old }
-    ensures adds { AddsSendingRest N.name_of W.taken repo.now closed branches.now sent.now
-        written.old written.new sink.old sink.new result }
+    ensures adds { (test : Commit → Bool)
+        → sent.now ≡ marks_of test (values_of repo.now.1)
+        → AddsItems repo.now.1 (sending_rest (N.name_of repo.now.0) closed (picked test (values_of
+        repo.now.1)) (refs_of repo.now.1 branches.now)) written.old written.new result }
     ensures memory { NeedsNoMemory ExportFault.OutOfMemory result }
 {
-    write_carrier(sink, &mut written.bytes, branches, sent)?;
-    write_refs(repo, sink, written, &branches.refs)?;
-    write_closing(sink, &mut written.bytes, closed)
+    write_carrier(&mut written.output, branches, sent)?;
+    write_refs(repo, written, &branches.refs)?;
+    write_closing(&mut written.output, closed)
 }
 
 /// Writes the reset of the export's own branch, where a commit went out on it.
 fn write_carrier<A: Allocator + Copy, W: Sink>(
-    sink: &mut W,
-    written: &mut u64,
+    output: &mut Output<'_, W>,
     branches: &Branches<'_, A>,
     sent: &[bool],
 ) -> Result<(), ExportFault>
-    requires { written.old ≤ most }
-    ensures text { WritesCarrier W.taken branches.now sent.now written.old written.new sink.old
-        sink.new result }
+    ensures text { (repository : Records) (test : Commit → Bool)
+        → FindsBranches repository sent.now branches.now
+        → sent.now ≡ marks_of test (values_of repository)
+        → Writes output.old output.new (items_text (items_of (carrier_reset (refs_of repository
+        branches.now) (picked test (values_of repository))))) result }
     ensures memory { NeedsNoMemory ExportFault.OutOfMemory result }
 {
     if branches.reach_all(sent) {
         return Ok(());
     }
-    write_reset(sink, written, b"refs/gx/export")
+    write_reset(output, b"refs/gx/export")
 }
 
 /// Writes the line that closes a stream, where it is to be closed.
-fn write_closing<W: Sink>(sink: &mut W, written: &mut u64, closed: bool) -> Result<(), ExportFault>
-    requires { written.old ≤ most }
-    ensures text { WritesItems W.taken (closing closed) written.old written.new sink.old sink.new
-        result }
+fn write_closing<W: Sink>(output: &mut Output<'_, W>, closed: bool) -> Result<(), ExportFault>
+    ensures text { Writes output.old output.new (items_text (closing closed)) result }
     ensures memory { NeedsNoMemory ExportFault.OutOfMemory result }
 {
     if closed {
-        return write(sink, written, b"done\n");
+        return output.write(b"done\n");
     }
     Ok(())
 }
@@ -247,18 +266,17 @@ fn write_closing<W: Sink>(sink: &mut W, written: &mut u64, closed: bool) -> Resu
 /// Writes refs of the repository.
 fn write_refs<N: Namer, A: Allocator + Copy, W: Sink>(
     repo: &Repo<N, A>,
-    sink: &mut W,
-    written: &mut Written<A>,
+    written: &mut Written<'_, W, A>,
     refs: &[(&[u8], Name)],
 ) -> Result<(), ExportFault>
     requires targets { AreTargets repo.now.1 refs.now }
     requires written { (ws : List Value) × HasWritten repo.now.1 ws written.old }
-    ensures adds { AddsNamedRefs N.name_of W.taken repo.now refs.now written.old written.new
-        sink.old sink.new result }
+    ensures adds { AddsItems repo.now.1 (λ ws. items_of (map (ref_by (named_in (N.name_of
+        repo.now.0) ws)) (targets repo.now.1 (shown_tips refs.now)))) written.old written.new result }
     ensures memory { NeedsNoMemory ExportFault.OutOfMemory result }
 {
     for tip in refs {
-        write_ref(repo, sink, written, tip.0, &tip.1)?;
+        write_ref(repo, written, tip.0, &tip.1)?;
     }
     Ok(())
 }
@@ -266,26 +284,26 @@ fn write_refs<N: Namer, A: Allocator + Copy, W: Sink>(
 /// Writes a ref: a reset where it holds a commit, and a tag where it holds a tag.
 fn write_ref<N: Namer, A: Allocator + Copy, W: Sink>(
     repo: &Repo<N, A>,
-    sink: &mut W,
-    written: &mut Written<A>,
+    written: &mut Written<'_, W, A>,
     name: &[u8],
     object: &Name,
 ) -> Result<(), ExportFault>
     requires target { IsTarget repo.now.1.records name.now object.now.bytes }
     requires written { (ws : List Value) × HasWritten repo.now.1 ws written.old }
-    ensures adds { AddsNamedRef N.name_of W.taken repo.now name.now object.now written.old
-        written.new sink.old sink.new result }
+    ensures adds { AddsItems repo.now.1 (λ ws. command_items (ref_by (named_in (N.name_of
+        repo.now.0) ws) (name.now, target_in (value_at repo.now.1 object.now)))) written.old
+        written.new result }
     ensures memory { NeedsNoMemory ExportFault.OutOfMemory result }
 {
     repo.sound();
     match tag_of(repo, object) {
         None => {
             let commit = commit_ish(repo, written, object);
-            write_reset_to(sink, &mut written.bytes, name, commit)
+            write_reset_to(&mut written.output, name, commit)
         }
         Some(tag) => {
             let commit = commit_ish(repo, written, &tag.object());
-            write_tag(sink, &mut written.bytes, &tag, commit)
+            write_tag(&mut written.output, &tag, commit)
         }
     }
 }

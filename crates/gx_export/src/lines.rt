@@ -1,11 +1,16 @@
 //! The lines of a commit's files, which are gathered before they go out. Those of a directory that stays are taken over
 //! from the commit before.
 
-ghost use Rattle.std.specs.Prelude.{◌≡◌, ◌≤◌, ◌+◌, ◌-◌, ◌++◌, [], true, length, Some, OnOk};
+ghost use Rattle.std.specs.List.{slice_range};
+ghost use Rattle.std.specs.Prelude.{◌≡◌, ◌≤◌, ◌+◌, ◌-◌, ◌++◌, [], true, drop, length, List, Some, IfOk, OnOk};
+ghost use Rattle.gx_model.specs.declared.objects.Kind.{Kind};
 ghost use Rattle.gx_model.specs.declared.objects.Mode.TheVariants.{Gitlink};
 ghost use Rattle.gx_model.specs.Export.{mark_text, mode_digits};
+ghost use Rattle.gx_model.specs.Histories.Values.{Value};
+ghost use Rattle.gx_model.specs.Histories.{Records};
 ghost use Rattle.gx_model.specs.Objects.{hex};
-ghost use Rattle.gx_export.specs.FileTexts.{AppendsLine, Carries, Closes, IsAlwaysKept, MayTakeOver, StaysKept};
+ghost use Rattle.gx_model.specs.Texts.{Bytes};
+ghost use Rattle.gx_export.specs.FileTexts.{AppendsLine, AreKept, IsAlwaysKept, IsLinesOfTree, StaysKept, TakesOver};
 ghost use Rattle.gx_export.specs.Texts.{line_end, parts_text};
 
 use gx_object::{Mode, Name};
@@ -65,7 +70,9 @@ impl<A: Allocator + Copy> Lines<A> {
     /// Appends the lines that the directory at a path had in the commit before, where its tree is the same. What stands
     /// below it is known then, too.
     pub(crate) fn take_over(&mut self, path: &[u8], tree: &Name) -> Result<bool, AllocError>
-        ensures { MayTakeOver path.now tree.now.bytes self.old self.new result }
+        ensures { (name : Kind → Bytes → Bytes) (repository : Records) (ws : List Value)
+            → AreKept name repository ws self.old
+            → IfOk result (TakesOver name repository ws path.now tree.now.bytes self.old self.new) }
     {
         self.pass(path);
         if self.next >= self.left.len() {
@@ -99,7 +106,12 @@ impl<A: Allocator + Copy> Lines<A> {
         requires order { start ≤ end }
         requires room { place + (end - start) ≤ length self.old.text.items }
         ensures text { self.new.text ≡ self.old.text }
-        ensures kept { Carries start end place self.old self.new result }
+        ensures kept { (name : Kind → Bytes → Bytes) (repository : Records) (ws : List Value)
+            (before : Bytes)
+            → self.old.text.items ≡ before ++ slice_range self.old.earlier.items start end
+            → length before ≡ place
+            → AreKept name repository ws self.old
+            → OnOk result (AreKept name repository ws self.new) }
     {
         while self.next < self.left.len() && stands_within(&self.left[self.next], start, end) {
             let empty = Directory {
@@ -144,7 +156,12 @@ impl<A: Allocator + Copy> Lines<A> {
     /// The lines of the directory with a number are those from a place on.
     pub(crate) fn close(&mut self, number: usize, path: &[u8], tree: &Name, start: usize)
         ensures text { self.new.text ≡ self.old.text }
-        ensures kept { Closes path.now tree.now.bytes start self.old self.new }
+        ensures kept { (name : Kind → Bytes → Bytes) (repository : Records) (ws : List Value)
+            → AreKept name repository ws self.old
+            → start ≤ length self.old.text.items
+            → IsLinesOfTree name repository ws path.now tree.now.bytes (drop start
+            self.old.text.items)
+            → AreKept name repository ws self.new }
     {
         if number >= self.directories.len() {
             return;
@@ -184,7 +201,8 @@ impl<A: Allocator + Copy> Lines<A> {
 
     /// Appends the line of a gitlink.
     pub(crate) fn add_gitlink(&mut self, name: &Name, path: &TreePath<A>) -> Result<(), AllocError>
-        ensures text { OnOk result (AppendsLine self.old self.new Gitlink (hex name.now.bytes) path.now) }
+        ensures text { OnOk result (AppendsLine self.old self.new Gitlink (hex name.now.bytes)
+            path.now) }
         ensures kept { OnOk result (StaysKept self.old self.new) }
     {
         let digits = name.hex();

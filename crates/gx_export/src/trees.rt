@@ -1,15 +1,23 @@
 //! The trees of a commit: the blobs of their files go out, and the files' lines are gathered.
 
-ghost use Rattle.std.specs.Prelude.{◌≡◌, ◌≢◌, ◌++◌, [], ◌∷◌, IfOk, IsTrue, List};
+ghost use Rattle.std.specs.Prelude.{◌≡◌, ◌≢◌, [], ◌∷◌, List, OnOk};
 ghost use Rattle.gx_model.specs.declared.objects.Kind.TheVariants as kinds;
 ghost use Rattle.gx_model.specs.declared.objects.Mode.TheVariants as modes;
-ghost use Rattle.gx_model.specs.Texts.{Bytes};
-ghost use Rattle.gx_model.specs.Records.Sound as sound;
-ghost use Rattle.gx_model.specs.Histories.Values.{Value};
-ghost use Rattle.gx_rev.specs.Objects.{IsHeldAs};
+ghost use Rattle.gx_model.specs.Export.{contents, items_text, with_blobs};
 ghost use Rattle.gx_model.specs.Faults.{NeedsNoMemory};
-ghost use Rattle.gx_export.specs.Marks.{HasWritten, IsBlobAt};
-ghost use Rattle.gx_export.specs.Parts.{AddsBlobsOf, AddsOneBlob, GathersEntry, GathersFile, GathersLinesOf, GathersTree, HasEntryBelow, HasTreeBelow, IsUnderWay, KeepsLinesOf};
+ghost use Rattle.gx_model.specs.Histories.Values.{Value, files_of};
+ghost use Rattle.gx_model.specs.Records.HistoryOf.{placed};
+ghost use Rattle.gx_model.specs.Records.Sound as sound;
+ghost use Rattle.gx_model.specs.Texts.{Bytes};
+ghost use Rattle.gx_rev.specs.Objects.{IsHeldAs, commit_at};
+ghost use Rattle.gx_tree.specs.HeldTrees.{IsHeldEntry};
+ghost use Rattle.gx_tree.specs.Lists.{below};
+ghost use Rattle.gx_tree.specs.Nodes.{Kept, kept_map};
+ghost use Rattle.gx_tree.specs.Writes.{kept_leaf};
+ghost use Rattle.gx_export.specs.FileTexts.{Gathers, IsEntryBelow};
+ghost use Rattle.gx_export.specs.Marks.{AddsBlobs, HasWritten, IsBlobAt};
+ghost use Rattle.gx_export.specs.Parts.{GathersTree, HasTreeBelow, IsUnderWay, Keeps, WhileUnderWay};
+ghost use Rattle.gx_export.specs.Texts.{file_items};
 
 use crate::ExportFault;
 use crate::commands::write_blob;
@@ -26,31 +34,26 @@ use std::alloc::Allocator;
 pub(crate) fn add_files<N: Namer, A: Allocator + Copy, W: Sink>(
     alloc: A,
     repo: &Repo<N, A>,
-    sink: &mut W,
-    written: &mut Written<A>,
+    written: &mut Written<'_, W, A>,
     lines: &mut Lines<A>,
     commit: &Name,
 ) -> Result<(), ExportFault>
     requires held { IsHeldAs kinds.Commit repo.now.1 commit.now }
     requires written { IsUnderWay N.name_of repo.now written.old lines.old }
-    ensures adds { AddsBlobsOf N.name_of W.taken repo.now commit.now written.old written.new sink.old sink.new lines.old result }
-    ensures text { GathersLinesOf N.name_of repo.now commit.now written.old lines.old lines.new result }
-    ensures kept { KeepsLinesOf N.name_of repo.now commit.now written.old lines.old lines.new result }
+    ensures adds { WhileUnderWay N.name_of repo.now written.old lines.old (λ ws. AddsBlobs
+        repo.now.1 ws (contents (files_of (commit_at repo.now.1 commit.now))) written.old
+        written.new result) }
+    ensures text { let files = files_of (commit_at repo.now.1 commit.now) in
+        WhileUnderWay N.name_of repo.now written.old lines.old (λ ws. OnOk result
+        (lines.new.text.items ≡ items_text (file_items (with_blobs ws (contents files)) files))) }
+    ensures kept { Keeps N.name_of repo.now written.old lines.old lines.new
+        (λ ws. with_blobs ws (contents (files_of (commit_at repo.now.1 commit.now)))) result }
 {
     repo.sound();
     let view = view_of(repo, commit);
     let root = TreePath::root(alloc);
     lines.begin();
-    add_tree(
-        alloc,
-        repo,
-        sink,
-        written,
-        lines,
-        &root,
-        &view.tree(),
-        MOST_BYTES,
-    )
+    add_tree(alloc, repo, written, lines, &root, &view.tree(), MOST_BYTES)
 }
 
 /// Writes the blobs of a held tree's files that weren't written yet, and gathers the lines of the files, whose paths stand
@@ -59,8 +62,7 @@ pub(crate) fn add_files<N: Namer, A: Allocator + Copy, W: Sink>(
 fn add_tree<N: Namer, A: Allocator + Copy, W: Sink>(
     alloc: A,
     repo: &Repo<N, A>,
-    sink: &mut W,
-    written: &mut Written<A>,
+    written: &mut Written<'_, W, A>,
     lines: &mut Lines<A>,
     front: &TreePath<A>,
     tree: &Name,
@@ -68,14 +70,15 @@ fn add_tree<N: Namer, A: Allocator + Copy, W: Sink>(
 ) -> Result<(), ExportFault>
     requires held { HasTreeBelow N.name_of repo.now room front.now tree.now }
     requires written { IsUnderWay N.name_of repo.now written.old lines.old }
-    ensures { GathersTree N.name_of W.taken repo.now front.now tree.now written.old written.new sink.old sink.new lines.old lines.new result }
+    ensures { GathersTree N.name_of repo.now front.now tree.now written.old written.new
+        lines.old lines.new result }
 {
     if lines.take_over(front.joined(), tree)? {
         return Ok(());
     }
     let start = lines.text.len();
     let number = lines.open(front.joined())?;
-    add_entries(alloc, repo, sink, written, lines, front, tree, room)?;
+    add_entries(alloc, repo, written, lines, front, tree, room)?;
     lines.close(number, front.joined(), tree, start);
     Ok(())
 }
@@ -85,8 +88,7 @@ fn add_tree<N: Namer, A: Allocator + Copy, W: Sink>(
 fn add_entries<N: Namer, A: Allocator + Copy, W: Sink>(
     alloc: A,
     repo: &Repo<N, A>,
-    sink: &mut W,
-    written: &mut Written<A>,
+    written: &mut Written<'_, W, A>,
     lines: &mut Lines<A>,
     front: &TreePath<A>,
     tree: &Name,
@@ -94,10 +96,11 @@ fn add_entries<N: Namer, A: Allocator + Copy, W: Sink>(
 ) -> Result<(), ExportFault>
     requires held { HasTreeBelow N.name_of repo.now room front.now tree.now }
     requires written { IsUnderWay N.name_of repo.now written.old lines.old }
-    ensures { GathersTree N.name_of W.taken repo.now front.now tree.now written.old written.new sink.old sink.new lines.old lines.new result }
+    ensures { GathersTree N.name_of repo.now front.now tree.now written.old written.new
+        lines.old lines.new result }
 {
     for entry in entries_of(repo, tree) {
-        add_entry(alloc, repo, sink, written, lines, front, &entry, room)?;
+        add_entry(alloc, repo, written, lines, front, &entry, room)?;
     }
     Ok(())
 }
@@ -107,20 +110,26 @@ fn add_entries<N: Namer, A: Allocator + Copy, W: Sink>(
 fn add_entry<N: Namer, A: Allocator + Copy, W: Sink>(
     alloc: A,
     repo: &Repo<N, A>,
-    sink: &mut W,
-    written: &mut Written<A>,
+    written: &mut Written<'_, W, A>,
     lines: &mut Lines<A>,
     front: &TreePath<A>,
     entry: &Entry<'_>,
     room: usize,
 ) -> Result<(), ExportFault>
-    requires held { HasEntryBelow N.name_of repo.now room front.now entry.now }
+    requires held { (k : Kept)
+        × IsEntryBelow (N.name_of repo.now.0) repo.now.1 room front.now (entry.now.component.now, k)
+        × (kept_leaf (N.name_of repo.now.0) k ≡ (entry.now.mode, entry.now.name.bytes)) }
     requires written { IsUnderWay N.name_of repo.now written.old lines.old }
-    ensures { GathersEntry N.name_of W.taken repo.now front.now entry.now written.old written.new sink.old sink.new lines.old lines.new result }
+    ensures { (k : Kept)
+        → IsHeldEntry (N.name_of repo.now.0) repo.now.1.records 4095 (entry.now.component.now, k)
+        → kept_leaf (N.name_of repo.now.0) k ≡ (entry.now.mode, entry.now.name.bytes)
+        → WhileUnderWay N.name_of repo.now written.old lines.old (λ ws. Gathers (N.name_of
+        repo.now.0) repo.now.1 ws (below front.now (placed entry.now.component.now (kept_map k)))
+        written.old written.new lines.old lines.new result) }
 {
     let path = child(alloc, front, entry.component)?;
     if entry.mode != Mode::Dir {
-        return add_file(repo, sink, written, lines, &path, entry.mode, &entry.name);
+        return add_file(repo, written, lines, &path, entry.mode, &entry.name);
     }
     let used = entry.component.len();
     if used >= room {
@@ -129,7 +138,6 @@ fn add_entry<N: Namer, A: Allocator + Copy, W: Sink>(
     add_tree(
         alloc,
         repo,
-        sink,
         written,
         lines,
         &path,
@@ -141,8 +149,7 @@ fn add_entry<N: Namer, A: Allocator + Copy, W: Sink>(
 /// Writes a file's blob, where it wasn't written yet, and gathers the file's line.
 pub(crate) fn add_file<N: Namer, A: Allocator + Copy, W: Sink>(
     repo: &Repo<N, A>,
-    sink: &mut W,
-    written: &mut Written<A>,
+    written: &mut Written<'_, W, A>,
     lines: &mut Lines<A>,
     path: &TreePath<A>,
     mode: Mode,
@@ -151,7 +158,9 @@ pub(crate) fn add_file<N: Namer, A: Allocator + Copy, W: Sink>(
     requires file { mode ≢ modes.Dir }
     requires held { sound.IsHeldAs repo.now.1.records mode name.now.bytes }
     requires written { IsUnderWay N.name_of repo.now written.old lines.old }
-    ensures { GathersFile N.name_of W.taken repo.now path.now mode name.now written.old written.new sink.old sink.new lines.old lines.new result }
+    ensures { WhileUnderWay N.name_of repo.now written.old lines.old (λ ws. Gathers (N.name_of
+        repo.now.0) repo.now.1 ws ((path.now, (mode, name.now.bytes)) ∷ []) written.old written.new
+        lines.old lines.new result) }
 {
     repo.sound();
     if mode == Mode::Gitlink {
@@ -159,7 +168,7 @@ pub(crate) fn add_file<N: Namer, A: Allocator + Copy, W: Sink>(
         return Ok(());
     }
     let place = place_of(repo, name);
-    write_blob_once(repo, sink, written, place)?;
+    write_blob_once(repo, written, place)?;
     lines.add_file(mode, written.marks[place], path)?;
     Ok(())
 }
@@ -167,13 +176,15 @@ pub(crate) fn add_file<N: Namer, A: Allocator + Copy, W: Sink>(
 /// Writes the blob at a place, where it wasn't written yet.
 fn write_blob_once<N: Namer, A: Allocator + Copy, W: Sink>(
     repo: &Repo<N, A>,
-    sink: &mut W,
-    written: &mut Written<A>,
+    written: &mut Written<'_, W, A>,
     place: usize,
 ) -> Result<(), ExportFault>
     requires blob { (bytes : Bytes) × IsBlobAt repo.now.1 place bytes }
     requires written { (ws : List Value) × HasWritten repo.now.1 ws written.old }
-    ensures adds { AddsOneBlob W.taken repo.now place written.old written.new sink.old sink.new result }
+    ensures adds { (bytes : Bytes) (ws : List Value)
+        → IsBlobAt repo.now.1 place bytes
+        → HasWritten repo.now.1 ws written.old
+        → AddsBlobs repo.now.1 ws (bytes ∷ []) written.old written.new result }
     ensures memory { NeedsNoMemory ExportFault.OutOfMemory result }
 {
     repo.sound();
@@ -181,7 +192,7 @@ fn write_blob_once<N: Namer, A: Allocator + Copy, W: Sink>(
         return Ok(());
     }
     let body = body_at(repo, place);
-    write_blob(sink, &mut written.bytes, written.count + 1, body)?;
+    write_blob(&mut written.output, written.count + 1, body)?;
     written.mark(place);
     Ok(())
 }

@@ -13,24 +13,21 @@ returns-in_err-write_root-clause-adds g c = λ ws gone own h e.
     let parts = c.args.commit.now in
     let lines = lines_on c.args.branch.now (named_in (g.N.Namer.name_of c.args.repo.now.0) ws) ws parts.text (commits_called c.args.repo.now.1 parts.parents) gone own in
     let p = err_from_is_err_and c.from_residual.result c.from_residual.ensures.1 in
-    rw (p.1, p.2) (items_sooner c.args.written.now.bytes (g.W.Sink.taken c.args.sink.now) (g.W.Sink.taken c.write_root.new.sink) (root_items c.args.branch.now (length parts.parents)) lines c.in_err-write_root.field-0.0 c.in_err-write_root.ensures.text)
+    rw (p.1, p.2) (items_sooner c.args.written.now.output c.write_root.new.output (root_items c.args.branch.now (length parts.parents)) lines c.in_err-write_root.field-0.0 c.in_err-write_root.ensures.text)
 
 pub write_lines-requires : goal.write_lines-requires
 write_lines-requires g c =
     let w = c.requires.written in
     let root = root_items c.args.branch.now (length c.args.commit.now.parents) in
-    record { parents = c.requires.parents; written = (w.0, (adds_bytes c.args.repo.now.1 w.0 root c.args.written.now c.write_root.new.written (g.W.Sink.taken c.args.sink.now) (g.W.Sink.taken c.write_root.new.sink) (Ok tt) w.1 c.in_ok-write_root.ensures.text).0) }
+    record { parents = c.requires.parents; written = (w.0, (adds_bytes c.args.repo.now.1 w.0 root c.args.written.now c.write_root.new.output (Ok tt) w.1 c.in_ok-write_root.ensures.text).0) }
 
 pub returns-clause-adds : goal.returns-clause-adds
 returns-clause-adds g c = λ ws gone own h e.
     let r = c.args.repo.now.1 in
     let parts = c.args.commit.now in
     let old = c.args.written.now in
-    let mid = record old { bytes = c.write_root.new.written } in
-    let was = g.W.Sink.taken c.args.sink.now in
-    let between = g.W.Sink.taken c.write_root.new.sink in
-    let now = g.W.Sink.taken c.write_lines.new.sink in
+    let mid = record old { output = c.write_root.new.output } in
     let root = root_items c.args.branch.now (length parts.parents) in
     let lines = lines_on c.args.branch.now (named_in (g.N.Namer.name_of c.args.repo.now.0) ws) ws parts.text (commits_called r parts.parents) gone own in
-    let first = adds_bytes r ws root old mid.bytes was between (Ok tt) h c.in_ok-write_root.ensures.text in
-    adds_later r ws ws root lines old mid c.write_lines.new.written was between now c.write_lines.result first (c.write_lines.ensures.adds ws gone own first.0 e)
+    let first = adds_bytes r ws root old c.write_root.new.output (Ok tt) h c.in_ok-write_root.ensures.text in
+    adds_later r ws ws root lines old mid c.write_lines.new.written c.write_lines.result first (c.write_lines.ensures.adds ws gone own first.0 e)

@@ -21,6 +21,5 @@ differing_text ws gone own old new e f =
 
 pub returns-clause-text : goal.returns-clause-text
 returns-clause-text g c = λ ws gone own e.
-    let taken = g.W.Sink.taken in
     let done = rw (c.as_slice-gone.ensures.value, c.as_slice-files.ensures.value) at c.write_all.ensures.text in
-    subst (λ t. Writes c.args.written.now c.write_all.new.written (taken c.args.sink.now) (taken c.write_all.new.sink) t c.write_all.result) (differing_text ws gone own c.args.changes.now.gone.items c.args.changes.now.files.text.items e.gone e.files) done
+    subst (λ t. Writes c.args.output.now c.write_all.new.self t c.write_all.result) (differing_text ws gone own c.args.changes.now.gone.items c.args.changes.now.files.text.items e.gone e.files) done

@@ -24,6 +24,5 @@ author_text ref mark text =
 
 pub returns-clause-text : goal.returns-clause-text
 returns-clause-text g c =
-    let taken = g.W.Sink.taken in
     let done = rw (c.as_slice.ensures, c.as_bytes.ensures.value, c.format.ensures.text, c.author.ensures, c.committer.ensures) at c.write_all.ensures.text in
-    subst (λ t. Writes c.args.sent.now c.write_all.new.written (taken c.args.sink.now) (taken c.write_all.new.sink) t c.write_all.result) (author_text c.args.branch.now c.args.mark c.args.commit.now.text) done
+    subst (λ t. Writes c.args.output.now c.write_all.new.self t c.write_all.result) (author_text c.args.branch.now c.args.mark c.args.commit.now.text) done

@@ -1,4 +1,4 @@
-use Rattle.std.proofs.Common.{sym, subst, arith, Ok}
+use Rattle.std.proofs.Common.{sym, subst, arith, Ok, Err}
 use Rattle.std.proofs.lemmas.Result.{err_from_is_err_and}
 use Rattle.gx_model.specs.Export.{contents, items_text, one_commit, with_blobs}
 use Rattle.gx_model.specs.Laws.RepositoryLaws.{values_of}
@@ -6,7 +6,7 @@ use Rattle.gx_model.specs.Histories.Values.{commit_value, files_of}
 use Rattle.gx_model.proofs.Records.Standing.{at_within, commit_name_there}
 use Rattle.gx_export.specs.FileTexts.{AreKept}
 use Rattle.gx_export.specs.Marks.{Adds}
-use Rattle.gx_export.specs.Outputs.{Stops, Writes}
+use Rattle.gx_export.specs.Outputs.{Writes}
 use Rattle.gx_export.specs.Texts.{items_of}
 use Rattle.gx_export.proofs.CommitTexts.{same_commit}
 use Rattle.gx_export.proofs.Gathering.{kept_commit}
@@ -23,14 +23,13 @@ write_unmarked-requires-clause-held g c =
     commit_name_there name namer c.args.repo.now.1 c.sound.ensures c.name_at-commit.result.bytes c.args.place c.requires.commit.0 c.name_at-commit.ensures.held c.name_at-commit.ensures.value c.requires.commit.1
 
 pub returns-in_err-write_unmarked-clause-adds : goal.returns-in_err-write_unmarked-clause-adds
-returns-in_err-write_unmarked-clause-adds g c = λ made ws e h kept.
+returns-in_err-write_unmarked-clause-adds g c = λ made e ws h kept.
     let name = g.N.Namer.name_of c.args.repo.now.0 in
     let namer = g.met.N.Namer.is_namer c.args.repo.now.0 in
-    let taken = g.W.Sink.taken in
     let same = same_commit name namer c.args.repo.now.1 c.sound.ensures c.args.place made c.name_at-commit.result.bytes e c.name_at-commit.ensures.value in
     let p = err_from_is_err_and c.from_residual.result c.from_residual.ensures.1 in
     let fault = c.in_err-write_unmarked.field-0.0 in
-    rw (p.1, p.2) (subst (λ d. Stops c.args.written.now.bytes (taken c.args.sink.now) (taken c.write_unmarked.new.sink) (items_text (items_of (one_commit ws d))) fault) same (c.in_err-write_unmarked.ensures.adds ws h kept))
+    rw (p.1, p.2) (subst (λ d. Writes c.args.written.now.output c.write_unmarked.new.written.output (items_text (items_of (one_commit ws d))) (Err fault)) same (c.in_err-write_unmarked.ensures.adds ws h kept))
 
 pub mark-requires-clause-place : goal.mark-requires-clause-place
 mark-requires-clause-place g c =
@@ -47,26 +46,24 @@ mark-requires-clause-room g c =
     omega (arith, c.in_ok-write_unmarked.ensures.room)
 
 pub returns-clause-adds : goal.returns-clause-adds
-returns-clause-adds g c = λ made ws e h kept.
+returns-clause-adds g c = λ made e ws h kept.
     let name = g.N.Namer.name_of c.args.repo.now.0 in
     let namer = g.met.N.Namer.is_namer c.args.repo.now.0 in
     let r = c.args.repo.now.1 in
     let sound = c.sound.ensures in
-    let was = g.W.Sink.taken c.args.sink.now in
-    let now = g.W.Sink.taken c.write_unmarked.new.sink in
     let old = c.args.written.now in
     let mid = c.write_unmarked.new.written in
     let us = with_blobs ws (contents (files_of made)) in
     let same = same_commit name namer r sound c.args.place made c.name_at-commit.result.bytes e c.name_at-commit.ensures.value in
-    let k = subst (λ d. Adds r (with_blobs ws (contents (files_of d))) (items_of (one_commit ws d)) old mid was now (Ok tt)) same (c.in_ok-write_unmarked.ensures.adds ws h kept) in
+    let k = subst (λ d. Adds r (with_blobs ws (contents (files_of d))) (items_of (one_commit ws d)) old mid (Ok tt)) same (c.in_ok-write_unmarked.ensures.adds ws h kept) in
     let only = only_place name namer r sound (commit_value made) c.args.place e in
     let within = place_marked name namer r sound us mid.marks.items (commit_value made) c.args.place k.0.marks e in (
-      next_marked r us (commit_value made) c.args.place mid c.mark.new.self only within k.0 c.in_ok-write_unmarked.ensures.room c.mark.ensures.bytes c.mark.ensures.count c.mark.ensures.marks,
-      subst (λ n. Writes old.bytes n was now (items_text (items_of (one_commit ws made))) (Ok tt)) (sym c.mark.ensures.bytes) k.1,
+      next_marked r us (commit_value made) c.args.place mid c.mark.new.self only within k.0 c.in_ok-write_unmarked.ensures.room c.mark.ensures.output c.mark.ensures.count c.mark.ensures.marks,
+      subst (λ s. Writes c.args.written.now.output s (items_text (items_of (one_commit ws made))) (Ok tt)) (sym c.mark.ensures.output) k.1,
     )
 
 pub returns-clause-kept : goal.returns-clause-kept
-returns-clause-kept g c = λ made ws e h kept.
+returns-clause-kept g c = λ made e ws h kept.
     let name = g.N.Namer.name_of c.args.repo.now.0 in
     let namer = g.met.N.Namer.is_namer c.args.repo.now.0 in
     let r = c.args.repo.now.1 in

@@ -15,6 +15,5 @@ changes_text ws files lines e = ap (λ (x : Bytes). codes "deleteall" ++ (10 ∷
 
 pub returns-clause-text : goal.returns-clause-text
 returns-clause-text g c = λ ws files e.
-    let taken = g.W.Sink.taken in
     let done = rw c.as_slice.ensures at c.write_all.ensures.text in
-    subst (λ t. Writes c.args.written.now c.write_all.new.written (taken c.args.sink.now) (taken c.write_all.new.sink) t c.write_all.result) (changes_text ws files c.args.lines.now e) done
+    subst (λ t. Writes c.args.output.now c.write_all.new.self t c.write_all.result) (changes_text ws files c.args.lines.now e) done

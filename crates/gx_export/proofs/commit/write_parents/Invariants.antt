@@ -7,4 +7,4 @@ use Rattle.gx_export.proofs.commit.write_parents.Given as goal
 
 abbrev pub invariant-loop-number : goal.invariant-loop-number
 invariant-loop-number g l = (ws : List Value) → HasWritten l.repo.1 ws l.fn.written
-    → Adds l.repo.1 ws (parent_items ws (take l.number (map (λ name. commit_of_value (value_of_name l.repo.1.records name)) l.commit.parents))) l.fn.written l.written (g.W.Sink.taken l.fn.sink) (g.W.Sink.taken l.sink) (Ok tt)
+    → Adds l.repo.1 ws (parent_items ws (take l.number (map (λ name. commit_of_value (value_of_name l.repo.1.records name)) l.commit.parents))) l.fn.written l.written (Ok tt)

@@ -1,10 +1,10 @@
-use Rattle.std.proofs.Common.{◌∙◌, ◌++◌, length, sym, subst}
+use Rattle.std.proofs.Common.{◌∙◌, ◌++◌, length, sym, subst, Err}
 use Rattle.std.proofs.lemmas.Result.{err_from_is_err_and}
 use Rattle.gx_model.specs.Export.{carrier, blob_commands, contents, with_blobs, items_text}
 use Rattle.gx_model.specs.Histories.Values.{files_of, list_of, parents_of, text_of}
 use Rattle.gx_rev.specs.Objects.{commit_at}
 use Rattle.gx_export.specs.Marks.{Adds}
-use Rattle.gx_export.specs.Outputs.{Stops}
+use Rattle.gx_export.specs.Outputs.{Writes}
 use Rattle.gx_export.specs.Parts.{commits_called}
 use Rattle.gx_export.specs.Texts.{commit_lines, items_of, root_items}
 use Rattle.gx_export.proofs.CommitTexts.{items_told, one_commit_parts, shown_as, some_unmarked}
@@ -15,15 +15,13 @@ use Rattle.gx_export.proofs.commit.write_unmarked.Goals as goal
 pub returns-in_err-add_files-clause-adds : goal.returns-in_err-add_files-clause-adds
 returns-in_err-add_files-clause-adds g c = λ ws h kept.
     let made = commit_at c.args.repo.now.1 c.args.commit.now in
-    let was = g.W.Sink.taken c.args.sink.now in
-    let now = g.W.Sink.taken c.add_files.new.sink in
     let ps = list_of (parents_of made) in
     let us = with_blobs ws (contents (files_of made)) in
     let blobs = items_of (blob_commands ws (contents (files_of made))) in
     let behind = root_items carrier (length ps) ++ commit_lines us (text_of made) ps (files_of made) in
     let p = err_from_is_err_and c.from_residual.result c.from_residual.ensures.1 in
     let fault = c.in_err-add_files.field-0.0 in
-    rw (p.1, p.2) (subst (λ is. Stops c.args.written.now.bytes was now (items_text is) fault) (sym (one_commit_parts ws made)) (items_sooner c.args.written.now.bytes was now blobs behind fault (c.in_err-add_files.ensures.adds ws h kept)))
+    rw (p.1, p.2) (subst (λ is. Writes c.args.written.now.output c.add_files.new.written.output (items_text is) (Err fault)) (sym (one_commit_parts ws made)) (items_sooner c.args.written.now.output c.add_files.new.written.output blobs behind fault (c.in_err-add_files.ensures.adds ws h kept)))
 
 pub write_behind_blobs-requires : goal.write_behind_blobs-requires
 write_behind_blobs-requires g c =
@@ -41,9 +39,6 @@ returns-clause-adds g c = λ ws h kept.
     let namer = g.met.N.Namer.is_namer c.args.repo.now.0 in
     let r = c.args.repo.now.1 in
     let made = commit_at r c.args.commit.now in
-    let was = g.W.Sink.taken c.args.sink.now in
-    let between = g.W.Sink.taken c.add_files.new.sink in
-    let now = g.W.Sink.taken c.write_behind_blobs.new.sink in
     let old = c.args.written.now in
     let mid = c.add_files.new.written in
     let new = c.write_behind_blobs.new.written in
@@ -54,8 +49,8 @@ returns-clause-adds g c = λ ws h kept.
     let s = shown_as name namer r c.sound.ensures c.args.commit.now.bytes c.view_of-view.result c.requires.held c.view_of-view.ensures in
     let first = c.in_ok-add_files.ensures.adds ws h kept in
     let text = c.deref.ensures.value ∙ c.in_ok-add_files.ensures.text ws h kept in
-    let told = subst (λ is. Adds r us is mid new between now result) (items_told name namer r c.sound.ensures made c.view_of-view.result s us) (c.write_behind_blobs.ensures.adds us (files_of made) first.0 text) in
-    subst (λ is. Adds r us is old new was now result) (sym (one_commit_parts ws made)) (adds_later r us us (items_of (blob_commands ws (contents (files_of made)))) behind old mid new was between now result first told)
+    let told = subst (λ is. Adds r us is mid new result) (items_told name namer r c.sound.ensures made c.view_of-view.result s us) (c.write_behind_blobs.ensures.adds us (files_of made) first.0 text) in
+    subst (λ is. Adds r us is old new result) (sym (one_commit_parts ws made)) (adds_later r us us (items_of (blob_commands ws (contents (files_of made)))) behind old mid new result first told)
 
 pub returns-clause-kept : goal.returns-clause-kept
 returns-clause-kept g c = λ ws h kept. on_any c.write_behind_blobs.result _ (c.in_ok-add_files.ensures.kept ws h kept)
@@ -69,5 +64,5 @@ returns-clause-room g c =
     let us = with_blobs w.0 (contents (files_of made)) in
     let first = c.in_ok-add_files.ensures.adds w.0 w.1 w.2 in
     let text = c.deref.ensures.value ∙ c.in_ok-add_files.ensures.text w.0 w.1 w.2 in
-    some_unmarked r us (length view.parents) view.text (commits_called r view.parents) (files_of made) c.add_files.new.written c.write_behind_blobs.new.written (g.W.Sink.taken c.add_files.new.sink) (g.W.Sink.taken c.write_behind_blobs.new.sink)
+    some_unmarked r us (length view.parents) view.text (commits_called r view.parents) (files_of made) c.add_files.new.written c.write_behind_blobs.new.written
     c.write_behind_blobs.result first.0 (c.write_behind_blobs.ensures.adds us (files_of made) first.0 text)

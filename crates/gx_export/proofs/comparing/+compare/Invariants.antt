@@ -22,4 +22,4 @@ abbrev pub invariant-compare_trees-loop-pair : goal.invariant-compare_trees-loop
 invariant-compare_trees-loop-pair g l =
     (ws : List Value) (f h : FileMap Bytes) → HasWritten l.repo.1 ws l.fn.written → IsBelowIf (g.N.Namer.name_of l.repo.0) l.repo.1 l.room l.front (bytes_if l.fn.old) f → IsBelowIf (g.N.Namer.name_of l.repo.0) l.repo.1 l.room l.front (bytes_if l.fn.new) h
     → AreKept (g.N.Namer.name_of l.repo.0) l.repo.1 ws l.fn.changes.files
-    → IsPassing (g.N.Namer.name_of l.repo.0) l.repo.1 ws l.front (side_by_side kept_order (level_of f) (level_of h)) l.pair-iterator l.fn.written l.written (g.W.Sink.taken l.fn.sink) (g.W.Sink.taken l.sink) l.fn.changes l.changes
+    → IsPassing (g.N.Namer.name_of l.repo.0) l.repo.1 ws l.front (side_by_side kept_order (level_of f) (level_of h)) l.pair-iterator l.fn.written l.written l.fn.changes l.changes

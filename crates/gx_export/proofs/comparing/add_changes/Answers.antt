@@ -41,7 +41,6 @@ returns g c = λ ws h kept.
     let name = g.N.Namer.name_of c.args.repo.now.0 in
     let namer = g.met.N.Namer.is_namer c.args.repo.now.0 in
     let r = c.args.repo.now.1 in
-    let taken = g.W.Sink.taken in
     let n = c.args.commit.now.bytes in
     let made = commit_at r c.args.commit.now in
     let first = c.parent.ensures ∙ ap (λ v. slice_get v.parents 0) c.view_of-view.ensures in
@@ -51,6 +50,6 @@ returns g c = λ ws h kept.
     let tree = c.tree.ensures ∙ ap (λ v. v.tree) c.view_of-view.ensures in
     let old = subst (λ q. IsBelowIf name r 4095 q (bytes_if c.tree_of-base.result) f) (sym root) (subst (λ o. IsBelowIf name r 4095 [] o f) (sym c.tree_of-base.ensures) (base_below name namer r c.sound.ensures n c.requires.held c.parent.result first)) in
     let new = subst (λ q. IsTreeBelow name r 4095 q c.tree.result.bytes files) (sym root) (subst (λ t. IsTreeBelow name r 4095 [] t files) (sym tree) (tree_held name namer r c.sound.ensures n c.requires.held)) in
-    of_compared name r ws made c.root-root.result f files c.args.written.now c.compare_trees.new.written (taken c.args.sink.now) (taken c.compare_trees.new.sink) c.begin.new.self c.compare_trees.new.changes c.root-root.ensures
+    of_compared name r ws made c.root-root.result f files c.args.written.now c.compare_trees.new.written c.begin.new.self c.compare_trees.new.changes c.root-root.ensures
     (own_told name namer r c.sound.ensures n c.requires.held c.parent.result first) (gone_told name namer r c.sound.ensures n c.requires.held) c.begin.ensures.gone c.begin.ensures.text c.compare_trees.result
-    (c.compare_trees.ensures ws f files h old new (c.begin.ensures.kept name r ws kept))
+    (c.compare_trees.ensures f files old new ws h (c.begin.ensures.kept name r ws kept))

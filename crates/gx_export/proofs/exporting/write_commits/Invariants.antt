@@ -10,6 +10,6 @@ use Rattle.gx_export.proofs.exporting.write_commits.Given as goal
 
 abbrev pub invariant-loop-place : goal.invariant-loop-place
 invariant-loop-place g l = record {
-  adds : Adds l.repo.1 (all_written (picked (is_wanted l.repo.1) (take l.place (values_of l.repo.1)))) (items_of (commit_commands [] (picked (is_wanted l.repo.1) (take l.place (values_of l.repo.1))))) l.fn.written l.written (g.W.Sink.taken l.fn.sink) (g.W.Sink.taken l.sink) (Ok tt);
+  adds : Adds l.repo.1 (all_written (picked (is_wanted l.repo.1) (take l.place (values_of l.repo.1)))) (items_of (commit_commands [] (picked (is_wanted l.repo.1) (take l.place (values_of l.repo.1))))) l.fn.written l.written (Ok tt);
   kept : AreKept (g.N.Namer.name_of l.repo.0) l.repo.1 (all_written (picked (is_wanted l.repo.1) (take l.place (values_of l.repo.1)))) l.lines;
 }

@@ -11,51 +11,36 @@ pub returns-in_err-write_last-clause-adds : goal.returns-in_err-write_last-claus
 returns-in_err-write_last-clause-adds g c = λ ws h.
     let r = c.args.repo.now.1 in
     let old = c.args.written.now in
-    let was = g.W.Sink.taken c.args.sink.now in
-    let now = g.W.Sink.taken c.write_last.new.sink in
     let p = err_from_is_err_and c.from_residual.result c.from_residual.ensures.1 in
     let fault = c.in_err-write_last.field-0.0 in
-    rw (p.1, p.2) (items_sooner old.bytes was now (last_items (length ws)) (refs_items (history_of r) ws ++ end_items) fault (adds_last r ws old c.write_last.new.written was now (Err fault) h c.in_err-write_last.ensures.text))
+    rw (p.1, p.2) (items_sooner c.args.written.now.output c.write_last.new.output (last_items (length ws)) (refs_items (history_of r) ws ++ end_items) fault (adds_last r ws old c.write_last.new.output (Err fault) h c.in_err-write_last.ensures.text))
 
 pub write_refs-requires : goal.write_refs-requires
 write_refs-requires g c =
     let ws = c.requires.written.0 in
-    let last = adds_last c.args.repo.now.1 ws c.args.written.now c.write_last.new.written (g.W.Sink.taken c.args.sink.now) (g.W.Sink.taken c.write_last.new.sink) (Ok tt) c.requires.written.1 c.in_ok-write_last.ensures.text in
+    let last = adds_last c.args.repo.now.1 ws c.args.written.now c.write_last.new.output (Ok tt) c.requires.written.1 c.in_ok-write_last.ensures.text in
     record { written = (ws, last.0) }
 
 pub returns-in_err-write_refs-clause-adds : goal.returns-in_err-write_refs-clause-adds
 returns-in_err-write_refs-clause-adds g c = λ ws h.
     let r = c.args.repo.now.1 in
     let old = c.args.written.now in
-    let mid = record old { bytes = c.write_last.new.written } in
-    let was = g.W.Sink.taken c.args.sink.now in
-    let between = g.W.Sink.taken c.write_last.new.sink in
-    let now = g.W.Sink.taken c.write_refs.new.sink in
+    let mid = record old { output = c.write_last.new.output } in
     let refs = refs_items (history_of r) ws in
-    let last = adds_last r ws old mid.bytes was between (Ok tt) h c.in_ok-write_last.ensures.text in
+    let last = adds_last r ws old c.write_last.new.output (Ok tt) h c.in_ok-write_last.ensures.text in
     let p = err_from_is_err_and c.from_residual-in_err-write_refs.result c.from_residual-in_err-write_refs.ensures.1 in
     let fault = c.in_err-write_refs.field-0.0 in
-    rw (p.1, p.2) (adds_later r ws ws (last_items (length ws)) (refs ++ end_items) old mid mid was between now (Err fault) last (items_sooner mid.bytes between now refs end_items fault (c.in_err-write_refs.ensures.adds ws last.0)))
-
-pub write-requires : goal.write-requires
-write-requires g c =
-    let ws = c.requires.written.0 in
-    let last = adds_last c.args.repo.now.1 ws c.args.written.now c.write_last.new.written (g.W.Sink.taken c.args.sink.now) (g.W.Sink.taken c.write_last.new.sink) (Ok tt) c.requires.written.1 c.in_ok-write_last.ensures.text in
-    (c.in_ok-write_refs.ensures.adds ws last.0).0.most
+    rw (p.1, p.2) (adds_later r ws ws (last_items (length ws)) (refs ++ end_items) old mid c.write_refs.new.written (Err fault) last (items_sooner c.write_last.new.output c.write_refs.new.written.output refs end_items fault (c.in_err-write_refs.ensures.adds ws last.0)))
 
 pub returns-clause-adds : goal.returns-clause-adds
 returns-clause-adds g c = λ ws h.
     let r = c.args.repo.now.1 in
     let old = c.args.written.now in
-    let mid = record old { bytes = c.write_last.new.written } in
+    let mid = record old { output = c.write_last.new.output } in
     let with_refs = c.write_refs.new.written in
-    let new = record with_refs { bytes = c.write.new.written } in
-    let was = g.W.Sink.taken c.args.sink.now in
-    let between = g.W.Sink.taken c.write_last.new.sink in
-    let before = g.W.Sink.taken c.write_refs.new.sink in
-    let now = g.W.Sink.taken c.write.new.sink in
+    let new = record with_refs { output = c.write.new.self } in
     let refs = refs_items (history_of r) ws in
-    let last = adds_last r ws old mid.bytes was between (Ok tt) h c.in_ok-write_last.ensures.text in
+    let last = adds_last r ws old c.write_last.new.output (Ok tt) h c.in_ok-write_last.ensures.text in
     let told = c.in_ok-write_refs.ensures.adds ws last.0 in
-    adds_later r ws ws (last_items (length ws)) (refs ++ end_items) old mid new was between now c.write.result last
-    (adds_later r ws ws refs end_items mid with_refs new between before now c.write.result told (adds_bytes r ws end_items with_refs new.bytes before now c.write.result told.0 c.write.ensures.text))
+    adds_later r ws ws (last_items (length ws)) (refs ++ end_items) old mid new c.write.result last
+    (adds_later r ws ws refs end_items mid with_refs new c.write.result told (adds_bytes r ws end_items with_refs c.write.new.self c.write.result told.0 c.write.ensures.text))

@@ -10,10 +10,10 @@ pub returns-clause-text : goal.returns-clause-text
 returns-clause-text g c = λ repository test h e.
     let none : List Command = [] in
     let left = sym c.if-reach_all.false ∙ c.reach_all.ensures repository test h e in
-    subst (λ b. Writes c.args.written.now c.write_reset.new.sent (g.W.Sink.taken c.args.sink.now) (g.W.Sink.taken c.write_reset.new.sink) (items_text (items_of (cond b none (to_nothing carrier ∷ none)))) c.write_reset.result) left c.write_reset.ensures.text
+    subst (λ b. Writes c.args.output.now c.write_reset.new.output (items_text (items_of (cond b none (to_nothing carrier ∷ none)))) c.write_reset.result) left c.write_reset.ensures.text
 
 pub returns-then-reach_all-clause-text : goal.returns-then-reach_all-clause-text
 returns-then-reach_all-clause-text g c = λ repository test h e.
     let none : List Command = [] in
     let all = sym c.if-reach_all.true ∙ c.reach_all.ensures repository test h e in
-    subst (λ b. Writes c.args.written.now c.args.written.now (g.W.Sink.taken c.args.sink.now) (g.W.Sink.taken c.args.sink.now) (items_text (items_of (cond b none (to_nothing carrier ∷ none)))) (Ok tt)) all (writes_none c.args.written.now (g.W.Sink.taken c.args.sink.now) c.requires)
+    subst (λ b. Writes c.args.output.now c.args.output.now (items_text (items_of (cond b none (to_nothing carrier ∷ none)))) (Ok tt)) all (writes_none c.args.output.now)

@@ -11,5 +11,5 @@ use Rattle.gx_export.proofs.exporting_changes.write_commits.Given as goal
 
 abbrev pub invariant-loop-place : goal.invariant-loop-place
 invariant-loop-place g l = (test : Commit → Bool) → l.sent ≡ marks_of test (values_of l.repo.1)
-    → Adds l.repo.1 (all_changes (picked test (take l.place (values_of l.repo.1)))) (items_of (commits_with_changes (g.N.Namer.name_of l.repo.0) (refs_of l.repo.1 l.branches) [] (picked test (take l.place (values_of l.repo.1))))) l.fn.written l.written (g.W.Sink.taken l.fn.sink) (g.W.Sink.taken l.sink) (Ok tt)
+    → Adds l.repo.1 (all_changes (picked test (take l.place (values_of l.repo.1)))) (items_of (commits_with_changes (g.N.Namer.name_of l.repo.0) (refs_of l.repo.1 l.branches) [] (picked test (take l.place (values_of l.repo.1))))) l.fn.written l.written (Ok tt)
     × AreKept (g.N.Namer.name_of l.repo.0) l.repo.1 (all_changes (picked test (take l.place (values_of l.repo.1)))) l.changes.files

@@ -32,7 +32,6 @@ returns-in-None-clause-adds g c = λ ws h.
     let name = g.N.Namer.name_of c.args.repo.now.0 in
     let namer = g.met.N.Namer.is_namer c.args.repo.now.0 in
     let r = c.args.repo.now.1 in
-    let taken = g.W.Sink.taken in
     let ref = c.args.name.now in
     let n = c.args.object.now.bytes in
     let v = value_of_name r.records n in
@@ -40,8 +39,8 @@ returns-in-None-clause-adds g c = λ ws h.
     let held = held_kind name namer r c.sound.ensures kind.Commit n peels.held (commit_kind name v (other_kind name v c.in-None.ensures) peels.to) in
     let value = (commit_stands name namer r c.sound.ensures n held).0 in
     let text = ap (λ m. command_text (to_commit ref m)) (c.commit_ish-commit.ensures ws h.marks) ∙ ap (λ u. command_text (ref_by (named_in name ws) (ref, target_in u))) (sym value) in
-    adds_bytes r ws (command_items (ref_by (named_in name ws) (ref, target_in v))) c.args.written.now c.write_reset_to.new.sent (taken c.args.sink.now) (taken c.write_reset_to.new.sink) c.write_reset_to.result h
-    (subst (λ t. Writes c.args.written.now.bytes c.write_reset_to.new.sent (taken c.args.sink.now) (taken c.write_reset_to.new.sink) t c.write_reset_to.result) text c.write_reset_to.ensures.text)
+    adds_bytes r ws (command_items (ref_by (named_in name ws) (ref, target_in v))) c.args.written.now c.write_reset_to.new.output c.write_reset_to.result h
+    (subst (λ t. Writes c.args.written.now.output c.write_reset_to.new.output t c.write_reset_to.result) text c.write_reset_to.ensures.text)
 
 pub commit_ish-commit-requires-in-Some-clause-held : goal.commit_ish-commit-requires-in-Some-clause-held
 commit_ish-commit-requires-in-Some-clause-held g c =
@@ -59,7 +58,6 @@ returns-in-Some-clause-adds g c = λ ws h.
     let name = g.N.Namer.name_of c.args.repo.now.0 in
     let namer = g.met.N.Namer.is_namer c.args.repo.now.0 in
     let r = c.args.repo.now.1 in
-    let taken = g.W.Sink.taken in
     let ref = c.args.name.now in
     let n = c.args.object.now.bytes in
     let v = value_of_name r.records n in
@@ -68,5 +66,5 @@ returns-in-Some-clause-adds g c = λ ws h.
     let object = c.object.ensures ∙ ap (λ p. p.object) t.1.told in
     let named = c.commit_ish-commit-in-Some.ensures ws h.marks ∙ ap (λ m. named_in name ws (commit_of_value (value_of_name r.records m))) object ∙ ap (λ u. named_in name ws (commit_of_value u)) t.1.target in
     let text = ap (λ m. command_text (tag_command m c.in-Some.tag)) named ∙ ap (λ p. command_text (tag_command (named_in name ws t.0.target) p)) t.1.told ∙ ap (λ u. command_text (ref_by (named_in name ws) (ref, target_in u))) (sym t.1.value) in
-    adds_bytes r ws (command_items (ref_by (named_in name ws) (ref, target_in v))) c.args.written.now c.write_tag.new.sent (taken c.args.sink.now) (taken c.write_tag.new.sink) c.write_tag.result h
-    (subst (λ t. Writes c.args.written.now.bytes c.write_tag.new.sent (taken c.args.sink.now) (taken c.write_tag.new.sink) t c.write_tag.result) text c.write_tag.ensures.text)
+    adds_bytes r ws (command_items (ref_by (named_in name ws) (ref, target_in v))) c.args.written.now c.write_tag.new.output c.write_tag.result h
+    (subst (λ t. Writes c.args.written.now.output c.write_tag.new.output t c.write_tag.result) text c.write_tag.ensures.text)

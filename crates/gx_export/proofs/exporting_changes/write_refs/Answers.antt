@@ -9,7 +9,7 @@ use Rattle.gx_object.specs.declared.name.Name.{Name}
 use Rattle.gx_repo.specs.Refs.{shown_lent_ref}
 use Rattle.gx_export.specs.Branches.{shown_tips}
 use Rattle.gx_export.specs.Marks.{Adds}
-use Rattle.gx_export.specs.Outputs.{Stops}
+use Rattle.gx_export.specs.Outputs.{Writes}
 use Rattle.gx_model.specs.Export.{items_text}
 use Rattle.gx_export.proofs.FoundBranches.{got_there, held_there, shown_there}
 use Rattle.gx_export.proofs.Numbering.{adds_later, adds_nothing}
@@ -18,7 +18,7 @@ use Rattle.gx_export.proofs.Writing.{items_sooner, text_next, text_parts}
 use Rattle.gx_export.proofs.exporting_changes.write_refs.Goals as goal
 
 pub loop-tip-init : goal.loop-tip-init
-loop-tip-init g c = λ ws h. adds_nothing c.args.repo.now.1 ws c.args.written.now (g.W.Sink.taken c.args.sink.now) h
+loop-tip-init g c = λ ws h. adds_nothing c.args.repo.now.1 ws c.args.written.now h
 
 pub write_ref-requires-clause-target : goal.write_ref-requires-clause-target
 write_ref-requires-clause-target g c =
@@ -34,7 +34,6 @@ write_ref-requires-clause-written g c = (c.requires.written.0, (c.loop-tip.invar
 pub returns-in_err-write_ref-clause-adds : goal.returns-in_err-write_ref-clause-adds
 returns-in_err-write_ref-clause-adds g c = λ ws h.
     let r = c.args.repo.now.1 in
-    let taken = g.W.Sink.taken in
     let none : Bor Bytes × Name = (record { ref_ptr = (0, 0); now = [] }, record { bytes = [] }) in
     let refs = c.args.refs.now in
     let i = c.loop-tip.tip-index in
@@ -46,28 +45,26 @@ returns-in_err-write_ref-clause-adds g c = λ ws h.
     let done = c.loop-tip.invariant ws h in
     let stop = c.in_err-write_ref.ensures.adds ws done.0 in
     let all = sym (tips_items r names refs) ∙ text_parts one refs i none c.loop-tip-test.true in
-    let later = adds_later r ws ws _ (one (get_or refs i none) ++ behind) c.args.written.now c.loop-tip.written c.loop-tip.written (taken c.args.sink.now) (taken c.loop-tip.sink) (taken c.write_ref.new.sink) (Err fault) done
-    (items_sooner c.loop-tip.written.bytes (taken c.loop-tip.sink) (taken c.write_ref.new.sink) (one (get_or refs i none)) behind fault stop) in
-    rw (p.1, p.2) (subst (λ is. Stops c.args.written.now.bytes (taken c.args.sink.now) (taken c.write_ref.new.sink) (items_text is) fault) (sym all) later)
+    let later = adds_later r ws ws _ (one (get_or refs i none) ++ behind) c.args.written.now c.loop-tip.written c.write_ref.new.written (Err fault) done
+    (items_sooner c.loop-tip.written.output c.write_ref.new.written.output (one (get_or refs i none)) behind fault stop) in
+    rw (p.1, p.2) (subst (λ is. Writes c.args.written.now.output c.write_ref.new.written.output (items_text is) (Err fault)) (sym all) later)
 
 pub loop-tip-preserved : goal.loop-tip-preserved
 loop-tip-preserved g c = λ ws h.
     let r = c.args.repo.now.1 in
-    let taken = g.W.Sink.taken in
     let none : Bor Bytes × Name = (record { ref_ptr = (0, 0); now = [] }, record { bytes = [] }) in
     let refs = c.args.refs.now in
     let i = c.loop-tip.tip-index in
     let one = tip_items r (named_in (g.N.Namer.name_of c.args.repo.now.0) ws) in
     let done = c.loop-tip.invariant ws h in
-    subst (λ is. Adds r ws is c.args.written.now c.write_ref.new.written (taken c.args.sink.now) (taken c.write_ref.new.sink) (Ok tt)) (sym (text_next one refs i none c.loop-tip-test.true))
-    (adds_later r ws ws _ (one (get_or refs i none)) c.args.written.now c.loop-tip.written c.write_ref.new.written (taken c.args.sink.now) (taken c.loop-tip.sink) (taken c.write_ref.new.sink) (Ok tt) done (c.in_ok-write_ref.ensures.adds ws done.0))
+    subst (λ is. Adds r ws is c.args.written.now c.write_ref.new.written (Ok tt)) (sym (text_next one refs i none c.loop-tip-test.true))
+    (adds_later r ws ws _ (one (get_or refs i none)) c.args.written.now c.loop-tip.written c.write_ref.new.written (Ok tt) done (c.in_ok-write_ref.ensures.adds ws done.0))
 
 pub returns-clause-adds : goal.returns-clause-adds
 returns-clause-adds g c = λ ws h.
     let r = c.args.repo.now.1 in
-    let taken = g.W.Sink.taken in
     let refs = c.args.refs.now in
     let names = named_in (g.N.Namer.name_of c.args.repo.now.0) ws in
     let past : length refs ≤ c.loop-tip.tip-index = omega (arith, c.loop-tip-test.false) in
     let all = ap (flat_map (tip_items r names)) (take_all c.loop-tip.tip-index refs past) ∙ tips_items r names refs in
-    subst (λ is. Adds r ws is c.args.written.now c.loop-tip.written (taken c.args.sink.now) (taken c.loop-tip.sink) (Ok tt)) all (c.loop-tip.invariant ws h)
+    subst (λ is. Adds r ws is c.args.written.now c.loop-tip.written (Ok tt)) all (c.loop-tip.invariant ws h)

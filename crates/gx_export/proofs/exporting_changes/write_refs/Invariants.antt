@@ -9,4 +9,4 @@ use Rattle.gx_export.proofs.exporting_changes.write_refs.Given as goal
 abbrev pub invariant-loop-tip : goal.invariant-loop-tip
 invariant-loop-tip g l =
     (ws : List Value) → HasWritten l.repo.1 ws l.fn.written
-    → Adds l.repo.1 ws (flat_map (tip_items l.repo.1 (named_in (g.N.Namer.name_of l.repo.0) ws)) (take l.tip-index l.refs)) l.fn.written l.written (g.W.Sink.taken l.fn.sink) (g.W.Sink.taken l.sink) (Ok tt)
+    → Adds l.repo.1 ws (flat_map (tip_items l.repo.1 (named_in (g.N.Namer.name_of l.repo.0) ws)) (take l.tip-index l.refs)) l.fn.written l.written (Ok tt)

@@ -27,10 +27,10 @@ use Rattle.gx_export.proofs.Writing.{stops_first}
 use Rattle.gx_export.proofs.trees.+gather.Goals as goal
 
 pub add_entry-returns-in_err-path : goal.add_entry-returns-in_err-path
-add_entry-returns-in_err-path g t c = λ ws k h entry leaf kept.
+add_entry-returns-in_err-path g t c = λ k entry leaf ws h kept.
     let names = below c.args.front.now (placed c.args.entry.now.component.now (kept_map k)) in
     let p = err_from_is_err_and c.from_residual.result c.from_residual.ensures.1 in
-    rw (p.1, p.2) (stops_first c.args.written.now.bytes (g.W.Sink.taken c.args.sink.now) (items_text (items_of (blob_commands ws (bytes_in (named_values c.args.repo.now.1.records) names)))))
+    rw (p.1, p.2) (stops_first c.args.written.now.output (items_text (items_of (blob_commands ws (bytes_in (named_values c.args.repo.now.1.records) names)))))
 
 pub add_entry-add_file-requires-clause-file : goal.add_entry-add_file-requires-clause-file
 add_entry-add_file-requires-clause-file g t c = λ q. (let f : true ≡ false = c.if-ne.ensures ∙ ap (λ m. not (sameb the_type m Dir)) q in cc f)
@@ -43,24 +43,22 @@ add_entry-add_file-requires-clause-held g t c =
     file_leaf (g.N.Namer.name_of c.args.repo.now.0) c.args.repo.now.1 c.args.room c.args.front.now e.component.now e.name.bytes e.mode held.0 held.1 held.2 dir
 
 pub add_entry-returns-then-ne : goal.add_entry-returns-then-ne
-add_entry-returns-then-ne g t c = λ ws k h entry leaf kept.
+add_entry-returns-then-ne g t c = λ k entry leaf ws h kept.
     let name = g.N.Namer.name_of c.args.repo.now.0 in
     let r = c.args.repo.now.1 in
-    let taken = g.W.Sink.taken in
     let e = c.args.entry.now in
     let dir : e.mode ≢ Dir = λ q. (let f : true ≡ false = c.if-ne.ensures ∙ ap (λ m. not (sameb the_type m Dir)) q in cc f) in
     let one = ap (λ p. (p, (e.mode, e.name.bytes)) ∷ []) c.in_ok-path.ensures ∙ file_below name r c.args.room c.args.front.now e.component.now e.name.bytes e.mode k leaf dir in
-    subst (λ fs. Gathers name r ws fs c.args.written.now c.add_file.new.written (taken c.args.sink.now) (taken c.add_file.new.sink) c.args.lines.now c.add_file.new.lines c.add_file.result) one (c.add_file.ensures ws h kept)
+    subst (λ fs. Gathers name r ws fs c.args.written.now c.add_file.new.written c.args.lines.now c.add_file.new.lines c.add_file.result) one (c.add_file.ensures ws h kept)
 
 pub add_entry-returns : goal.add_entry-returns
-add_entry-returns g t c = λ ws k h entry leaf kept.
+add_entry-returns g t c = λ k entry leaf ws h kept.
     let name = g.N.Namer.name_of c.args.repo.now.0 in
     let r = c.args.repo.now.1 in
-    let taken = g.W.Sink.taken in
     let e = c.args.entry.now in
     let dir : e.mode ≡ Dir = same_true the_type (search rules) _ _ (denied _ c.if-ne.ensures) in
     let f = folder_below name r c.args.room c.args.front.now e.component.now e.name.bytes e.mode 4095 k entry leaf dir in
-    subst (λ fs. Gathers name r ws fs c.args.written.now c.add_tree.new.written (taken c.args.sink.now) (taken c.add_tree.new.sink) c.args.lines.now c.add_tree.new.lines c.add_tree.result) (ap (λ p. below p f.0) c.in_ok-path.ensures ∙ f.2) (c.add_tree.ensures ws f.0 h f.1 kept)
+    subst (λ fs. Gathers name r ws fs c.args.written.now c.add_tree.new.written c.args.lines.now c.add_tree.new.lines c.add_tree.result) (ap (λ p. below p f.0) c.in_ok-path.ensures ∙ f.2) (c.add_tree.ensures f.0 f.1 ws h kept)
 
 pub add_entries-entries_of-entry-items-requires : goal.add_entries-entries_of-entry-items-requires
 add_entries-entries_of-entry-items-requires g t c = is_tree (g.N.Namer.name_of c.args.repo.now.0) c.args.repo.now.1.records c.args.tree.now.bytes c.requires.held.0 c.requires.held.1.within.0
@@ -73,7 +71,7 @@ add_entries-loop-entry-init g t c = λ ws f h kept held.
     record {
       done = [];
       loading = loading_none name (level_of f) c.entries_of-entry-items.result c.into_iter-entry-iterator.result c.into_iter-entry-iterator.ensures.into_iter_gives entries;
-      gathered = nothing_gathered name c.args.repo.now.1 ws c.args.written.now (g.W.Sink.taken c.args.sink.now) c.args.lines.now h kept;
+      gathered = nothing_gathered name c.args.repo.now.1 ws c.args.written.now c.args.lines.now h kept;
     }
 
 pub add_entries-add_entry-requires : goal.add_entries-add_entry-requires
@@ -91,53 +89,50 @@ pub add_entries-loop-entry-preserved : goal.add_entries-loop-entry-preserved
 add_entries-loop-entry-preserved g t c = λ ws f h kept tree.
     let name = g.N.Namer.name_of c.args.repo.now.0 in
     let r = c.args.repo.now.1 in
-    let taken = g.W.Sink.taken in
     let P = IsHeldEntry name r.records 4095 in
     let w = c.loop-entry.invariant ws f h kept tree in
     let held = entries_held name r.records c.args.tree.now.bytes f 4095 (tree, within_all f tree.map) in
     let next = loading_more name P (level_of f) (shown c.in-Some.entry) c.loop-entry.entry-iterator c.next.new.self w.done held c.in-Some.ensures.steps w.loading in
-    walking_next name r ws c.args.front.now (level_of f) c.loop-entry.entry-iterator c.next.new.self (shown c.in-Some.entry) P c.args.written.now c.loop-entry.written c.add_entry.new.written (taken c.args.sink.now) (taken c.loop-entry.sink) (taken c.add_entry.new.sink) c.args.lines.now c.loop-entry.lines c.add_entry.new.lines w next
-    (c.in_ok-add_entry.ensures _ next.kept w.gathered.adds.0 next.fits next.leaf w.gathered.kept)
+    walking_next name r ws c.args.front.now (level_of f) c.loop-entry.entry-iterator c.next.new.self (shown c.in-Some.entry) P c.args.written.now c.loop-entry.written c.add_entry.new.written c.args.lines.now c.loop-entry.lines c.add_entry.new.lines w next
+    (c.in_ok-add_entry.ensures next.kept next.fits next.leaf _ w.gathered.adds.0 w.gathered.kept)
 
 pub add_entries-returns-in_err-add_entry : goal.add_entries-returns-in_err-add_entry
-add_entries-returns-in_err-add_entry g t c = λ ws f h tree kept.
+add_entries-returns-in_err-add_entry g t c = λ f tree ws h kept.
     let name = g.N.Namer.name_of c.args.repo.now.0 in
     let r = c.args.repo.now.1 in
-    let taken = g.W.Sink.taken in
     let P = IsHeldEntry name r.records 4095 in
     let w = c.loop-entry.invariant ws f h kept tree in
     let held = entries_held name r.records c.args.tree.now.bytes f 4095 (tree, within_all f tree.map) in
     let next = loading_more name P (level_of f) (shown c.in-Some.entry) c.loop-entry.entry-iterator c.next.new.self w.done held c.in-Some.ensures.steps w.loading in
     let p = err_from_is_err_and c.from_residual.result c.from_residual.ensures.1 in
-    rw (p.1, p.2) (walking_stops name r ws c.args.front.now (level_of f) c.loop-entry.entry-iterator c.next.new.self (shown c.in-Some.entry) P c.args.written.now c.loop-entry.written c.loop-entry.written (taken c.args.sink.now) (taken c.loop-entry.sink) (taken c.add_entry.new.sink) c.args.lines.now c.loop-entry.lines c.loop-entry.lines w next
-    f c.in_err-add_entry.field-0.0 (files-level_of f (parts_of f tree.map.file_map)) (c.in_err-add_entry.ensures _ next.kept w.gathered.adds.0 next.fits next.leaf w.gathered.kept))
+    rw (p.1, p.2) (walking_stops name r ws c.args.front.now (level_of f) c.loop-entry.entry-iterator c.next.new.self (shown c.in-Some.entry) P c.args.written.now c.loop-entry.written c.add_entry.new.written c.args.lines.now c.loop-entry.lines c.loop-entry.lines w next
+    f c.in_err-add_entry.field-0.0 (files-level_of f (parts_of f tree.map.file_map)) (c.in_err-add_entry.ensures next.kept next.fits next.leaf _ w.gathered.adds.0 w.gathered.kept))
 
 pub add_entries-returns : goal.add_entries-returns
-add_entries-returns g t c = λ ws f h tree kept.
+add_entries-returns g t c = λ f tree ws h kept.
     let name = g.N.Namer.name_of c.args.repo.now.0 in
     let r = c.args.repo.now.1 in
-    let taken = g.W.Sink.taken in
     let w = c.loop-entry.invariant ws f h kept tree in
     let all = loading_all name (level_of f) c.loop-entry.entry-iterator w.done c.in-None.ensures.steps.0 w.loading in
-    subst (λ fs. IsGathered name r ws (below c.args.front.now fs) c.args.written.now c.loop-entry.written (taken c.args.sink.now) (taken c.loop-entry.sink) c.args.lines.now c.loop-entry.lines) (ap files all ∙ files-level_of f (parts_of f tree.map.file_map)) w.gathered
+    subst (λ fs. IsGathered name r ws (below c.args.front.now fs) c.args.written.now c.loop-entry.written c.args.lines.now c.loop-entry.lines) (ap files all ∙ files-level_of f (parts_of f tree.map.file_map)) w.gathered
 
 pub add_tree-returns-in_err-take_over : goal.add_tree-returns-in_err-take_over
-add_tree-returns-in_err-take_over g t c = λ ws f h tree kept.
+add_tree-returns-in_err-take_over g t c = λ f tree ws h kept.
     let p = err_from_is_err_and c.from_residual.result c.from_residual.ensures.1 in
-    rw (p.1, p.2) (stops_first c.args.written.now.bytes (g.W.Sink.taken c.args.sink.now) (items_text (items_of (blob_commands ws (bytes_in (named_values c.args.repo.now.1.records) (below c.args.front.now f))))))
+    rw (p.1, p.2) (stops_first c.args.written.now.output (items_text (items_of (blob_commands ws (bytes_in (named_values c.args.repo.now.1.records) (below c.args.front.now f))))))
 
 pub add_tree-returns-in_err-number : goal.add_tree-returns-in_err-number
-add_tree-returns-in_err-number g t c = λ ws f h tree kept.
+add_tree-returns-in_err-number g t c = λ f tree ws h kept.
     let p = err_from_is_err_and c.from_residual-in_err-number.result c.from_residual-in_err-number.ensures.1 in
-    rw (p.1, p.2) (stops_first c.args.written.now.bytes (g.W.Sink.taken c.args.sink.now) (items_text (items_of (blob_commands ws (bytes_in (named_values c.args.repo.now.1.records) (below c.args.front.now f))))))
+    rw (p.1, p.2) (stops_first c.args.written.now.output (items_text (items_of (blob_commands ws (bytes_in (named_values c.args.repo.now.1.records) (below c.args.front.now f))))))
 
 pub add_tree-returns-then-branch : goal.add_tree-returns-then-branch
-add_tree-returns-then-branch g t c = λ ws f h tree kept.
+add_tree-returns-then-branch g t c = λ f tree ws h kept.
     let name = g.N.Namer.name_of c.args.repo.now.0 in
     let r = c.args.repo.now.1 in
     let known : TakesOver name r ws c.joined.result.now c.args.tree.now.bytes c.args.lines.now c.take_over.new.self true = subst (TakesOver name r ws c.joined.result.now c.args.tree.now.bytes c.args.lines.now c.take_over.new.self) c.if-branch.true (c.in_ok-take_over.ensures name r ws kept) in
     let again = known.1 c.args.front.now f c.joined.ensures.path tree in
-    gathered_again name r ws (below c.args.front.now f) c.args.written.now (g.W.Sink.taken c.args.sink.now) c.args.lines.now c.take_over.new.self again.0 h again.1 again.2 known.0
+    gathered_again name r ws (below c.args.front.now f) c.args.written.now c.args.lines.now c.take_over.new.self again.0 h again.1 again.2 known.0
 
 pub add_tree-add_entries-requires : goal.add_tree-add_entries-requires
 add_tree-add_entries-requires g t c =
@@ -149,27 +144,26 @@ add_tree-add_entries-requires g t c =
     λ κs within. (less, (within.0, (within.1.0, (within.1.1, (c.requires.held, (w.0, w.1, c.in_ok-number.ensures.kept name r w.0 known.0))))))
 
 pub add_tree-returns-in_err-add_entries : goal.add_tree-returns-in_err-add_entries
-add_tree-returns-in_err-add_entries g t c = λ ws f h tree kept.
+add_tree-returns-in_err-add_entries g t c = λ f tree ws h kept.
     let name = g.N.Namer.name_of c.args.repo.now.0 in
     let r = c.args.repo.now.1 in
     let known : TakesOver name r ws c.joined.result.now c.args.tree.now.bytes c.args.lines.now c.take_over.new.self false = subst (TakesOver name r ws c.joined.result.now c.args.tree.now.bytes c.args.lines.now c.take_over.new.self) c.if-branch.false (c.in_ok-take_over.ensures name r ws kept) in
     let p = err_from_is_err_and c.from_residual-in_err-add_entries.result c.from_residual-in_err-add_entries.ensures.1 in
-    rw (p.1, p.2) (c.in_err-add_entries.ensures ws f h tree (c.in_ok-number.ensures.kept name r ws known.0))
+    rw (p.1, p.2) (c.in_err-add_entries.ensures f tree ws h (c.in_ok-number.ensures.kept name r ws known.0))
 
 pub add_tree-returns : goal.add_tree-returns
-add_tree-returns g t c = λ ws f h tree kept.
+add_tree-returns g t c = λ f tree ws h kept.
     let name = g.N.Namer.name_of c.args.repo.now.0 in
     let r = c.args.repo.now.1 in
-    let taken = g.W.Sink.taken in
     let n = c.args.tree.now.bytes in
     let front = c.args.front.now in
     let names = below front f in
     let us = with_blobs ws (bytes_in (named_values r.records) names) in
     let known : TakesOver name r ws c.joined.result.now n c.args.lines.now c.take_over.new.self false = subst (TakesOver name r ws c.joined.result.now n c.args.lines.now c.take_over.new.self) c.if-branch.false (c.in_ok-take_over.ensures name r ws kept) in
-    let e = c.in_ok-add_entries.ensures ws f h tree (c.in_ok-number.ensures.kept name r ws known.0) in
+    let e = c.in_ok-add_entries.ensures f tree ws h (c.in_ok-number.ensures.kept name r ws known.0) in
     let opened : c.open.new.self.text.items ≡ c.take_over.new.self.text.items = ap (λ x. x.items) c.in_ok-number.ensures.text in
     let start : length c.open.new.self.text.items ≡ c.len-start.result = omega (arith, ap length opened, c.len-start.ensures, c.take_over.new.self.text.ok) in
-    let lines = lines_gathered name r ws names c.args.written.now c.add_entries.new.written (taken c.args.sink.now) (taken c.add_entries.new.sink) c.open.new.self c.add_entries.new.lines c.len-start.result start e in
+    let lines = lines_gathered name r ws names c.args.written.now c.add_entries.new.written c.open.new.self c.add_entries.new.lines c.len-start.result start e in
     let within : c.len-start.result ≤ length c.add_entries.new.lines.text.items = omega (arith, start, ap length e.text, length-append c.open.new.self.text.items (lines_text (named_values r.records) us names)) in
     let claim : (other : Path) (g' : FileMap Bytes) → path_of c.joined-3.result.now ≡ Ok other → IsHeldTree name r.records n g' → IsLinesOf r us (below other g') (drop c.len-start.result c.add_entries.new.lines.text.items) = λ other g' p k.
     (let both : Ok front ≡ Ok other = sym c.joined-3.ensures.path ∙ p in

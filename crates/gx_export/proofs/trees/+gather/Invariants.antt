@@ -20,4 +20,4 @@ decreases-add_entry g l = 3 * l.room
 
 abbrev pub invariant-add_entries-loop-entry : goal.invariant-add_entries-loop-entry
 invariant-add_entries-loop-entry g l = (ws : List Value) (f : FileMap Bytes) → HasWritten l.repo.1 ws l.fn.written → AreKept (g.N.Namer.name_of l.repo.0) l.repo.1 ws l.fn.lines → IsHeldTree (g.N.Namer.name_of l.repo.0) l.repo.1.records l.tree.bytes f
-    → IsWalking (g.N.Namer.name_of l.repo.0) l.repo.1 ws l.front (level_of f) l.entry-iterator l.fn.written l.written (g.W.Sink.taken l.fn.sink) (g.W.Sink.taken l.sink) l.fn.lines l.lines
+    → IsWalking (g.N.Namer.name_of l.repo.0) l.repo.1 ws l.front (level_of f) l.entry-iterator l.fn.written l.written l.fn.lines l.lines

@@ -23,24 +23,22 @@ returns-clause-adds g c = λ ws h kept.
     let name = g.N.Namer.name_of c.args.repo.now.0 in
     let r = c.args.repo.now.1 in
     let namer = g.met.N.Namer.is_namer c.args.repo.now.0 in
-    let taken = g.W.Sink.taken in
     let f = files_of (commit_at r c.args.commit.now) in
     let tree = c.tree.ensures ∙ ap (λ v. v.tree) c.view_of-view.ensures in
     let held : IsHeldTree name r.records c.tree.result.bytes (named_map name f) = rw tree (files_are_held name namer r c.sound.ensures c.args.commit.now.bytes c.requires.held) in
-    adds_gathered name r ws c.root-root.result (named_map name f) f c.args.written.now c.add_tree.new.written (taken c.args.sink.now) (taken c.add_tree.new.sink) c.begin.new.self c.add_tree.new.lines c.add_tree.result c.root-root.ensures
-    (files_named_so name namer r c.sound.ensures c.args.commit.now.bytes c.requires.held).1 (c.add_tree.ensures ws (named_map name f) h held (c.begin.ensures.kept name r ws kept))
+    adds_gathered name r ws c.root-root.result (named_map name f) f c.args.written.now c.add_tree.new.written c.begin.new.self c.add_tree.new.lines c.add_tree.result c.root-root.ensures
+    (files_named_so name namer r c.sound.ensures c.args.commit.now.bytes c.requires.held).1 (c.add_tree.ensures (named_map name f) held ws h (c.begin.ensures.kept name r ws kept))
 
 pub returns-clause-text : goal.returns-clause-text
 returns-clause-text g c = λ ws h kept.
     let name = g.N.Namer.name_of c.args.repo.now.0 in
     let r = c.args.repo.now.1 in
     let namer = g.met.N.Namer.is_namer c.args.repo.now.0 in
-    let taken = g.W.Sink.taken in
     let f = files_of (commit_at r c.args.commit.now) in
     let tree = c.tree.ensures ∙ ap (λ v. v.tree) c.view_of-view.ensures in
     let held : IsHeldTree name r.records c.tree.result.bytes (named_map name f) = rw tree (files_are_held name namer r c.sound.ensures c.args.commit.now.bytes c.requires.held) in
-    text_gathered name r ws c.root-root.result (named_map name f) f c.args.written.now c.add_tree.new.written (taken c.args.sink.now) (taken c.add_tree.new.sink) c.begin.new.self c.add_tree.new.lines c.add_tree.result c.root-root.ensures
-    (files_named_so name namer r c.sound.ensures c.args.commit.now.bytes c.requires.held).1 c.begin.ensures.text (c.add_tree.ensures ws (named_map name f) h held (c.begin.ensures.kept name r ws kept))
+    text_gathered name r ws c.root-root.result (named_map name f) f c.args.written.now c.add_tree.new.written c.begin.new.self c.add_tree.new.lines c.add_tree.result c.root-root.ensures
+    (files_named_so name namer r c.sound.ensures c.args.commit.now.bytes c.requires.held).1 c.begin.ensures.text (c.add_tree.ensures (named_map name f) held ws h (c.begin.ensures.kept name r ws kept))
 
 pub add_tree-requires-clause-written : goal.add_tree-requires-clause-written
 add_tree-requires-clause-written g c =
@@ -52,9 +50,8 @@ returns-clause-kept g c = λ ws h kept.
     let name = g.N.Namer.name_of c.args.repo.now.0 in
     let r = c.args.repo.now.1 in
     let namer = g.met.N.Namer.is_namer c.args.repo.now.0 in
-    let taken = g.W.Sink.taken in
     let f = files_of (commit_at r c.args.commit.now) in
     let tree = c.tree.ensures ∙ ap (λ v. v.tree) c.view_of-view.ensures in
     let held : IsHeldTree name r.records c.tree.result.bytes (named_map name f) = rw tree (files_are_held name namer r c.sound.ensures c.args.commit.now.bytes c.requires.held) in
-    kept_gathered name r ws c.root-root.result (named_map name f) f c.args.written.now c.add_tree.new.written (taken c.args.sink.now) (taken c.add_tree.new.sink) c.begin.new.self c.add_tree.new.lines c.add_tree.result c.root-root.ensures
-    (files_named_so name namer r c.sound.ensures c.args.commit.now.bytes c.requires.held).1 (c.add_tree.ensures ws (named_map name f) h held (c.begin.ensures.kept name r ws kept))
+    kept_gathered name r ws c.root-root.result (named_map name f) f c.args.written.now c.add_tree.new.written c.begin.new.self c.add_tree.new.lines c.add_tree.result c.root-root.ensures
+    (files_named_so name namer r c.sound.ensures c.args.commit.now.bytes c.requires.held).1 (c.add_tree.ensures (named_map name f) held ws h (c.begin.ensures.kept name r ws kept))

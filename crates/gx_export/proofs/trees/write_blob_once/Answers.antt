@@ -1,11 +1,11 @@
-use Rattle.std.proofs.Common.{◌≡◌, ◌<◌, ◌+◌, ◌∙◌, sym, subst, arith, Some, Ok}
+use Rattle.std.proofs.Common.{◌≡◌, ◌<◌, ◌+◌, ◌∙◌, sym, subst, arith, Some, Ok, Err}
 use Rattle.std.proofs.lemmas.Result.{err_from_is_err_and}
 use Rattle.gx_model.specs.Streams.Commands.{Blob}
 use Rattle.gx_model.specs.Export.{number_in}
 use Rattle.gx_model.specs.Histories.Values.{blob_value}
 use Rattle.gx_model.specs.Laws.RepositoryLaws.{values_of}
 use Rattle.gx_model.proofs.Records.Standing.{at_within}
-use Rattle.gx_export.specs.Outputs.{Stops, Writes}
+use Rattle.gx_export.specs.Outputs.{Writes}
 use Rattle.gx_export.specs.Texts.{command_text}
 use Rattle.gx_export.proofs.Numbering.{adds_new_blob, adds_old_blob, body_here, mark_here, only_place, place_marked, stops_new_blob}
 use Rattle.gx_export.proofs.trees.write_blob_once.Goals as goal
@@ -17,7 +17,7 @@ returns-then-index-gt0-clause-adds g c = λ x ws e h.
     let r = c.args.repo.now.1 in
     let mark = c.index.ensures ∙ mark_here name namer r c.sound.ensures ws c.args.written.now.marks.items (blob_value x) c.args.place c.index.result.now h.marks e in
     let some : 0 < number_in ws (blob_value x) = omega (arith, mark, c.if-index-gt0.true) in
-    adds_old_blob ws x r c.args.written.now h (g.W.Sink.taken c.args.sink.now) some
+    adds_old_blob ws x r c.args.written.now h some
 
 pub index-requires : goal.index-requires
 index-requires g c =
@@ -27,23 +27,18 @@ index-requires g c =
 pub body_at-body-requires : goal.body_at-body-requires
 body_at-body-requires g c = at_within (values_of c.args.repo.now.1) c.args.place (blob_value c.requires.blob.0) c.requires.blob.1
 
-pub write_blob-requires : goal.write_blob-requires
-write_blob-requires g c = c.requires.written.1.most
-
 pub returns-in_err-write_blob-clause-adds : goal.returns-in_err-write_blob-clause-adds
 returns-in_err-write_blob-clause-adds g c = λ x ws e h.
     let name = g.N.Namer.name_of c.args.repo.now.0 in
     let namer = g.met.N.Namer.is_namer c.args.repo.now.0 in
     let r = c.args.repo.now.1 in
     let old = c.args.written.now in
-    let was = g.W.Sink.taken c.args.sink.now in
-    let now = g.W.Sink.taken c.write_blob.new.sink in
     let p = err_from_is_err_and c.from_residual.result c.from_residual.ensures.1 in
     let mark = c.index.ensures ∙ mark_here name namer r c.sound.ensures ws old.marks.items (blob_value x) c.args.place c.index.result.now h.marks e in
     let none : number_in ws (blob_value x) ≡ 0 = omega (arith, mark, c.if-index-gt0.false) in
     let body = body_here name namer r c.sound.ensures c.args.place x c.body_at-body.result.now e c.body_at-body.ensures in
     let fault = c.in_err-write_blob.field-0.0 in
-    rw (p.1, p.2) (stops_new_blob ws x r old h was now fault none (subst (λ y. Stops old.bytes was now (command_text (Blob (record { mark = Some (old.count + 1); bytes = y }))) fault) body c.in_err-write_blob.ensures.text))
+    rw (p.1, p.2) (stops_new_blob ws x r old h c.write_blob.new.output fault none (subst (λ y. Writes c.args.written.now.output c.write_blob.new.output (command_text (Blob (record { mark = Some (old.count + 1); bytes = y }))) (Err fault)) body c.in_err-write_blob.ensures.text))
 
 pub mark-requires-clause-place : goal.mark-requires-clause-place
 mark-requires-clause-place g c =
@@ -63,12 +58,10 @@ returns-clause-adds g c = λ x ws e h.
     let sound = c.sound.ensures in
     let v = blob_value x in
     let old = c.args.written.now in
-    let was = g.W.Sink.taken c.args.sink.now in
-    let now = g.W.Sink.taken c.write_blob.new.sink in
     let mark = c.index.ensures ∙ mark_here name namer r sound ws old.marks.items v c.args.place c.index.result.now h.marks e in
     let none : number_in ws (blob_value x) ≡ 0 = omega (arith, mark, c.if-index-gt0.false) in
     let body = body_here name namer r sound c.args.place x c.body_at-body.result.now e c.body_at-body.ensures in
-    let done = subst (λ y. Writes old.bytes c.write_blob.new.sent was now (command_text (Blob (record { mark = Some (old.count + 1); bytes = y }))) (Ok tt)) body c.in_ok-write_blob.ensures.text in
-    let same = subst (λ bytes. Writes old.bytes bytes was now (command_text (Blob (record { mark = Some (old.count + 1); bytes = x }))) (Ok tt)) (sym c.mark.ensures.bytes) done in
+    let done = subst (λ y. Writes c.args.written.now.output c.write_blob.new.output (command_text (Blob (record { mark = Some (old.count + 1); bytes = y }))) (Ok tt)) body c.in_ok-write_blob.ensures.text in
+    let same = subst (λ s. Writes c.args.written.now.output s (command_text (Blob (record { mark = Some (old.count + 1); bytes = x }))) (Ok tt)) (sym c.mark.ensures.output) done in
     let only = only_place name namer r sound v c.args.place e in
-    adds_new_blob ws x r old h was c.mark.new.self c.args.place now none only (place_marked name namer r sound ws old.marks.items v c.args.place h.marks e) c.mark.ensures.count c.mark.ensures.marks same
+    adds_new_blob ws x r old h c.mark.new.self c.args.place none only (place_marked name namer r sound ws old.marks.items v c.args.place h.marks e) c.mark.ensures.count c.mark.ensures.marks same

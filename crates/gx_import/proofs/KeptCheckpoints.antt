@@ -107,15 +107,15 @@ module _ (name : Kind → Bytes → Bytes) {A : Type 0} where
           record { history = ap history_of left ∙ k.history ∙ ap (λ z. z.history) (sym kept); count = k.count ∙ ap (λ z. z.checkpoints) (sym kept) }
       by s k (Err f) = record { history = ap history_of left ∙ k.history; count = k.count }
 
-  -- nothing is kept but the start
-  pub kept_start : (r : Records) (checkpoints : Checkpoints) → AreNone r checkpoints → Keeps r checkpoints (start (history_of r))
-  kept_start r checkpoints h =
-      let whole : left_of checkpoints r ≡ r = λ i. with_refs ((ap (λ n. take n r.records) h.records ∙ take-length r.records) i) r.refs in
-      record { history = ap history_of whole; count = h.count }
-
   -- and what one leaves that adds nothing
   pub kept_here : (r : Records) (tables : Tables A) (checkpoints : Checkpoints) (c : Command) → IsOther c → checkpoints.records ≤ length r.records → (a : Result (Unit {0}) Fault) → KeepsFromEach name r r tables checkpoints checkpoints c a
   kept_here r tables checkpoints c other fits a = kept_on r r tables checkpoints c other fits (extended_same r.records r.records refl) refl a
+
+-- nothing is kept but the start
+pub kept_start : (r : Records) (checkpoints : Checkpoints) → AreNone r checkpoints → Keeps r checkpoints (start (history_of r))
+kept_start r checkpoints h =
+    let whole : left_of checkpoints r ≡ r = λ i. with_refs ((ap (λ n. take n r.records) h.records ∙ take-length r.records) i) r.refs in
+    record { history = ap history_of whole; count = h.count }
 
 -- ---- what is left
 

@@ -38,19 +38,7 @@ use Rattle.gx_import.proofs.ToldCommits.{none_told}
 -- no fault of a reader is that of a lost commit
 pub read_forward : (f : CommandFault) → of_command f ≢ NotFastForward
 read_forward reader.OutOfMemory e = absurd (cc e)
-read_forward reader.ReadFailed e = absurd (cc e)
-read_forward reader.TruncatedData e = absurd (cc e)
-read_forward reader.BadNumber e = absurd (cc e)
-read_forward reader.UnknownCommand e = absurd (cc e)
-read_forward reader.BadLine e = absurd (cc e)
-read_forward reader.BadPath e = absurd (cc e)
-read_forward reader.PathTooLong e = absurd (cc e)
-read_forward reader.BadMode e = absurd (cc e)
-read_forward reader.BadIdent e = absurd (cc e)
-read_forward reader.BadRefName e = absurd (cc e)
-read_forward reader.Unsupported e = absurd (cc e)
-read_forward reader.LateOption e = absurd (cc e)
-read_forward reader.MissingDone e = absurd (cc e)
+read_forward why e = absurd (cc e)
 
 -- nor is want of memory
 pub memory_forward : OutOfMemory ≢ NotFastForward

@@ -17,7 +17,7 @@ use Rattle.gx_model.proofs.Streams.CommandItems.{commands_read}
 use Rattle.gx_model.proofs.Streams.ItemTexts.{items_read}
 use Rattle.gx_model.proofs.Export.SpelledExports.{export_spelled}
 use Rattle.gx_model.proofs.Streams.SpelledItems.{between_spelled}
-use Rattle.gx_import.proofs.ProgressTexts.{HasKept, IsOther, kept_still}
+use Rattle.gx_import.proofs.ProgressTexts.{IsOther, kept_still}
 
 abbrev pub AreOther : List Command → Type 0
 AreOther commands = AllByRecursion IsOther commands
@@ -55,7 +55,7 @@ pub kept_through : (name : Kind → Bytes → Bytes) (n : ℕ) (s : State) (cs :
 kept_through name n s [] f number g text kept h e = let same : s.kept ≡ kept = cc e in sym same
 kept_through name n s (c ∷ cs) f number g text kept h e = by (step name s c) (kept_still name s c h.0) (λ t. kept_through name (n + 1) t cs f number g text kept h.1) e
   where
-    by : (r : Result State Fault) → IfOk r (HasKept name s) → ((t : State) → replayed name (n + 1) t cs (Some f) ≡ refused number g text kept → kept ≡ t.kept)
+    by : (r : Result State Fault) → IfOk r (λ t. t.kept ≡ s.kept) → ((t : State) → replayed name (n + 1) t cs (Some f) ≡ refused number g text kept → kept ≡ t.kept)
         → elim r as (λ _. Outcome) [ Ok t ↦ replayed name (n + 1) t cs (Some f) | Err d ↦ refused (n + 1) d s.progress s.kept ] ≡ refused number g text kept → kept ≡ s.kept
-    by (Ok t) k rest e = rest t e ∙ k.kept
+    by (Ok t) k rest e = rest t e ∙ k
     by (Err d) k rest e = let same : s.kept ≡ kept = cc e in sym same

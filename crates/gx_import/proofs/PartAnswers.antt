@@ -19,97 +19,22 @@ pub adds_more : {X Y : Type 0} (clash other : Type 0) (Is Be : Y → X → Type 
     → AddsAs clash Is result given → AddsAs other Be result given
 adds_more clash other Is Be f k (Ok x) given h = (h.0, h.1, k h.0 x h.2)
 adds_more clash other Is Be f k (Err OutOfMemory) given h = tt
-adds_more clash other Is Be f k (Err ReadFailed) given h = h
-adds_more clash other Is Be f k (Err WriteFailed) given h = h
-adds_more clash other Is Be f k (Err UnknownCommand) given h = h
-adds_more clash other Is Be f k (Err BadLine) given h = h
-adds_more clash other Is Be f k (Err BadNumber) given h = h
-adds_more clash other Is Be f k (Err TruncatedData) given h = h
-adds_more clash other Is Be f k (Err BadPath) given h = h
-adds_more clash other Is Be f k (Err PathTooLong) given h = h
-adds_more clash other Is Be f k (Err BadMode) given h = h
-adds_more clash other Is Be f k (Err BadIdent) given h = h
-adds_more clash other Is Be f k (Err BadRefName) given h = h
-adds_more clash other Is Be f k (Err UnknownMark) given h = h
-adds_more clash other Is Be f k (Err WrongKind) given h = h
-adds_more clash other Is Be f k (Err UnknownObject) given h = h
-adds_more clash other Is Be f k (Err NoSuchPath) given h = h
-adds_more clash other Is Be f k (Err RootNotTree) given h = h
-adds_more clash other Is Be f k (Err FromItself) given h = h
-adds_more clash other Is Be f k (Err EmptyBranch) given h = h
-adds_more clash other Is Be f k (Err Unsupported) given h = h
-adds_more clash other Is Be f k (Err LateOption) given h = h
-adds_more clash other Is Be f k (Err MissingDone) given h = h
-adds_more clash other Is Be f k (Err NotFastForward) given h = h
 adds_more clash other Is Be f k (Err NameHeld) given h = f h
-adds_more clash other Is Be f k (Err BadRevision) given h = h
-adds_more clash other Is Be f k (Err UnknownRef) given h = h
-adds_more clash other Is Be f k (Err Ambiguous) given h = h
-adds_more clash other Is Be f k (Err NoParent) given h = h
+adds_more clash other Is Be f k (Err e) given h = h
 
 -- a part is refused
 pub adds_refused : {X Y Z W : Type 0} (clash other : Type 0) (Is : Y → X → Type 0) (Be : W → Z → Type 0) → (clash → other) → (e : Fault) (given : Result Y Fault) (next : Y → Result W Fault)
     → AddsAs clash Is (Err e) given → AddsAs other Be (Err e) (given >>= next)
 adds_refused clash other Is Be f OutOfMemory given next h = tt
-adds_refused clash other Is Be f ReadFailed given next h = ap (λ r. r >>= next) h
-adds_refused clash other Is Be f WriteFailed given next h = ap (λ r. r >>= next) h
-adds_refused clash other Is Be f UnknownCommand given next h = ap (λ r. r >>= next) h
-adds_refused clash other Is Be f BadLine given next h = ap (λ r. r >>= next) h
-adds_refused clash other Is Be f BadNumber given next h = ap (λ r. r >>= next) h
-adds_refused clash other Is Be f TruncatedData given next h = ap (λ r. r >>= next) h
-adds_refused clash other Is Be f BadPath given next h = ap (λ r. r >>= next) h
-adds_refused clash other Is Be f PathTooLong given next h = ap (λ r. r >>= next) h
-adds_refused clash other Is Be f BadMode given next h = ap (λ r. r >>= next) h
-adds_refused clash other Is Be f BadIdent given next h = ap (λ r. r >>= next) h
-adds_refused clash other Is Be f BadRefName given next h = ap (λ r. r >>= next) h
-adds_refused clash other Is Be f UnknownMark given next h = ap (λ r. r >>= next) h
-adds_refused clash other Is Be f WrongKind given next h = ap (λ r. r >>= next) h
-adds_refused clash other Is Be f UnknownObject given next h = ap (λ r. r >>= next) h
-adds_refused clash other Is Be f NoSuchPath given next h = ap (λ r. r >>= next) h
-adds_refused clash other Is Be f RootNotTree given next h = ap (λ r. r >>= next) h
-adds_refused clash other Is Be f FromItself given next h = ap (λ r. r >>= next) h
-adds_refused clash other Is Be f EmptyBranch given next h = ap (λ r. r >>= next) h
-adds_refused clash other Is Be f Unsupported given next h = ap (λ r. r >>= next) h
-adds_refused clash other Is Be f LateOption given next h = ap (λ r. r >>= next) h
-adds_refused clash other Is Be f MissingDone given next h = ap (λ r. r >>= next) h
-adds_refused clash other Is Be f NotFastForward given next h = ap (λ r. r >>= next) h
 adds_refused clash other Is Be f NameHeld given next h = f h
-adds_refused clash other Is Be f BadRevision given next h = ap (λ r. r >>= next) h
-adds_refused clash other Is Be f UnknownRef given next h = ap (λ r. r >>= next) h
-adds_refused clash other Is Be f Ambiguous given next h = ap (λ r. r >>= next) h
-adds_refused clash other Is Be f NoParent given next h = ap (λ r. r >>= next) h
+adds_refused clash other Is Be f e given next h = ap (λ r. r >>= next) h
 
 -- a part that adds nothing is refused
 pub gives_refused : {Y Z W : Type 0} (clash : Type 0) (Be : W → Z → Type 0) (e : Fault) (given : Result Y Fault) (next : Y → Result W Fault) → IsAnswer given
     → IsFaultOf e given → AddsAs clash Be (Err e) (given >>= next)
 gives_refused clash Be OutOfMemory given next a h = tt
-gives_refused clash Be ReadFailed given next a h = ap (λ r. r >>= next) h
-gives_refused clash Be WriteFailed given next a h = ap (λ r. r >>= next) h
-gives_refused clash Be UnknownCommand given next a h = ap (λ r. r >>= next) h
-gives_refused clash Be BadLine given next a h = ap (λ r. r >>= next) h
-gives_refused clash Be BadNumber given next a h = ap (λ r. r >>= next) h
-gives_refused clash Be TruncatedData given next a h = ap (λ r. r >>= next) h
-gives_refused clash Be BadPath given next a h = ap (λ r. r >>= next) h
-gives_refused clash Be PathTooLong given next a h = ap (λ r. r >>= next) h
-gives_refused clash Be BadMode given next a h = ap (λ r. r >>= next) h
-gives_refused clash Be BadIdent given next a h = ap (λ r. r >>= next) h
-gives_refused clash Be BadRefName given next a h = ap (λ r. r >>= next) h
-gives_refused clash Be UnknownMark given next a h = ap (λ r. r >>= next) h
-gives_refused clash Be WrongKind given next a h = ap (λ r. r >>= next) h
-gives_refused clash Be UnknownObject given next a h = ap (λ r. r >>= next) h
-gives_refused clash Be NoSuchPath given next a h = ap (λ r. r >>= next) h
-gives_refused clash Be RootNotTree given next a h = ap (λ r. r >>= next) h
-gives_refused clash Be FromItself given next a h = ap (λ r. r >>= next) h
-gives_refused clash Be EmptyBranch given next a h = ap (λ r. r >>= next) h
-gives_refused clash Be Unsupported given next a h = ap (λ r. r >>= next) h
-gives_refused clash Be LateOption given next a h = ap (λ r. r >>= next) h
-gives_refused clash Be MissingDone given next a h = ap (λ r. r >>= next) h
-gives_refused clash Be NotFastForward given next a h = ap (λ r. r >>= next) h
 gives_refused clash Be NameHeld given next a h = absurd (subst IsAnswer h a)
-gives_refused clash Be BadRevision given next a h = ap (λ r. r >>= next) h
-gives_refused clash Be UnknownRef given next a h = ap (λ r. r >>= next) h
-gives_refused clash Be Ambiguous given next a h = ap (λ r. r >>= next) h
-gives_refused clash Be NoParent given next a h = ap (λ r. r >>= next) h
+gives_refused clash Be e given next a h = ap (λ r. r >>= next) h
 
 -- a record that isn't put
 pub put_refused : {X Y : Type 0} (clash : Type 0) (Be : Y → X → Type 0) (given : Result Y Fault) (old new : List Record) (r : Record) (f : StoreFault) → (put old r ≡ None → clash)

@@ -6,7 +6,7 @@ use Rattle.std.specs.Cmp.{IsEquivalence}
 use Rattle.std.specs.Cmp.Lexicographic.{nat_list_eq_equiv}
 use Rattle.std.specs.List.{AllByRecursion, IsDistinct, filter, fold, list_any}
 use Rattle.std.specs.Map.{keys_of, lookup}
-use Rattle.std.specs.Option.{option_filter, option_map, option_map_or}
+use Rattle.std.specs.Option.{option_map, option_map_or}
 use Rattle.std.specs.Ordering.{eq_by_cmp, is_eq, is_lt}
 use Rattle.std.specs.Set.{is_member}
 use Rattle.std.specs.declared.cmp.Ordering.{Ordering}
@@ -15,7 +15,7 @@ use Rattle.std.specs.FinMap.Entries.{below_all, find, find-put, find_tied, is_so
 use Rattle.std.proofs.lemmas.Bool.{false≢true, true≢false}
 use Rattle.std.proofs.lemmas.List.{length-append, map-append}
 use Rattle.std.proofs.lemmas.List.Folds.{list_any-append}
-use Rattle.std.proofs.lemmas.Map.Entries.{length-keys_of, lookup-filter-keys, lookup-filter-values}
+use Rattle.std.proofs.lemmas.Map.Entries.{length-keys_of, option_filter, lookup-filter-keys, lookup-filter-values}
 use Rattle.std.proofs.lemmas.Map.Keys.{IsDistinct-cons, IsDistinct-head, IsDistinct-tail}
 use Rattle.std.proofs.lemmas.Map.Made.{IsDistinct-keys_filter, is_some-lookup, length-from_same_keys, lookup-map_values}
 use Rattle.std.proofs.lemmas.Map.Text.{is_eq-slice_cmp}
@@ -44,6 +44,15 @@ tied q n e = by (byte_cmp q n) e
     by Equal e = refl
     by Less e = absurd (cc e)
     by Greater e = absurd (cc e)
+
+or_regroup : (a b c : Bool) → ((a || b) || c) ≡ (a || (b || c))
+or_regroup true b c = refl
+or_regroup false b c = refl
+
+or_more : (f t e : Bool) → (f || t) ≡ true → (f || (t || e)) ≡ true
+or_more true t e h = refl
+or_more false true e h = refl
+or_more false false e h = absurd (false≢true h)
 
 module _ {Y : Type 0} where
   -- the two look-ups of a name
@@ -79,10 +88,6 @@ module _ {Y : Type 0} where
   first_has : (b : Bool) (y : Y) (o : Option Y) → is_some (cond b (Some y) o) ≡ (b || is_some o)
   first_has true y o = refl
   first_has false y o = refl
-
-  or_regroup : (a b c : Bool) → ((a || b) || c) ≡ (a || (b || c))
-  or_regroup true b c = refl
-  or_regroup false b c = refl
 
   -- the names of more rows
   pub has_both : (xs ys : List (Bytes × Y)) (q : Bytes) → has_row (xs ++ ys) q ≡ (has_row xs q || has_row ys q)
@@ -123,7 +128,7 @@ has_all_put refs [] q = or_none (has_row refs q)
     or_none false = refl
 has_all_put refs (t ∷ ts) q =
     has_all_put (put_target refs t) ts q ∙ ap (λ b. b || has_row ts q) (has_put t.0 t.1 refs q)
-    ∙ or_regroup {Y = Target} (has_row refs q) (same_bytes q t.0) (has_row ts q)
+    ∙ or_regroup (has_row refs q) (same_bytes q t.0) (has_row ts q)
     ∙ ap (λ b. has_row refs q || b) (sym (first_has (same_bytes q t.0) t.1 (lookup (same_bytes q) ts)))
 
 -- ---- branches with a commit, and tags
@@ -177,11 +182,6 @@ module _ {A : Type 0} where
       by None (Some y) k = absurd k
       by (Some x) None k = absurd k
       by (Some x) (Some y) k = k.1
-
-  or_more : (f t e : Bool) → (f || t) ≡ true → (f || (t || e)) ≡ true
-  or_more true t e h = refl
-  or_more false true e h = refl
-  or_more false false e h = absurd (false≢true h)
 
   -- with a tag more
   pub published_tags : (refs : Targets) (tags : List (Bytes × Tag)) (rows : List (Bytes × Tip A)) (n : Bytes) (tag : Tag) → ArePublished refs tags rows → ArePublished refs (put byte_cmp n tag tags) rows
@@ -263,13 +263,15 @@ module _ (name : Kind → Bytes → Bytes) {A : Type 0} (r : Records) (tables : 
 
 -- ---- how many they are
 
+neither : (a b : Bool) → (a || b) ≡ false → (a ≡ false) × (b ≡ false)
+neither true b e = absurd (true≢false e)
+neither false b e = (refl, e)
+
 none_among : (n : Bytes) (ms : List Bytes) → list_any (same_bytes n) ms ≡ false → AllByRecursion (λ m. same_bytes n m ≡ false) ms
 none_among n [] e = tt
-none_among n (m ∷ ms) e = by (same_bytes n m) refl e
-  where
-    by : (b : Bool) → same_bytes n m ≡ b → (b || list_any (same_bytes n) ms) ≡ false → (same_bytes n m ≡ false) × AllByRecursion (λ k. same_bytes n k ≡ false) ms
-    by true k e = absurd (true≢false e)
-    by false k e = (k, none_among n ms e)
+none_among n (m ∷ ms) e =
+    let both = neither (same_bytes n m) (list_any (same_bytes n) ms) e in
+    (both.0, none_among n ms both.1)
 
 all_both : {X : Type 0} (P : X → Type 0) (xs ys : List X) → AllByRecursion P xs → AllByRecursion P ys → AllByRecursion P (xs ++ ys)
 all_both P [] ys h k = k

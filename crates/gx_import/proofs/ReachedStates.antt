@@ -180,31 +180,7 @@ module _ (asks : Features) (name : Kind → Bytes → Bytes) where
                 let front = subst (λ m. TookFront was m (progress_of (replayed_on asks name old (behind before (with_command c left))))) (sym h.1) (took_front (with_command c left)) in
                 inr (from_one n, number_within (with_command c left), inr (inl (refl, k.clashes (c ∷ left.list) (n + 1) (inl (refl, e)), front)), left_before NameHeld (c ∷ left.list))
           ]
-      stopped r now_r tables ReadFailed h = refused_as ReadFailed h
-      stopped r now_r tables UnknownCommand h = refused_as UnknownCommand h
-      stopped r now_r tables BadLine h = refused_as BadLine h
-      stopped r now_r tables BadNumber h = refused_as BadNumber h
-      stopped r now_r tables TruncatedData h = refused_as TruncatedData h
-      stopped r now_r tables BadPath h = refused_as BadPath h
-      stopped r now_r tables PathTooLong h = refused_as PathTooLong h
-      stopped r now_r tables BadMode h = refused_as BadMode h
-      stopped r now_r tables BadIdent h = refused_as BadIdent h
-      stopped r now_r tables BadRefName h = refused_as BadRefName h
-      stopped r now_r tables UnknownMark h = refused_as UnknownMark h
-      stopped r now_r tables WrongKind h = refused_as WrongKind h
-      stopped r now_r tables UnknownObject h = refused_as UnknownObject h
-      stopped r now_r tables NoSuchPath h = refused_as NoSuchPath h
-      stopped r now_r tables RootNotTree h = refused_as RootNotTree h
-      stopped r now_r tables FromItself h = refused_as FromItself h
-      stopped r now_r tables EmptyBranch h = refused_as EmptyBranch h
-      stopped r now_r tables Unsupported h = refused_as Unsupported h
-      stopped r now_r tables LateOption h = refused_as LateOption h
-      stopped r now_r tables MissingDone h = refused_as MissingDone h
-      stopped r now_r tables NotFastForward h = refused_as NotFastForward h
-      stopped r now_r tables BadRevision h = refused_as BadRevision h
-      stopped r now_r tables UnknownRef h = refused_as UnknownRef h
-      stopped r now_r tables Ambiguous h = refused_as Ambiguous h
-      stopped r now_r tables NoParent h = refused_as NoParent h
+      stopped r now_r tables e h = refused_as e h
 
 -- where a replay is in the commands that a source gives, or, where it tells nothing, in those that were answered so far
 module _ (asks : Features) (name : Kind → Bytes → Bytes) where

@@ -25,37 +25,6 @@ use Rattle.gx_import.specs.declared.report.Report.{Report}
 use Rattle.gx_import.proofs.ExportedAgain.{heard_short, unasked}
 use Rattle.gx_import.proofs.ReachedStates.{imported_is}
 
--- one kind alone is the model's
-is_unsupported : (kind : Fault) → kind ≡ model.Unsupported → kind ≡ Unsupported
-is_unsupported OutOfMemory e = absurd (cc e)
-is_unsupported ReadFailed e = absurd (cc e)
-is_unsupported WriteFailed e = absurd (cc e)
-is_unsupported UnknownCommand e = absurd (cc e)
-is_unsupported BadLine e = absurd (cc e)
-is_unsupported BadNumber e = absurd (cc e)
-is_unsupported TruncatedData e = absurd (cc e)
-is_unsupported BadPath e = absurd (cc e)
-is_unsupported PathTooLong e = absurd (cc e)
-is_unsupported BadMode e = absurd (cc e)
-is_unsupported BadIdent e = absurd (cc e)
-is_unsupported BadRefName e = absurd (cc e)
-is_unsupported UnknownMark e = absurd (cc e)
-is_unsupported WrongKind e = absurd (cc e)
-is_unsupported UnknownObject e = absurd (cc e)
-is_unsupported NoSuchPath e = absurd (cc e)
-is_unsupported RootNotTree e = absurd (cc e)
-is_unsupported FromItself e = absurd (cc e)
-is_unsupported EmptyBranch e = absurd (cc e)
-is_unsupported Unsupported e = refl
-is_unsupported LateOption e = absurd (cc e)
-is_unsupported MissingDone e = absurd (cc e)
-is_unsupported NotFastForward e = absurd (cc e)
-is_unsupported NameHeld e = absurd (cc e)
-is_unsupported BadRevision e = absurd (cc e)
-is_unsupported UnknownRef e = absurd (cc e)
-is_unsupported Ambiguous e = absurd (cc e)
-is_unsupported NoParent e = absurd (cc e)
-
 module _ (name : Kind → Bytes → Bytes) where
   -- an outcome that is a refusal
   answered : (old new : Records) (coming : Coming) (was now : Option Taken) (number : ℕ) (kept : Kept) (result : Result Report ImportFault)
@@ -64,7 +33,7 @@ module _ (name : Kind → Bytes → Bytes) where
   answered old new coming was now number kept (Ok report) e h = absurd (cc (sym h.1 ∙ e))
   answered old new coming was now number kept (Err fault) e (inl r) =
       let same : refused fault.command fault.kind r.0 r.1 ≡ refused number model.Unsupported [] kept = sym r.2 ∙ e in
-      inl (is_unsupported fault.kind (cc same))
+      inl (cc same)
   answered old new coming was now number kept (Err fault) e (inr k) = elim k.2 as (λ _. UnsupportedOr (Err fault)) [
     | inl m ↦ inr (inl m.0)
     | inr l ↦ elim l as (λ _. UnsupportedOr (Err fault)) [

@@ -21,7 +21,7 @@ use Rattle.gx_import.specs.Stopping.{IsCutShort, StopsReplay, checkpoints_in, is
 use Rattle.gx_import.specs.declared.fault.ImportFault.{ImportFault}
 use Rattle.gx_import.proofs.KeptCheckpoints.{given_checkpoint}
 use Rattle.gx_import.proofs.NoClashes.{none_clashes}
-use Rattle.gx_import.proofs.ProgressTexts.{HasKept, IsOther, kept_still}
+use Rattle.gx_import.proofs.ProgressTexts.{IsOther, kept_still}
 use Rattle.gx_import.proofs.ReachedStates.{imported_is}
 
 -- ---- the checkpoints of commands
@@ -44,8 +44,8 @@ module _ (name : Kind → Bytes → Bytes) where
   -- a command but a checkpoint leaves their number
   others_count : (s : State) (c : Command) → IsOther c → (t : State) → step name s c ≡ Ok t → t.kept.checkpoints ≡ s.kept.checkpoints + 0
   others_count s c other t e =
-      let kept : HasKept name s t = subst (λ r. IfOk r (HasKept name s)) e (kept_still name s c other) in
-      none_more t.kept.checkpoints s.kept.checkpoints (ap (λ (k : Kept). k.checkpoints) kept.kept)
+      let kept : t.kept ≡ s.kept = subst (λ r. IfOk r (λ u. u.kept ≡ s.kept)) e (kept_still name s c other) in
+      none_more t.kept.checkpoints s.kept.checkpoints (ap (λ (k : Kept). k.checkpoints) kept)
 
   -- a step counts those of its command
   step_counts : (s : State) (c : Command) (t : State) → step name s c ≡ Ok t → t.kept.checkpoints ≡ s.kept.checkpoints + checkpoints_in (c ∷ [])

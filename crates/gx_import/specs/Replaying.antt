@@ -60,7 +60,7 @@ module _ (asks : Features) (name : Kind → Bytes → Bytes) where
   EndsAs old (Some coming) n s was now = IsLast old (commands_asked_from asks coming) n s was now
 
 -- the new repository, or after a fault what it leaves
-abbrev pub left_by : {A X E : Type 0} → Result X E → Checkpoints → Records → Records
+abbrev pub left_by : {X E : Type 0} → Result X E → Checkpoints → Records → Records
 left_by (Ok _) checkpoints new = new
 left_by (Err _) checkpoints new = left_of checkpoints new
 

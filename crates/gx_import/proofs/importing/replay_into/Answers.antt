@@ -62,6 +62,12 @@ returns-clause-replayed g c =
     let objects : length new.records - length old.records ≡ c.len.result - c.len-held.result = ap (λ x. x - length old.records) (sym len) ∙ ap (λ x. c.len.result - x) (sym held) in
     subst (λ x. Imports c.args.features name old new coming was now (Ok (record { commands = c.in_ok-commands.commands; objects = x; refs = c.published_refs.result }))) objects all
 
+pub returns-in_err-commands-clause-gitlinks : goal.returns-in_err-commands-clause-gitlinks
+returns-in_err-commands-clause-gitlinks g c = λ none.
+    let p = err_from_is_err_and c.from_residual.result c.from_residual.ensures.1 in
+    let law = c.histories_of_records.ensures (g.N.Namer.name_of c.args.repo.now.0) (g.met.N.Namer.is_namer c.args.repo.now.0) in
+    rw p.1 (c.replay_commands.ensures.gitlinks_left (law.stands c.args.repo.now.1 c.store.ensures.sound).history none)
+
 pub returns-clause-gitlinks : goal.returns-clause-gitlinks
 returns-clause-gitlinks g c = λ none.
     let name = g.N.Namer.name_of c.args.repo.now.0 in

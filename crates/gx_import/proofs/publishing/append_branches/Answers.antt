@@ -21,9 +21,9 @@ pub loop-name-init : goal.loop-name-init
 loop-name-init g c =
     let name = g.N.Namer.name_of c.args.repo.now.0 in
     let refs = c.args.repo.now.1.refs in
-    let all : c.into_iter-name-iterator.result ≡ c.args.tables.now.branches.rows.entries = c.into_iter-name-iterator.ensures.into_iter_gives.0 in (
-      ap (λ rows. map shown_update c.args.changes.now.items ++ filter (is_moved refs) (branch_changes (map row_of rows))) all,
-      λ s h. subst (λ rows. AreLeft name s (map row_of rows)) (sym all) (all_left name s c.args.repo.now.1 c.args.tables.now h),
+    let all = ap (map row_of) c.into_iter-name-iterator.ensures.into_iter_gives ∙ c.iter-name-items.ensures.rows in (
+      ap (λ rows. map shown_update c.args.changes.now.items ++ filter (is_moved refs) (branch_changes rows)) all,
+      λ s h. subst (AreLeft name s) (sym all) (all_left name s c.args.repo.now.1 c.args.tables.now h),
       c.new-parents.ensures c.args.repo.now.1,
       c.requires.blank,
     )

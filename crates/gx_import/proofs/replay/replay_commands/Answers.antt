@@ -36,7 +36,7 @@ loop-command-init g c =
         stand_empty name c.args.repo.now.1 c.args.tables.now c.requires.empty,
         λ asks coming same is. at_start asks name c.args.tables.now.is_forced c.args.repo.now.1 coming c.args.reader.now.commands (g.W.Sink.taken c.args.sink.now) same is,
         λ is none. starting_free c.args.tables.now.is_forced (history_of c.args.repo.now.1) is none,
-        kept_start name c.args.repo.now.1 c.args.checkpoints.now c.requires.none,
+        kept_start c.args.repo.now.1 c.args.checkpoints.now c.requires.none,
       );
     }
 

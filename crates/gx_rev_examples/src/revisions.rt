@@ -97,8 +97,8 @@ fn refused_growths_are_answered(rt: HostRuntime) -> Result<(), Fail> {
     make_all(rt.alloc(), state, GROWING)
 }
 
-/// What calls answer: the number of a file's bytes, of a commit's parents, of a tree's entries, of the commits that are
-/// listed or reached, whether a submodule is shown, or why there is none.
+/// What calls answer: the number of a file's bytes, of a commit's parents, of the commits that are listed or reached,
+/// whether a submodule is shown, the first byte of a tree's name, or why there is none.
 const ANSWERED: &str = "
 BadRevision revision a b
 BadPath revision a:b\0
@@ -128,9 +128,9 @@ NoParent commit main~2
 1 show link:sub
 BadRevision show a b
 NoSuchPath show main:none
-3 tree main
-1 tree main:bak
-1 tree v1
+60 tree main
+216 tree main:bak
+216 tree v1
 BadPath tree main:bak\0
 WrongKind tree main:test.txt
 WrongKind tree link:sub

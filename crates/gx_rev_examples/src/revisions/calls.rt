@@ -8,8 +8,8 @@ use crate::trees::desk::Heap;
 use gx_object::{Kind, Name, Namer};
 use gx_repo::Repo;
 use gx_rev::{
-    Parents, Range, RevFault, Revision, Shown, answers_tell_values, commit, entries_of,
-    is_ancestor, look, reached_from_refs, tree_of_text, walk,
+    Parents, Range, RevFault, Revision, Shown, answers_tell_values, commit, is_ancestor, look,
+    reached_from_refs, tree_of_text, walk,
 };
 use gx_text::TreePath;
 use std::alloc::{AllocError, Allocator};
@@ -145,7 +145,7 @@ fn told<'a>(
         "read" => read_as_range(heap, words),
         "revision" => read_as_revision(heap, words),
         "show" => shown(heap, repo, words),
-        "tree" => counted_entries(heap, repo, words),
+        "tree" => tree_named(heap, repo, words),
         "refs" => counted_marks(heap, repo),
         "tell" => {
             answers_tell_values(repo);
@@ -183,10 +183,10 @@ fn shown<'a>(heap: &'a Heap, repo: &Records<'a>, word: &str) -> Result<usize, Re
     }
 }
 
-/// How many entries the tree of a text has.
-fn counted_entries<'a>(heap: &'a Heap, repo: &Records<'a>, word: &str) -> Result<usize, RevFault> {
+/// The first byte of the name of a text's tree.
+fn tree_named<'a>(heap: &'a Heap, repo: &Records<'a>, word: &str) -> Result<usize, RevFault> {
     match tree_of_text(heap, repo, word.as_bytes()) {
-        Ok(tree) => Ok(entries_of(repo, &tree).count()),
+        Ok(tree) => Ok(tree.bytes[0] as usize),
         Err(fault) => Err(fault),
     }
 }

@@ -1,5 +1,5 @@
 -- The items of an export of changes in their parts.
-use Rattle.std.proofs.Common.{◌≡◌, ◌≢◌, ◌≤◌, ℕ, Bool, true, false, List, [], ◌∷◌, ◌++◌, map, length, Option, Result, Ok, Err, refl, sym, ap, subst, ◌∙◌, append_assoc, append-nil, arith, not, ◌&&◌, ◌||◌}
+use Rattle.std.proofs.Common.{◌≡◌, ◌≢◌, ◌≤◌, Bool, true, false, List, [], ◌∷◌, ◌++◌, map, length, Option, Result, Ok, Err, refl, sym, ap, subst, ◌∙◌, append_assoc, append-nil, arith, not, ◌&&◌, ◌||◌}
 use Rattle.std.specs.List.{filter}
 use Rattle.std.proofs.lemmas.Grind.{flat_map-append}
 use Rattle.gx_model.specs.declared.objects.Kind.{Kind}

@@ -1,5 +1,5 @@
 -- The items of an export in their parts.
-use Rattle.std.proofs.Common.{◌≡◌, ◌≢◌, ◌≤◌, ℕ, List, [], ◌∷◌, ◌++◌, map, length, Result, Ok, Err, refl, sym, ap, subst, ◌∙◌, append_assoc, arith, codes}
+use Rattle.std.proofs.Common.{◌≡◌, ◌≢◌, ◌≤◌, List, [], ◌∷◌, ◌++◌, map, length, Result, Ok, Err, refl, sym, ap, subst, ◌∙◌, append_assoc, arith, codes}
 use Rattle.std.proofs.lemmas.Grind.{flat_map-append}
 use Rattle.gx_model.specs.Streams.Commands as command
 use Rattle.gx_model.specs.Export.{all_written, command_items, commit_commands, export_items, items_text, last_reset, reached_commits, ref_command}

@@ -1,5 +1,5 @@
 -- The blobs and the lines of files, gathered one after the other.
-use Rattle.std.proofs.Common.{◌≡◌, ◌≢◌, ◌++◌, ℕ, ◌-◌, ◌<◌, suc, Bool, true, false, cond, [], ◌∷◌, List, length, slice_range, drop, Option, Some, Result, Ok, Err, refl, sym, ap, ◌∙◌, subst, append_assoc, append-nil}
+use Rattle.std.proofs.Common.{◌≡◌, ◌≢◌, ◌++◌, ℕ, ◌-◌, ◌<◌, suc, Bool, true, false, cond, [], ◌∷◌, List, length, slice_range, drop, Some, Result, Ok, Err, refl, sym, ap, ◌∙◌, subst, append_assoc, append-nil}
 use Rattle.std.specs.Prelude.{◌||◌}
 use Rattle.std.specs.Result.{OnOk}
 use Rattle.std.specs.List.{list_all, AllByRecursion}

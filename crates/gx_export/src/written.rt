@@ -14,8 +14,8 @@ use gx_rev::place_of;
 use gx_text::Sink;
 use std::alloc::Allocator;
 
-/// Where it goes, how many marks were given, and the mark of each blob and commit by the place of its record: 0 where it
-/// wasn't written.
+/// The sink with the bytes that went there, how many marks were given, and the mark of each blob and commit by the place of
+/// its record: 0 where it wasn't written.
 #[derive(Drop)]
 pub(crate) struct Written<'a, W: Sink, A: Allocator> {
     pub(crate) output: Output<'a, W>,

@@ -16,7 +16,7 @@ use Rattle.gx_import.specs.Applying.{Applies, IsProgress}
 use Rattle.gx_import.specs.Replaying.{Writes}
 use Rattle.gx_import.specs.Standing.{Follows, Stands}
 use Rattle.gx_model.specs.declared.faults.Fault.{Fault}
-use Rattle.gx_model.specs.declared.faults.Fault.TheVariants.{OutOfMemory, ReadFailed, WriteFailed, UnknownCommand, BadLine, BadNumber, TruncatedData, BadPath, PathTooLong, BadMode, BadIdent, BadRefName, UnknownMark, WrongKind, UnknownObject, NoSuchPath, RootNotTree, FromItself, EmptyBranch, Unsupported, LateOption, MissingDone, NotFastForward, NameHeld, BadRevision, UnknownRef, Ambiguous, NoParent}
+use Rattle.gx_model.specs.declared.faults.Fault.TheVariants.{OutOfMemory, WriteFailed, NameHeld}
 use Rattle.gx_import.specs.declared.tables.Tables.{Tables}
 use Rattle.gx_model.proofs.Texts.SentTexts.{took_nothing}
 

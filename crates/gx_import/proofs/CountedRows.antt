@@ -1,5 +1,5 @@
 -- Rows that are counted one after the other.
-use Rattle.std.proofs.Common.{◌≡◌, ◌+◌, ◌≤◌, ℕ, Bool, true, false, cond, List, [], ◌∷◌, length, refl, sym, subst, arith}
+use Rattle.std.proofs.Common.{◌≡◌, ◌+◌, ◌≤◌, ℕ, Bool, true, false, cond, List, [], ◌∷◌, length, subst, arith}
 use Rattle.std.specs.List.{filter}
 
 module _ {X : Type 0} (test : X → Bool) where

@@ -1,7 +1,6 @@
 -- What was added to a replay's state is marked, and then set as a tag or as a branch's commit.
 use Rattle.std.proofs.Common.{◌≡◌, ℕ, List, [], ◌∷◌, Option, Some, None, refl, sym, ap, subst, ◌∙◌}
 use Rattle.std.specs.Prelude.{IsTrue}
-use Rattle.std.specs.Bool.{passes}
 use Rattle.std.specs.List.{AllByRecursion}
 use Rattle.std.specs.declared.cmp.Ordering.TheVariants.{Less, Equal, Greater}
 use Rattle.std.specs.FinMap.Entries.{by_order, put}
@@ -13,15 +12,13 @@ use Rattle.gx_model.specs.Histories.Values.{Commit, Tag, Value, commit_value, ta
 use Rattle.gx_model.specs.Records.{name_of}
 use Rattle.gx_model.specs.Histories.{IsIn, Records}
 use Rattle.gx_model.specs.Replay.{State, marked, on_branch}
-use Rattle.gx_model.proofs.Texts.PathTests.{is_true}
 use Rattle.gx_object.specs.declared.name.Name.{Name}
 use Rattle.gx_import.specs.declared.object.Object.{Object}
 use Rattle.gx_import.specs.declared.marks.Marks.{Marks}
-use Rattle.gx_import.specs.declared.branches.Tip.{Tip}
 use Rattle.gx_import.specs.declared.tables.Tables.{Tables}
 use Rattle.gx_import.specs.Marks.{marked_object, object_at}
 use Rattle.gx_import.specs.Objects.{IsCommitOf, IsOf, IsTagOf}
-use Rattle.gx_import.specs.Rows.{AreBoth, AreRows}
+use Rattle.gx_import.specs.Rows.{AreRows}
 use Rattle.gx_tree.specs.Named.{NamedTree}
 use Rattle.gx_import.specs.Standing.{AreTipFiles, Follows, IsTip, Stands, tip_at}
 use Rattle.gx_import.proofs.PublishedNames.{published_tags}

@@ -1,11 +1,10 @@
 -- The commits that a branch and a first parent give, by their names.
 use Rattle.std.proofs.Common.{◌≡◌, List, Option, Some, None, refl, sym, ap, subst, ◌∙◌, inl, inr, ◌⊎◌}
 use Rattle.std.specs.Prelude.{IsTrue}
-use Rattle.std.specs.FinMap.Entries.{is_sorted}
 use Rattle.std.specs.Map.{lookup}
 use Rattle.gx_model.specs.declared.objects.Kind.{Kind}
 use Rattle.gx_model.specs.declared.objects.Kind.TheVariants as kinds
-use Rattle.gx_model.specs.Texts.{Bytes, byte_cmp, same_bytes}
+use Rattle.gx_model.specs.Texts.{Bytes, same_bytes}
 use Rattle.gx_model.specs.Histories.Values.{Commit, Value, commit_value, files_of}
 use Rattle.gx_model.specs.Objects.{IsNamer}
 use Rattle.gx_model.specs.Records.{named_map}
@@ -18,10 +17,10 @@ use Rattle.gx_object.specs.declared.name.Name.{Name}
 use Rattle.gx_model.proofs.Records.HeldValues.{value_held}
 use Rattle.gx_import.specs.declared.branches.Tip.{Tip}
 use Rattle.gx_import.specs.declared.tables.Tables.{Tables}
-use Rattle.gx_import.specs.Objects.{IsCommitOf, IsTagOf}
+use Rattle.gx_import.specs.Objects.{IsCommitOf}
 use Rattle.gx_import.specs.Rows.{AreBoth, AreRows}
 use Rattle.gx_tree.specs.Named.{NamedTree}
-use Rattle.gx_import.specs.Standing.{AreMarks, AreTipFiles, IsTaken, IsTip, Stands, WereFiles}
+use Rattle.gx_import.specs.Standing.{AreTipFiles, IsTaken, IsTip, Stands, WereFiles}
 use Rattle.gx_import.proofs.PublishedNames.{published_same, tips_same}
 use Rattle.gx_import.proofs.RelatedRows.{related_found, related_through}
 

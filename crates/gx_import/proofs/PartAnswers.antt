@@ -9,7 +9,7 @@ use Rattle.gx_model.specs.Texts.{Bytes}
 use Rattle.gx_store.specs.declared.fault.StoreFault.{StoreFault}
 use Rattle.gx_store.specs.declared.fault.StoreFault.TheVariants as store
 use Rattle.gx_repo.specs.Additions.{Adds, AddsAll}
-use Rattle.gx_model.specs.declared.faults.Fault.TheVariants.{OutOfMemory, ReadFailed, WriteFailed, UnknownCommand, BadLine, BadNumber, TruncatedData, BadPath, PathTooLong, BadMode, BadIdent, BadRefName, UnknownMark, WrongKind, UnknownObject, NoSuchPath, RootNotTree, FromItself, EmptyBranch, Unsupported, LateOption, MissingDone, NotFastForward, NameHeld, BadRevision, UnknownRef, Ambiguous, NoParent}
+use Rattle.gx_model.specs.declared.faults.Fault.TheVariants.{OutOfMemory, NameHeld}
 use Rattle.gx_import.specs.Answers.{AddsAs}
 use Rattle.gx_store.specs.StoreFaults.{fault_of as of_store}
 use Rattle.gx_import.proofs.Refusals.{IsAnswer}

@@ -1,17 +1,16 @@
 -- How far a replay has come: what was replayed of the commands, and what follows from the next answer of the reader or of a command.
 use Rattle.std.proofs.Common.{◌≡◌, ℕ, ◌+◌, ◌≤◌, Bool, List, [], ◌∷◌, ◌++◌, length, Option, Some, None, Ok, Err, refl, sym, ap, subst, ◌∙◌, inl, inr, append_assoc, arith}
-use Rattle.std.specs.Prelude.{IfOk, IsTrue}
+use Rattle.std.specs.Prelude.{IfOk}
 use Rattle.std.proofs.lemmas.List.{append-nil, length-append}
-use Rattle.std.specs.FinMap.Entries.{is_sorted}
 use Rattle.std.specs.Option.{option_map}
 use Rattle.gx_model.specs.declared.objects.Kind.{Kind}
 use Rattle.gx_model.specs.declared.faults.Fault.{Fault}
 use Rattle.gx_model.specs.declared.faults.Fault.TheVariants as fault
 use Rattle.gx_model.specs.declared.features.Features.{Features}
-use Rattle.gx_model.specs.Texts.{Bytes, byte_cmp}
+use Rattle.gx_model.specs.Texts.{Bytes}
 use Rattle.gx_model.specs.Streams.Grammar.{stops, with_command}
 use Rattle.gx_model.specs.Streams.Gitlinks.{BringsNoNullGitlink, HoldsNoNullGitlink}
-use Rattle.gx_model.specs.Histories.{History, IsHistory, Record, Records}
+use Rattle.gx_model.specs.Histories.{History, IsHistory, Records}
 use Rattle.gx_model.specs.Records.HistoryOf.{history_of}
 use Rattle.gx_model.specs.Streams.Commands.{Command, Commands, Progress}
 use Rattle.gx_model.specs.Replay.{Outcome, State, begun, imported_asked, refused, replayed, replayed_asked, start, step}
@@ -40,7 +39,7 @@ use Rattle.gx_import.specs.Imports.{Imports, IsCutAt, Leaves, LeavesBefore, Repl
 use Rattle.gx_import.specs.Replaying.{EndsAs, IsLast}
 use Rattle.gx_import.specs.Objects.{IsOf, IsTagOf}
 use Rattle.gx_import.specs.Rows.{AreBoth, AreRows}
-use Rattle.gx_import.specs.Standing.{AreEmpty, Extends, IsTip, Stands}
+use Rattle.gx_import.specs.Standing.{AreEmpty, IsTip, Stands}
 use Rattle.gx_import.specs.declared.fault.ImportFault.{ImportFault}
 use Rattle.gx_model.specs.declared.faults.Fault.TheVariants.{OutOfMemory, ReadFailed, WriteFailed, UnknownCommand, BadLine, BadNumber, TruncatedData, BadPath, PathTooLong, BadMode, BadIdent, BadRefName, UnknownMark, WrongKind, UnknownObject, NoSuchPath, RootNotTree, FromItself, EmptyBranch, Unsupported, LateOption, MissingDone, NotFastForward, NameHeld, BadRevision, UnknownRef, Ambiguous, NoParent}
 use Rattle.gx_import.specs.declared.tables.Tables.{Tables}

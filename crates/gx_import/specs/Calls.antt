@@ -10,7 +10,7 @@ use Rattle.gx_model.specs.Texts.{Bytes, same_bytes}
 use Rattle.gx_model.specs.Faults.{◌>>=◌}
 use Rattle.gx_model.specs.Histories.Files.{FileMap}
 use Rattle.gx_model.specs.Histories.Values.{Commit, Value, commit, commit_value, commits_of, tag_value}
-use Rattle.gx_model.specs.Records.{name_of, named_map, parts_of_commit}
+use Rattle.gx_model.specs.Records.{name_of, named_map}
 use Rattle.gx_model.specs.Histories.{Record, Records}
 use Rattle.gx_model.specs.Records.HistoryOf.{history_of, target_in, value_of_name}
 use Rattle.gx_model.specs.Revisions.Denotation as denoted
@@ -23,23 +23,18 @@ use Rattle.gx_model.specs.Revisions.{revision_of}
 use Rattle.gx_model.specs.Laws.RepositoryLaws.{values_of}
 use Rattle.gx_model.specs.Replay as replay
 use Rattle.gx_model.specs.Replay.{State, added, all_changed, all_committed, changed, content, first_parent, marked, on_branch, own_commit, starting_files, step, step_reset, text_made, with_first_parent}
-use Rattle.gx_model.specs.Texts.Sinks.{Taken}
-use Rattle.gx_command.specs.Views.{commit_parts, shown_change, shown_command, shown_commit, shown_commit_ish, shown_data, shown_modify, tag_parts}
+use Rattle.gx_command.specs.Views.{commit_parts, shown_change, shown_commit_ish, shown_data, tag_parts}
 use Rattle.gx_command.specs.declared.commands.Change.{Change}
-use Rattle.gx_command.specs.declared.commands.Command.{Command as GivenCommand}
 use Rattle.gx_command.specs.declared.commands.Commit.{Commit as CommitCommand}
 use Rattle.gx_command.specs.declared.commands.CommitIsh.{CommitIsh}
 use Rattle.gx_command.specs.declared.commands.DataRef.{DataRef as GivenData}
-use Rattle.gx_command.specs.declared.commands.Modify.{Modify}
 use Rattle.gx_command.specs.declared.commands.Reset.{Reset}
 use Rattle.gx_command.specs.declared.commands.Tag.{Tag as TagCommand}
 use Rattle.gx_object.specs.declared.name.Name.{Name}
 use Rattle.gx_tree.specs.Named.{NamedTree, IsAtHome}
-use Rattle.gx_rev.specs.Objects.{commit_at}
 use Rattle.gx_repo.specs.Repositories.{Repository}
 use Rattle.gx_import.specs.Additions.{Clash, added_alone, blob_added, blobs_added, commit_added, content_added, tag_made, values_added}
 use Rattle.gx_import.specs.Answers.{AddsAs, GivesAs}
-use Rattle.gx_import.specs.Applying.{Applies}
 use Rattle.gx_import.specs.Objects.{IsBlobOf, IsCommitOf, IsOf, IsTreeOf}
 use Rattle.gx_import.specs.Rows.{AreAll, AreBoth}
 use Rattle.gx_import.specs.Standing.{AreTipsAtHome, Follows, HasFilesOf, IsContentName, Stands}

@@ -25,7 +25,6 @@ use Rattle.gx_import.specs.declared.checkpoints.Checkpoints.{Checkpoints}
 use Rattle.gx_import.specs.declared.fault.ImportFault.{ImportFault}
 use Rattle.gx_model.specs.declared.faults.Fault.{Fault}
 use Rattle.gx_model.specs.declared.faults.Fault.TheVariants.{ReadFailed, WriteFailed}
-use Rattle.gx_import.specs.declared.report.Report.{Report}
 use Rattle.gx_import.specs.declared.tables.Tables.{Tables}
 
 -- a sink takes a text, or fails within it

@@ -11,10 +11,8 @@ use Rattle.gx_model.specs.Histories.Values.{Commit}
 use Rattle.gx_model.specs.Objects.NameMaps.{AreFiles}
 use Rattle.gx_model.specs.Streams.Commands as model
 use Rattle.gx_model.specs.Replay.{State, starting_files}
-use Rattle.gx_command.specs.Views.{shown_change, shown_command, shown_commit}
+use Rattle.gx_command.specs.Views.{shown_change}
 use Rattle.gx_command.specs.declared.commands.Change.{Change}
-use Rattle.gx_command.specs.declared.commands.Command.{Command}
-use Rattle.gx_command.specs.declared.commands.Commit.{Commit as CommitCommand}
 use Rattle.gx_object.specs.declared.name.Name.{Name}
 use Rattle.gx_repo.specs.Repositories.{Repository}
 use Rattle.gx_tree.specs.Named.{NamedTree}

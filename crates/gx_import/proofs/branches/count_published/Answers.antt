@@ -1,5 +1,4 @@
-use Rattle.std.proofs.Common.{◌≡◌, ◌≤◌, length, arith}
-use Rattle.std.specs.List.{filter}
+use Rattle.std.proofs.Common.{arith}
 use Rattle.gx_import.proofs.CountedRows.{fewer_pass}
 use Rattle.gx_import.proofs.branches.count_published.Goals as goal
 

@@ -1,4 +1,4 @@
-use Rattle.std.proofs.Common.{ap, Bool, false}
+use Rattle.std.proofs.Common.{ap, false}
 use Rattle.std.specs.Option.{option_map_or}
 use Rattle.gx_import.specs.declared.branches.Tip.{Tip}
 use Rattle.gx_import.proofs.branches.is_published.Goals as goal

@@ -1,5 +1,4 @@
 use Rattle.std.proofs.Common.{rules}
-use Rattle.std.specs.Map.Calls.{CalledAtPair}
 use Rattle.std.proofs.lemmas.Map.Made.{map_same_pairs}
 use Rattle.gx_import.specs.Standing.{published_tip}
 use Rattle.gx_import.proofs.branches.set_each.Goals as goal

@@ -1,4 +1,4 @@
-use Rattle.std.proofs.Common.{◌≡◌, Some, map, refl, sym, subst, ap, ◌∙◌, inl}
+use Rattle.std.proofs.Common.{map, refl, sym, subst, ap, ◌∙◌, inl}
 use Rattle.std.specs.Map.{lookup}
 use Rattle.std.specs.Ordering.{is_eq}
 use Rattle.gx_model.specs.Texts.{byte_cmp, same_bytes}

@@ -1,5 +1,6 @@
 -- Archives of revisions, as they are printed.
 use Rattle.std.proofs.Common.{◌≡◌, refl, sym, ap, subst, [], Option, Result, Ok, Err}
+use Rattle.std.specs.Result.{result_map_both}
 use Rattle.gx_model.specs.Faults.{Given, IsFaultOf, ◌>>=◌}
 use Rattle.gx_model.specs.Texts.{Bytes}
 use Rattle.gx_model.specs.Texts.Sinks.{Taken}
@@ -10,7 +11,7 @@ use Rattle.gx_rev.specs.RevFaults.{fault_of}
 use Rattle.gx_rev.specs.declared.fault.RevFault.{RevFault}
 use Rattle.gx_rev.specs.declared.fault.RevFault.TheVariants.{OutOfMemory}
 use Rattle.gx_cli.specs.Answers.{Prints}
-use Rattle.gx_cli.specs.Archiving.{archive_answer}
+use Rattle.gx_cli.specs.Gathering.{of_archive}
 use Rattle.gx_cli.specs.Stored.{of_word, only_word}
 use Rattle.gx_cli.specs.Words.{refused_at}
 use Rattle.gx_cli.specs.declared.fault.CliFault.TheVariants as cli
@@ -24,7 +25,7 @@ not_given given was OutOfMemory e = ([], nothing_in_front (only_word given), too
 not_given given was kind e = (of_word 1 (fault_of kind), ap only_word e, (refl, refl), took_nothing was)
 
 -- the archive that is given, or why none is
-pub archive_printed : (given : Given Bytes) (was now : Option Taken) (answer : Result (Unit {0}) ArchiveFault) → Delivers given was now answer → Prints (only_word given) was now (archive_answer answer)
+pub archive_printed : (given : Given Bytes) (was now : Option Taken) (answer : Result (Unit {0}) ArchiveFault) → Delivers given was now answer → Prints (only_word given) was now (result_map_both (λ done. done) of_archive answer)
 archive_printed given was now (Ok u) h = (h.0, ap only_word h.1, h.2)
 archive_printed given was now (Err archive.WriteFailed) h = (h.0, ap only_word h.1, h.2)
 archive_printed given was now (Err archive.OutOfMemory) h = given_text (only_word given) h.0 was now (Err cli.OutOfMemory) (ap only_word h.1) h.2

@@ -1,5 +1,5 @@
 -- What is answered to a line that is a command.
-use Rattle.std.proofs.Common.{◌≡◌, ℕ, false, sym, ap, subst, ◌∙◌, List, [], ◌++◌, Option, Some, Result, Ok, Err}
+use Rattle.std.proofs.Common.{◌≡◌, ℕ, sym, ap, subst, ◌∙◌, List, [], Option, Some, Result, Ok, Err}
 use Rattle.gx_model.specs.declared.objects.Kind.{Kind}
 use Rattle.gx_model.specs.Histories.{Records}
 use Rattle.gx_model.specs.Objects.{line}
@@ -12,19 +12,19 @@ use Rattle.gx_batch.specs.declared.format.Part.{Part}
 use Rattle.gx_rev.specs.RevFaults.{fault_of}
 use Rattle.gx_rev.specs.declared.fault.RevFault.{RevFault}
 use Rattle.gx_cli.specs.Answers.{IsRefusal, Prints}
-use Rattle.gx_cli.specs.Batching.{shown_asked}
-use Rattle.gx_cli.specs.Commanding.{answer_to, answered, asked_of, command_answer, printed_answer, word_at}
-use Rattle.gx_cli.specs.Stored.{Printed, Refusal, of_store, of_word}
-use Rattle.gx_cli.specs.declared.commanding.asked.Asked.{Asked}
+use Rattle.gx_cli.specs.Commanding.{answer_to, answered, asked_of, command_answer, printed_answer, shown_asked, word_at}
+use Rattle.gx_cli.specs.Stored.{Printed, Refusal, of_word}
+use Rattle.gx_cli.specs.Trying.{having_taken}
+use Rattle.gx_cli.specs.declared.commands.asked.Asked.{Asked}
 use Rattle.gx_cli.specs.declared.fault.CliFault.TheVariants.{Revision}
 
 module _ (command : Bytes) (words : List Bytes) (given : Printed) (was now : Option Taken) (answer : Result (Unit {0}) BatchFault) where
   -- a text that was made in memory, behind its line
-  pub text_answered : (empty made : Taken) (text : Bytes) (u : Unit {0}) → empty ≡ record { bytes = []; failed = false } → Prints given (Some empty) (Some made) (Ok u) → text ≡ made.bytes
+  pub text_answered : (made : Taken) (text : Bytes) (u : Unit {0}) → Prints given (Some (having_taken [])) (Some made) (Ok u) → text ≡ made.bytes
       → Sent (printed_answer command text) was now answer → Sent (answered command words given) was now answer
-  text_answered empty made text u none printed same sent =
-      let is : made ≡ record { bytes = empty.bytes ++ printed.0; failed = empty.failed } = cc printed.2 in
-      let whole : text ≡ printed.0 = same ∙ ap (λ (m : Taken). m.bytes) is ∙ ap (λ (e : Taken). e.bytes ++ printed.0) none in
+  text_answered made text u printed same sent =
+      let is : made ≡ having_taken printed.0 = cc printed.2 in
+      let whole : text ≡ printed.0 = same ∙ ap (λ (m : Taken). m.bytes) is in
       subst (λ g. Sent (answered command words g) was now answer) (sym printed.1) (subst (λ t. Sent (printed_answer command t) was now answer) whole sent)
 
   -- the word that is refused, and why
@@ -33,7 +33,6 @@ module _ (command : Bytes) (words : List Bytes) (given : Printed) (was now : Opt
   word_answered before behind number kind word why printed at is sent = by printed.0 printed.1 printed.2
     where
       by : (refusal : Refusal) → given ≡ Err refusal → IsRefusal refusal (Revision number kind) → Sent (answered command words given) was now answer
-      by (of_store f) e k = absurd k
       by (of_word n f) e k =
           let named : word ≡ word_at words n = at ∙ ap (word_at words) k.0 in
           let told : why ≡ reason f = is ∙ ap reason (sym k.1) in

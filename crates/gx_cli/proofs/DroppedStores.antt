@@ -17,8 +17,7 @@ use Rattle.gx_repo.specs.Repositories.{Repository}
 use Rattle.gx_repo.specs.declared.fault.DropFault.TheVariants as drop
 use Rattle.gx_rev.specs.declared.fault.RevFault.TheVariants.{UnknownRef}
 use Rattle.gx_cli.specs.Gathering.{GathersLines}
-use Rattle.gx_cli.specs.Parts.{DropsAll}
-use Rattle.gx_cli.specs.Serving.{DropsFrom, DropsRead, IsDropped, IsRefused, IsWritten}
+use Rattle.gx_cli.specs.Serving.{DropsAll, DropsFrom, DropsRead, IsDropped, IsRefused, IsWritten}
 use Rattle.gx_cli.specs.declared.fault.CliFault.{CliFault}
 use Rattle.gx_cli.specs.declared.fault.CliFault.TheVariants as fault
 use Rattle.gx_cli.specs.declared.serving.Outcome.{Outcome}

@@ -10,10 +10,9 @@ use Rattle.gx_model.specs.Stores.StoreReading.{Stored}
 use Rattle.gx_model.specs.Texts.Sinks.{Taken}
 use Rattle.gx_text.specs.Devices.{Coming}
 use Rattle.gx_import.specs.Explaining.{ExplainsFault, TellsNothing}
-use Rattle.gx_import.specs.Exported.{nothing}
 use Rattle.gx_import.specs.declared.explanation.Explanation.{Explanation}
 use Rattle.gx_import.specs.declared.fault.ImportFault.{ImportFault}
-use Rattle.gx_cli.specs.Explained.{ExplainsCommand, ExplainsStored, ExplainsTry, KeepsTold}
+use Rattle.gx_cli.specs.Explained.{ExplainsCommand, ExplainsStored, KeepsTold}
 use Rattle.gx_cli.specs.Trying.{Shows}
 use Rattle.gx_cli.specs.declared.fault.CliFault.{CliFault}
 use Rattle.gx_cli.specs.declared.fault.CliFault.TheVariants.{Import, Store}
@@ -27,7 +26,7 @@ module _ (name : Kind → Bytes → Bytes) {A : Type 0} (told : Explanation A) w
 
   -- the word of an accepted stream is shown, or refused, and nothing is told
   pub shown_told : (asks : Features) (coming : Option Coming) (before : Bytes) (given : Given Bytes) (was now : Option Taken) (answer : Result (Unit {0}) CliFault)
-      → Shows before given was now answer → TellsNothing told → ExplainsTry name asks coming answer told
+      → Shows before given was now answer → TellsNothing told → ExplainsCommand name asks empty_repository coming answer told
   shown_told asks coming before given was now (Err (Import fault)) h k = absurd h
   shown_told asks coming before given was now (Ok u) h k = k
   shown_told asks coming before given was now (Err fault) h k = k

@@ -11,9 +11,8 @@ use Rattle.gx_batch.specs.declared.fault.FormatFault.{FormatFault}
 use Rattle.gx_batch.specs.declared.fault.FormatFault.TheVariants as format
 use Rattle.gx_batch.specs.declared.format.Part.{Part}
 use Rattle.gx_line.specs.declared.command_line.BatchForm.{BatchForm}
-use Rattle.gx_cli.specs.Batching.{ReadsParts}
 use Rattle.gx_cli.specs.Gathering.{of_format}
-use Rattle.gx_cli.specs.Serving.{AnswersLines, BatchesStored, IsRefused}
+use Rattle.gx_cli.specs.Serving.{AnswersBatch, AnswersLines, EndsAnswered, EndsOpened, IsRefused, ReadsParts}
 use Rattle.gx_cli.specs.declared.fault.CliFault.{CliFault}
 use Rattle.gx_cli.specs.declared.fault.CliFault.TheVariants.{BadFormat, OutOfMemory}
 use Rattle.gx_cli.specs.declared.serving.Outcome.{Outcome}
@@ -25,9 +24,9 @@ refused_format A text format.OutOfMemory h = tt
 
 module _ (name : Kind → Bytes → Bytes) {A : Type 0} (form : BatchForm) (given : Option (List Part)) (text : Bytes) (coming : Option Coming) (was now : Option Taken) (o : Outcome A) where
   -- in the format that is given lines are answered
-  pub lines_formatted : (parts : List Part) (ending wanted : LineEnding) → given ≡ Some parts → ending ≡ wanted → BatchesStored name form parts ending (store_of name text) coming was now o → AnswersLines name form given wanted text coming was now o
+  pub lines_formatted : (parts : List Part) (ending wanted : LineEnding) → given ≡ Some parts → ending ≡ wanted → EndsOpened (store_of name text) (λ r. EndsAnswered (AnswersBatch name form parts ending r coming was now) o) was now o → AnswersLines name form given wanted text coming was now o
   lines_formatted parts ending wanted read same h =
-      subst (λ p. AnswersLines name form p wanted text coming was now o) (sym read) (inr (subst (λ e. BatchesStored name form parts e (store_of name text) coming was now o) same h))
+      subst (λ p. AnswersLines name form p wanted text coming was now o) (sym read) (inr (subst (λ e. EndsOpened (store_of name text) (λ r. EndsAnswered (AnswersBatch name form parts e r coming was now) o) was now o) same h))
 
   -- where there is none nothing went out
   pub lines_unformatted : (wanted : LineEnding) (fault : CliFault) → ReadsParts {A = A} given (Err fault) → IsRefused fault o → now ≡ was → AnswersLines name form given wanted text coming was now o

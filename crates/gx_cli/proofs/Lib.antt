@@ -12,17 +12,14 @@ pub mod StoredAnswers
 pub mod StoredImports
 pub mod WordsRead
 pub mod SplitWords
-pub mod SentReplies
 pub mod CommandAnswers
 pub mod FormattedLines
 pub mod ReadStores
-pub mod ExportedStores
 pub mod RoundTrips
 pub mod ChangesTrips
 pub mod Gathered
 pub mod GatheredLines
 pub mod SentRanges
-pub mod ServedLines
 pub mod RoomlessLines
 pub mod DroppedStores
 pub mod CollectedStores
@@ -34,3 +31,4 @@ pub mod LoggedLines
 pub mod MarkedNames
 pub mod MessageTexts
 pub mod CommitEntries
+pub mod ServedLines

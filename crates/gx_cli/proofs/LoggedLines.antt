@@ -13,8 +13,8 @@ use Rattle.gx_batch.specs.declared.ending.LineEnding.TheVariants.{Lf}
 use Rattle.gx_line.specs.declared.command_line.LogOptions.{LogOptions}
 use Rattle.gx_cli.specs.Answers.{IsRefusal, Prints}
 use Rattle.gx_cli.specs.Gathering.{AreLines, GathersLines}
-use Rattle.gx_cli.specs.Logs.{LogsFrom, LogsLines, LogsRead, log_text}
-use Rattle.gx_cli.specs.Stored.{Printed, Refusal, of_store, of_word}
+use Rattle.gx_cli.specs.Logs.{LogsFrom, LogsRead, log_text}
+use Rattle.gx_cli.specs.Stored.{Printed, Refusal, of_word}
 use Rattle.gx_cli.specs.declared.fault.CliFault.{CliFault}
 use Rattle.gx_cli.specs.declared.fault.CliFault.TheVariants.{OutOfMemory, ReadFailed}
 use Rattle.gx_model.proofs.Texts.SentTexts.{took_nothing}
@@ -22,7 +22,6 @@ use Rattle.gx_cli.proofs.RefusedWords.{nothing_in_front}
 
 -- no text that is given is answered as a failed read
 no_refusal : (refusal : Refusal) → IsRefusal refusal ReadFailed → ⊥
-no_refusal (of_store f) h = h
 no_refusal (of_word n f) h = h
 
 -- memory may run out before anything is printed
@@ -36,7 +35,7 @@ module _ (name : Kind → Bytes → Bytes) (options : LogOptions) (repository : 
   lines_unread A words lines fails was fault h = absurd h
 
   -- nothing is printed where a source isn't read
-  pub source_unread : (A : Type 0) (words : List Bytes) (coming : Option Coming) (was : Option Taken) (fault : CliFault) → GathersLines {A = A} coming (Err fault) → LogsLines name options repository words coming was was (Err fault)
+  pub source_unread : (A : Type 0) (words : List Bytes) (coming : Option Coming) (was : Option Taken) (fault : CliFault) → GathersLines {A = A} coming (Err fault) → LogsFrom name options true repository words coming was was (Err fault)
   source_unread A words None was fault h = (h.0, h.1, lines_unread A (words ++ h.0) h.0 h.1 was fault h.2)
   source_unread A words (Some c) was fault h = lines_unread A (words ++ lines_from Lf (heard c)) (lines_from Lf (heard c)) (heard c).fails was fault h
 
@@ -47,7 +46,7 @@ module _ (name : Kind → Bytes → Bytes) (options : LogOptions) (repository : 
 
   -- what is printed of words and of the lines that were read
   pub source_read : {A : Type 0} (words : List Bytes) (coming : Option Coming) (read : Vec (Vec ℕ A) A) (was now : Option Taken) (answer : Result (Unit {0}) CliFault) → GathersLines coming (Ok read)
-      → Prints (log_text name options (history_of repository) (words ++ map (λ line. line.items) read.items)) was now answer → LogsLines name options repository words coming was now answer
+      → Prints (log_text name options (history_of repository) (words ++ map (λ line. line.items) read.items)) was now answer → LogsFrom name options true repository words coming was now answer
   source_read words None read was now answer h k =
       (h.0, h.1, lines_read (words ++ h.0) h.1 was now answer h.2.0 (subst (λ lines. Prints (log_text name options (history_of repository) (words ++ lines)) was now answer) h.2.1 k))
   source_read words (Some c) read was now answer h k =
@@ -58,7 +57,7 @@ module _ (name : Kind → Bytes → Bytes) (options : LogOptions) (repository : 
   no_lines words was now answer h = subst (λ ws. Prints (log_text name options (history_of repository) ws) was now answer) (append-nil words) h
 
   -- where lines are asked for, and where they aren't
-  pub logs_lines : (stdin : Bool) (words : List Bytes) (coming : Option Coming) (was now : Option Taken) (answer : Result (Unit {0}) CliFault) → stdin ≡ true → LogsLines name options repository words coming was now answer → LogsFrom name options stdin repository words coming was now answer
+  pub logs_lines : (stdin : Bool) (words : List Bytes) (coming : Option Coming) (was now : Option Taken) (answer : Result (Unit {0}) CliFault) → stdin ≡ true → LogsFrom name options true repository words coming was now answer → LogsFrom name options stdin repository words coming was now answer
   logs_lines stdin words coming was now answer e h = subst (λ b. LogsFrom name options b repository words coming was now answer) (sym e) h
 
   pub logs_words : (stdin : Bool) (words : List Bytes) (coming : Option Coming) (was now : Option Taken) (answer : Result (Unit {0}) CliFault) → stdin ≡ false → Prints (log_text name options (history_of repository) words) was now answer → LogsFrom name options stdin repository words coming was now answer

@@ -1,6 +1,6 @@
 -- What the import of an export's text, in any form, makes of an empty store.
 -- Source: git-fast-export(1) and git-fast-import(1).
-use Rattle.std.specs.Prelude.{◌≡◌, ◌⊎◌, true, false, Option, Some, None, Result, Ok, IfErr, ⊤}
+use Rattle.std.specs.Prelude.{◌≡◌, ◌⊎◌, true, false, Option, Some, None, Result, IfErr, ⊤}
 use Rattle.gx_model.specs.declared.objects.Kind.{Kind}
 use Rattle.gx_model.specs.declared.features.Features.{Features}
 use Rattle.gx_model.specs.Texts.{Bytes}
@@ -9,30 +9,16 @@ use Rattle.gx_model.specs.Histories.{Records, empty_repository}
 use Rattle.gx_model.specs.Laws.ExportLaws.{HasNoNullGitlink}
 use Rattle.gx_model.specs.Records.HistoryOf.{history_of}
 use Rattle.gx_model.specs.Records.Sound.{IsSound}
-use Rattle.gx_model.specs.Stores.StoreReading.{Stored, store_of}
 use Rattle.gx_text.specs.Devices.{Coming}
 use Rattle.gx_stream.specs.Heard.{heard}
-use Rattle.gx_import.specs.Exported.{ExportedOr, ImportsExport, IsExported, LeaveExports}
+use Rattle.gx_import.specs.Exported.{ExportedOr, ImportsExport, LeaveExports}
 use Rattle.gx_import.specs.Imports.{Imports}
 use Rattle.gx_import.specs.Stopping.{StopsReplay}
 use Rattle.gx_import.specs.declared.fault.ImportFault.{ImportFault}
 use Rattle.gx_import.specs.declared.report.Report.{Report}
-use Rattle.gx_model.specs.declared.faults.Fault.TheVariants as kind
-use Rattle.gx_model.specs.declared.store_faults.FileFault.TheVariants as file
 use Rattle.gx_line.specs.declared.command_line.ExportForm.{ExportForm}
 use Rattle.gx_line.specs.declared.command_line.ExportForm.TheVariants.{Changes, FullTree}
-use Rattle.gx_line.specs.declared.command_line.Line.{Line}
-use Rattle.gx_line.specs.declared.command_line.Line.TheVariants as line
-use Rattle.gx_cli.specs.declared.fault.CliFault.TheVariants.{Import, Store}
-use Rattle.gx_cli.specs.declared.serving.Outcome.{Outcome}
 use Rattle.gx_cli.specs.Forms.{text_as}
-use Rattle.gx_cli.specs.Serving.{IsRefused, IsWritten, features_of}
-
--- memory ran out, while the store was read or while the stream was imported, or the sink of progress texts failed
-abbrev pub IsInterrupted : {A : Type 0} → Outcome A → Type 0
-IsInterrupted o =
-    IsRefused (Store file.OutOfMemory) o
-    ⊎ ((fault : ImportFault) × ((fault.kind ≡ kind.OutOfMemory) ⊎ (fault.kind ≡ kind.WriteFailed)) × IsRefused (Import fault) o)
 
 -- Features that leave the import of an export in this form as it is. All files are exported with `done`; of changes, `done` is
 -- asked for only where the text has it.
@@ -59,25 +45,3 @@ module _ (name : Kind → Bytes → Bytes) where
       (asks : Features) (old new : Records) (coming : Option Coming) (was now : Option Taken) (result : Result Report ImportFault)
       → IsSound name new → Imports asks name old new coming was now result → IfErr result (StopsReplay asks name old coming)
       → (LeaveExports asks → ImportsExport name old new coming result) → ImportsForms asks old new coming result
-
-module _ (name : Kind → Bytes → Bytes) {A : Type 0} where
-  -- the next store text is that of a repository that is exported as this one is, unless memory ran out or the sink failed
-  abbrev pub IsAgainOr : Records → Outcome A → Type 0
-  IsAgainOr exported o = IsInterrupted o ⊎ ((new : Records) × IsExported exported new × IsSound name new × IsWritten name new o)
-
-  -- The import of a sound repository's export, in any form, into an empty store makes that repository again, as far as its refs
-  -- reach. A gitlink of forty zeros is left out, which no import takes and none brings.
-  abbrev pub ImportsAgain : Features → Stored Records → Option Coming → Outcome A → Type 0
-  ImportsAgain asks stored None o = ⊤
-  ImportsAgain asks stored (Some coming) o =
-      (form : ExportForm) (exported : Records) → LeaveForm form asks → IsSound name exported → HasNoNullGitlink (history_of exported)
-      → GivesForm name form exported coming → stored ≡ Ok empty_repository → IsAgainOr exported o
-
-  -- the same of the store of a text, which is read first
-  abbrev pub IntoAgain : Features → Bytes → Option Coming → Outcome A → Type 0
-  IntoAgain asks text coming o = ImportsAgain asks (store_of name text) coming o
-
-  -- the same of the command
-  abbrev pub ServesExported : Line → Bytes → Option Coming → Outcome A → Type 0
-  ServesExported (line.Import file done force report explain) store coming o = IntoAgain (features_of done force) store coming o
-  ServesExported line store coming o = ⊤

@@ -2,14 +2,13 @@
 use Rattle.std.specs.Prelude.{◌≡◌, ◌++◌, [], Option, Result, Ok, Err}
 use Rattle.gx_model.specs.Texts.{Bytes}
 use Rattle.gx_model.specs.Texts.Sinks.{FailedWithin, Taken, Took}
-use Rattle.gx_model.specs.declared.store_faults.FileFault.TheVariants as file_kind
 use Rattle.gx_rev.specs.RevFaults as rev
 use Rattle.gx_rev.specs.declared.shown.Shown.{Shown}
 use Rattle.gx_rev.specs.declared.shown.Shown.TheVariants.{Object, Submodule}
 use Rattle.gx_blobs.specs.Printing.{name_line}
-use Rattle.gx_cli.specs.Stored.{Printed, Refusal, of_store, of_word}
+use Rattle.gx_cli.specs.Stored.{Printed, Refusal, of_word}
 use Rattle.gx_cli.specs.declared.fault.CliFault.{CliFault}
-use Rattle.gx_cli.specs.declared.fault.CliFault.TheVariants.{OutOfMemory, Revision, Store, WriteFailed}
+use Rattle.gx_cli.specs.declared.fault.CliFault.TheVariants.{OutOfMemory, Revision, WriteFailed}
 
 -- a front of the text, or nothing
 abbrev pub IsFrontOf : Printed → Bytes → Type 0
@@ -18,7 +17,6 @@ IsFrontOf (Err refusal) front = front ≡ []
 
 -- a refusal as it is answered
 abbrev pub IsRefusal : Refusal → CliFault → Type 0
-IsRefusal (of_store f) (Store why) = f ≡ why
 IsRefusal (of_word n f) (Revision number why) = (number ≡ n) × (f ≡ rev.fault_of why)
 IsRefusal refusal fault = ⊥
 
@@ -28,7 +26,6 @@ abbrev pub Prints : Printed → Option Taken → Option Taken → Result (Unit {
 Prints given was now (Ok done) = (text : Bytes) × (given ≡ Ok text) × Took was now text
 Prints given was now (Err WriteFailed) = (text : Bytes) × (given ≡ Ok text) × FailedWithin was now text
 Prints given was now (Err OutOfMemory) = (front : Bytes) × IsFrontOf given front × Took was now front
-Prints given was now (Err (Store file_kind.OutOfMemory)) = Took was now []
 Prints given was now (Err fault) = (refusal : Refusal) × (given ≡ Err refusal) × IsRefusal refusal fault × Took was now []
 
 -- the line of an object's name, or of a submodule's digits

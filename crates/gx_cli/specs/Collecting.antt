@@ -43,9 +43,12 @@ module _ (name : Kind → Bytes → Bytes) where
     pub answers : AnswersAlike old new
 
 module _ {N : Type 0} (name_of : N → Kind → Bytes → Bytes) (namer : N) where
-  -- what is left of the store that a text was read as, and how much went
+  -- what is left of a repository, and how much went, unless memory ran out
+  abbrev pub CollectsOpened : Records → Result ((N × Records) × Pruned) CliFault → Type 0
+  CollectsOpened old (Ok answer) = (answer.0.0 ≡ namer) × IsCollected (name_of namer) old answer.0.1 × HaveGone old answer.0.1 answer.1
+  CollectsOpened old (Err fault) = fault ≡ OutOfMemory
+
+  -- the same of the store that a text was read as
   abbrev pub CollectsStored : Stored Records → Result ((N × Records) × Pruned) CliFault → Type 0
-  CollectsStored (Ok old) (Ok answer) = (answer.0.0 ≡ namer) × IsCollected (name_of namer) old answer.0.1 × HaveGone old answer.0.1 answer.1
-  CollectsStored (Ok old) (Err fault) = (fault ≡ Store file.OutOfMemory) ⊎ (fault ≡ OutOfMemory)
-  CollectsStored (Err f) (Ok answer) = ⊥
-  CollectsStored (Err f) (Err fault) = (why : FileFault) × ((why ≡ file.OutOfMemory) ⊎ (f ≡ why)) × (fault ≡ Store why)
+  CollectsStored (Ok old) answer = (answer ≡ Err (Store file.OutOfMemory)) ⊎ CollectsOpened old answer
+  CollectsStored (Err f) answer = (why : FileFault) × ((why ≡ file.OutOfMemory) ⊎ (f ≡ why)) × (answer ≡ Err (Store why))

@@ -16,8 +16,10 @@ use Rattle.gx_batch.specs.declared.format.Part.{Part}
 use Rattle.gx_line.specs.declared.command_line.LogFormat.TheVariants.{Names}
 use Rattle.gx_line.specs.declared.command_line.LogOptions.{LogOptions}
 use Rattle.gx_cli.specs.Logs.{log_text}
-use Rattle.gx_cli.specs.Stored.{Printed, list_text, names_text, of_store, of_word, refs_text, tar_text}
+use Rattle.gx_cli.specs.Stored.{Printed, list_text, names_text, of_word, refs_text, tar_text}
 use Rattle.gx_cli.specs.Words.{words_in}
+use Rattle.gx_cli.specs.declared.commands.asked.Asked.{Asked as Line}
+use Rattle.gx_cli.specs.declared.commands.asked.Asked.TheVariants as asks
 
 -- ---- what a line asks
 
@@ -67,6 +69,18 @@ asked_by text (Some p) = asked_with p.0 p.1
 abbrev pub asked_of : Bytes → Asked
 asked_of text = asked_by text (cut_at 32 text)
 
+-- what a line asks, as the code has it
+abbrev pub shown_asked : Line → Asked
+shown_asked (asks.Contents revision) = contents revision.now
+shown_asked (asks.Info revision) = info revision.now
+shown_asked asks.Flush = flush
+shown_asked asks.Refs = refs
+shown_asked (asks.List recursive revision) = ls recursive revision.now
+shown_asked (asks.Archive revision) = archive revision.now
+shown_asked (asks.Log rest) = log (words_in rest.now)
+shown_asked (asks.Names rest) = rev_parse (words_in rest.now)
+shown_asked asks.Unknown = unknown
+
 -- ---- what is answered
 
 -- a text behind a line of its command and its length, and an LF behind it
@@ -77,11 +91,10 @@ printed_answer command text = line command (decimal (length text)) ++ (text ++ 1
 abbrev pub word_at : List Bytes → ℕ → Bytes
 word_at words number = get_or words (number - 1) []
 
--- what a command prints of these words, or the word that is refused, and why; the store was read before
+-- what a command prints of these words, or the word that is refused, and why
 abbrev pub answered : Bytes → List Bytes → Printed → Bytes
 answered command words (Ok text) = printed_answer command text
 answered command words (Err (of_word number fault)) = line (word_at words number) (reason fault)
-answered command words (Err (of_store fault)) = []
 
 -- the options of `log` in a line
 abbrev pub no_options : LogOptions

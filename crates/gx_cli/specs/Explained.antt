@@ -4,12 +4,10 @@ use Rattle.std.specs.Prelude.{◌≡◌, ◌⊎◌, Option, Result, Ok, Err}
 use Rattle.gx_model.specs.declared.objects.Kind.{Kind}
 use Rattle.gx_model.specs.declared.features.Features.{Features}
 use Rattle.gx_model.specs.Texts.{Bytes}
-use Rattle.gx_model.specs.Histories.{Records, empty_repository}
-use Rattle.gx_model.specs.Stores.StoreReading.{Stored, store_of}
+use Rattle.gx_model.specs.Histories.{Records}
+use Rattle.gx_model.specs.Stores.StoreReading.{Stored}
 use Rattle.gx_text.specs.Devices.{Coming}
-use Rattle.gx_repo.specs.Repositories.{Repository}
 use Rattle.gx_import.specs.Explaining.{ExplainsFault, TellsNothing}
-use Rattle.gx_import.specs.Exported.{nothing}
 use Rattle.gx_import.specs.declared.explanation.Explanation.{Explanation}
 use Rattle.gx_cli.specs.declared.fault.CliFault.{CliFault}
 use Rattle.gx_cli.specs.declared.fault.CliFault.TheVariants.{Import, OutOfMemory}
@@ -28,16 +26,3 @@ module _ (name : Kind → Bytes → Bytes) {A : Type 0} where
   abbrev pub ExplainsStored : {X : Type 0} → Features → Stored Records → Option Coming → Result X CliFault → Explanation A → Type 0
   ExplainsStored asks (Ok old) coming answer told = ExplainsCommand asks old coming answer told
   ExplainsStored asks (Err f) coming answer told = TellsNothing told
-
-  -- the same of a stream that is tried, which is imported into an empty store
-  abbrev pub ExplainsTry : {X : Type 0} → Features → Option Coming → Result X CliFault → Explanation A → Type 0
-  ExplainsTry asks coming answer told = ExplainsCommand asks empty_repository coming answer told
-
-module _ {N X A : Type 0} (name_of : N → Kind → Bytes → Bytes) where
-  -- the same of an import into the store of a text, which is read first
-  abbrev pub ExplainsStore : N → Features → Bytes → Option Coming → Result X CliFault → Explanation A → Type 0
-  ExplainsStore namer asks text coming answer told = ExplainsStored (name_of namer) asks (store_of (name_of namer) text) coming answer told
-
-  -- and of a repository
-  abbrev pub ExplainsOpened : Repository N → Features → Option Coming → Result X CliFault → Explanation A → Type 0
-  ExplainsOpened repo asks coming answer told = ExplainsCommand (name_of repo.0) asks repo.1 coming answer told

@@ -2,6 +2,7 @@
 -- Source: git-fast-import(1), "from", "filemodify" to "filedeleteall", and "force".
 use Rattle.std.specs.Prelude.{ℕ, [], ◌∷◌, ◌++◌, Option, Some, None, codes}
 use Rattle.std.specs.Fmt.{decimal}
+use Rattle.std.specs.Option.{option_map_or}
 use Rattle.gx_model.specs.Texts.{Bytes}
 use Rattle.gx_model.specs.Texts.Paths.{Path, path_text, printed}
 use Rattle.gx_model.specs.Objects.{hex}
@@ -33,24 +34,10 @@ asked_line asked = codes "gx: asked for " ++ asked_text asked ++ 10 ∷ []
 abbrev pub loss_line : {A : Type 0} → RefLoss A → Bytes
 loss_line loss = codes "gx: " ++ loss.name.items ++ codes ": from " ++ hex loss.old.bytes ++ codes " to " ++ hex loss.new.bytes ++ 10 ∷ []
 
--- the line of a change that is told, if one is
-abbrev pub told_change : Option ℕ → Option Path → Bytes
-told_change None path = []
-told_change (Some number) path = change_line number path
-
--- that of a reference
-abbrev pub told_asked : {A : Type 0} → Option (Asked A) → Bytes
-told_asked None = []
-told_asked (Some asked) = asked_line asked
-
--- and that of a ref
-abbrev pub told_loss : {A : Type 0} → Option (RefLoss A) → Bytes
-told_loss None = []
-told_loss (Some loss) = loss_line loss
-
 -- what is told of a refusal, one line for each
 abbrev pub explanation_text : {A : Type 0} → Explanation A → Bytes
-explanation_text told = told_change told.change told.path ++ told_asked told.asked ++ told_loss told.loss
+explanation_text told =
+    option_map_or (λ number. change_line number told.path) told.change [] ++ option_map_or asked_line told.asked [] ++ option_map_or loss_line told.loss []
 
 -- what stands before the text of a line: its number, from 1, and the byte at which it begins, from 0
 abbrev pub place_head : ℕ → ℕ → Bytes

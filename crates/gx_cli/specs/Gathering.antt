@@ -1,8 +1,8 @@
 -- What the commands answer that read a source alone, with their faults among those of the commands.
-use Rattle.std.specs.Prelude.{◌≡◌, Bool, true, false, List, map, Option, Some, None, Result, Ok, Err, ⊤}
+use Rattle.std.specs.Prelude.{◌≡◌, ℕ, Bool, true, false, List, map, Option, Some, None, Result, Ok, Err, ⊤}
 use Rattle.std.specs.Option.{option_map}
+use Rattle.std.specs.Result.{result_map_both}
 use Rattle.std.specs.declared.vec.Vec.{Vec}
-use Rattle.std.specs.Prelude.{ℕ}
 use Rattle.gx_model.specs.Texts.{Bytes}
 use Rattle.gx_model.specs.Texts.Sinks.{Taken}
 use Rattle.gx_text.specs.Devices.{Coming}
@@ -10,28 +10,24 @@ use Rattle.gx_stream.specs.Heard.{heard, items_from}
 use Rattle.gx_adapt.specs.Adapting.{AdaptsFrom}
 use Rattle.gx_adapt.specs.declared.fault.AdaptFault.{AdaptFault}
 use Rattle.gx_adapt.specs.declared.report.Report.{Report}
+use Rattle.gx_archive.specs.declared.fault.ArchiveFault.{ArchiveFault}
+use Rattle.gx_archive.specs.declared.fault.ArchiveFault.TheVariants as archive
 use Rattle.gx_batch.specs.Lines.{lines_from}
 use Rattle.gx_batch.specs.declared.ending.LineEnding.TheVariants.{Lf}
 use Rattle.gx_batch.specs.declared.fault.BatchFault.{BatchFault}
 use Rattle.gx_batch.specs.declared.fault.BatchFault.TheVariants as batch
 use Rattle.gx_batch.specs.declared.fault.FormatFault.{FormatFault}
 use Rattle.gx_batch.specs.declared.fault.FormatFault.TheVariants as format
+use Rattle.gx_cli.specs.Words.{refused_at}
 use Rattle.gx_cli.specs.declared.fault.CliFault.{CliFault}
 use Rattle.gx_cli.specs.declared.fault.CliFault.TheVariants.{Adapt, BadFormat, OutOfMemory, ReadFailed, WriteFailed}
-
--- ---- adapt
-
--- what `adapt` answers, with its fault among those of the commands
-abbrev pub adapt_answer : Result Report AdaptFault → Result Report CliFault
-adapt_answer (Ok report) = Ok report
-adapt_answer (Err f) = Err (Adapt f)
 
 -- a source's stream goes out adapted, by whether signatures are dropped
 abbrev pub AdaptsStream : Bool → Option Coming → Option Taken → Option Taken → Result Report CliFault → Type 0
 AdaptsStream drops coming was now r =
-    (answer : Result Report AdaptFault) × AdaptsFrom drops (option_map items_from coming) was now answer × (r ≡ adapt_answer answer)
+    (answer : Result Report AdaptFault) × AdaptsFrom drops (option_map items_from coming) was now answer × (r ≡ result_map_both (λ report. report) Adapt answer)
 
--- ---- batch
+-- ---- faults of other crates, among those of the commands
 
 -- a fault of `batch` among those of the commands
 abbrev pub of_batch : BatchFault → CliFault
@@ -39,15 +35,16 @@ of_batch batch.OutOfMemory = OutOfMemory
 of_batch batch.ReadFailed = ReadFailed
 of_batch batch.WriteFailed = WriteFailed
 
--- what `batch` answers, with its fault among those of the commands
-abbrev pub batch_answer : Result (Unit {0}) BatchFault → Result (Unit {0}) CliFault
-batch_answer (Ok done) = Ok done
-batch_answer (Err f) = Err (of_batch f)
-
 -- a fault of a format among those of the commands
 abbrev pub of_format : FormatFault → CliFault
 of_format format.OutOfMemory = OutOfMemory
 of_format format.BadFormat = BadFormat
+
+-- a fault of an archive among those of the commands; the revision is the only word
+abbrev pub of_archive : ArchiveFault → CliFault
+of_archive (archive.Revision kind) = refused_at 1 kind
+of_archive archive.WriteFailed = WriteFailed
+of_archive archive.OutOfMemory = OutOfMemory
 
 -- ---- all of a source
 
@@ -86,7 +83,11 @@ AreLines lines fails (Err ReadFailed) = fails ≡ true
 AreLines lines fails (Err OutOfMemory) = ⊤
 AreLines lines fails (Err fault) = ⊥
 
--- The same of the lines of a source. Where it tells nothing, there are lines that it gave.
+-- This holds of the lines of a source, and of whether it fails behind them. Where it tells nothing, there are lines that it gave.
+abbrev pub OfLines : Option Coming → (List Bytes → Bool → Type 0) → Type 0
+OfLines None holds = (lines : List Bytes) × (fails : Bool) × holds lines fails
+OfLines (Some c) holds = holds (lines_from Lf (heard c)) (heard c).fails
+
+-- the lines of a source, or why there aren't all of them
 abbrev pub GathersLines : {A : Type 0} → Option Coming → Result (Vec (Vec ℕ A) A) CliFault → Type 0
-GathersLines None result = (lines : List Bytes) × (fails : Bool) × AreLines lines fails result
-GathersLines (Some c) result = AreLines (lines_from Lf (heard c)) (heard c).fails result
+GathersLines coming result = OfLines coming (λ lines fails. AreLines lines fails result)

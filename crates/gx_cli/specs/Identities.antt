@@ -1,6 +1,6 @@
 -- What an identity says. Source: git-log(1), "PRETTY FORMATS", `%an`, `%ae` and `%at`, and git-fast-import(1), "Date Formats".
-use Rattle.std.specs.Prelude.{ℕ, [], ◌++◌, codes, Some, None}
-use Rattle.gx_model.specs.Texts.{Bytes, cut_at}
+use Rattle.std.specs.Prelude.{◌++◌, codes}
+use Rattle.gx_model.specs.Texts.{Bytes, parts_at}
 use Rattle.gx_cli.specs.Messages.{trimmed}
 
 -- the name stands before the `<`

@@ -4,7 +4,6 @@ pub mod Headline
 pub mod ChangesTrips
 pub mod Stored
 pub mod Storing
-pub mod FileLines
 pub mod WalkedFiles
 pub mod Words
 pub mod Commanding
@@ -16,13 +15,10 @@ pub mod Identities
 pub mod Logs
 pub mod LogRows
 pub mod Gathering
-pub mod Archiving
 pub mod Placing
 pub mod Forms
 pub mod Serving
-pub mod Batching
 pub mod Again
-pub mod Parts
 pub mod Collecting
 pub mod Reporting
 pub mod ExplainedLines

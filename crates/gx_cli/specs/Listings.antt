@@ -1,40 +1,30 @@
 -- What a revision shows, as text: bytes, digits, the body of a commit or a tag, and a tree's entries as lines.
 -- Source: git-cat-file(1) and git-ls-tree(1), "OUTPUT FORMAT".
-use Rattle.std.specs.Prelude.{◌≡◌, List, [], ◌∷◌, ◌++◌, Ok, codes}
+use Rattle.std.specs.Prelude.{◌≡◌, [], ◌∷◌, ◌++◌, Ok}
 use Rattle.std.specs.List.{flat_map}
 use Rattle.std.specs.Option.{option_map}
 use Rattle.gx_model.specs.declared.objects.Kind.{Kind}
 use Rattle.gx_model.specs.declared.objects.Mode.{Mode}
-use Rattle.gx_model.specs.declared.objects.Mode.TheVariants.{Gitlink, Dir}
 use Rattle.gx_model.specs.Texts.{Bytes}
 use Rattle.gx_model.specs.Faults.{Given, ◌>>=◌}
-use Rattle.gx_model.specs.Texts.Paths.{path_of, printed}
+use Rattle.gx_model.specs.Texts.Paths.{Path, path_of, path_text, printed}
 use Rattle.gx_model.specs.Histories.Files.{FileMap, file_at, first_components, sub_map}
 use Rattle.gx_model.specs.Histories.Values.{Value, blob_value, commit_value, tag_value, tree_value}
-use Rattle.gx_model.specs.Objects.{Entry, hex, mode_text}
+use Rattle.gx_model.specs.Objects.{Entry}
 use Rattle.gx_model.specs.Records.{commit_body, content_name, entry, node, tag_body, tree_name}
 use Rattle.gx_model.specs.Histories.{History}
 use Rattle.gx_model.specs.Revisions.{revision_of}
+use Rattle.gx_object.specs.declared.name.Name.{Name}
+use Rattle.gx_rev.specs.Entries.{entry_head}
 use Rattle.gx_model.specs.Revisions.Denotation.{Shown, denoted, object, submodule}
-
--- six octal digits
-abbrev pub mode_digits : Mode → Bytes
-mode_digits Dir = codes "040000"
-mode_digits mode = mode_text mode
-
--- the kind of what an entry of this mode names
-abbrev pub kind_word : Mode → Bytes
-kind_word Dir = codes "tree"
-kind_word Gitlink = codes "commit"
-kind_word _ = codes "blob"
 
 -- an entry's line: its mode, its kind, its name's digits, and behind a TAB its component as a path is printed
 abbrev pub entry_line : Entry → Bytes
-entry_line listed = mode_digits listed.mode ++ 32 ∷ kind_word listed.mode ++ 32 ∷ hex listed.name ++ 9 ∷ printed listed.component ++ 10 ∷ []
+entry_line listed = entry_head listed.mode listed.name ++ printed listed.component ++ 10 ∷ []
 
--- the lines of entries
-abbrev pub entry_lines : List Entry → Bytes
-entry_lines entries = flat_map entry_line entries
+-- the line of the file of this mode at a path, whose content has this name
+abbrev pub path_line : Path → Mode → Name → Bytes
+path_line path mode called = entry_line (record { mode = mode; component = path_text path; name = called.bytes })
 
 module _ (name : Kind → Bytes → Bytes) where
   -- what a first component of a file map names: a file's content, or else the tree of its sub-map

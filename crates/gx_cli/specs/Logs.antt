@@ -1,11 +1,15 @@
 -- What `log` prints of a store, or why it is refused. Source: git-log(1), "PRETTY FORMATS", and git-rev-list(1), `--all` and `--stdin`.
-use Rattle.std.specs.Prelude.{◌≡◌, ℕ, Bool, true, false, if◌then◌else◌, List, [], ◌∷◌, ◌++◌, map, take, reverse, codes, Option, Some, None, Result, Ok, Err}
-use Rattle.std.specs.List.{flat_map, join_by}
+use Rattle.std.specs.Prelude.{◌≡◌, ℕ, Bool, true, false, not, ◌&&◌, ◌||◌, if◌then◌else◌, List, [], ◌∷◌, ◌++◌, map, take, reverse, codes, Option, Some, None, Result, Ok, Err}
+use Rattle.std.specs.List.{AllByRecursion, filter, filter_map, flat_map, join_by}
+use Rattle.std.specs.declared.vec.Vec.{Vec}
 use Rattle.gx_model.specs.declared.objects.Kind.{Kind}
+use Rattle.gx_model.specs.declared.objects.Kind.TheVariants as kinds
 use Rattle.gx_model.specs.Texts.{Bytes}
 use Rattle.gx_model.specs.Faults.{◌>>=◌}
-use Rattle.gx_model.specs.Histories.Values.{Commit, CommitText, commit_value, parents_of, text_of}
+use Rattle.gx_model.specs.Histories.Marks.{marks_of}
+use Rattle.gx_model.specs.Histories.Values.{Commit, CommitText, commit_of, commit_value, parents_of, text_of}
 use Rattle.gx_model.specs.Histories.{History, Records}
+use Rattle.gx_model.specs.Laws.RepositoryLaws.{values_of}
 use Rattle.gx_model.specs.Objects.{CommitParts, commit_text, hex}
 use Rattle.gx_model.specs.Records.{name_of, names_of, parts_of_commit}
 use Rattle.gx_model.specs.Records.HistoryOf.{history_of}
@@ -14,13 +18,15 @@ use Rattle.gx_model.specs.Revisions.{RangeWord, range_of}
 use Rattle.gx_model.specs.Revisions.Ranges.{Word, WordFault, each_word, listing, with_ancestors, words_denoted}
 use Rattle.gx_model.specs.Texts.Sinks.{Taken}
 use Rattle.gx_text.specs.Devices.{Coming}
-use Rattle.gx_stream.specs.Heard.{heard}
-use Rattle.gx_batch.specs.Lines.{lines_from}
-use Rattle.gx_batch.specs.declared.ending.LineEnding.TheVariants.{Lf}
+use Rattle.gx_object.specs.declared.name.Name.{Name}
+use Rattle.gx_repo.specs.Repositories.{Repository}
+use Rattle.gx_rev.specs.Objects.{IsHeldAs, commit_at}
+use Rattle.gx_rev.specs.Reached.{is_wanted}
 use Rattle.gx_line.specs.declared.command_line.LogFormat.{LogFormat}
 use Rattle.gx_line.specs.declared.command_line.LogFormat.TheVariants.{Author, Dates, Names, Oneline, Raw, Subject}
 use Rattle.gx_line.specs.declared.command_line.LogOptions.{LogOptions}
 use Rattle.gx_cli.specs.Answers.{Prints}
+use Rattle.gx_cli.specs.Gathering.{OfLines}
 use Rattle.gx_cli.specs.Identities.{name_and_email, seconds_in}
 use Rattle.gx_cli.specs.Messages.{indented, subject, trimmed}
 use Rattle.gx_cli.specs.Stored.{Printed, all_words}
@@ -111,7 +117,7 @@ module _ (name : Kind → Bytes → Bytes) where
   -- what is printed of what range words list: all are read, and then all are evaluated
   abbrev pub log_text : LogOptions → History → List Bytes → Printed
   log_text options h words =
-      all_words (and_then (each_word range_of words) (λ ws. and_then (commits_logged h options.all ws) (λ commits. Ok (entries_text options (arranged options commits)))))
+      all_words (each_word range_of words >>= λ ws. commits_logged h options.all ws >>= λ commits. Ok (entries_text options (arranged options commits)))
 
   -- ---- words of standard input
 
@@ -122,12 +128,27 @@ module _ (name : Kind → Bytes → Bytes) where
   LogsRead options repository words fails was now (Err OutOfMemory) = Prints (log_text options (history_of repository) words) was now (Err OutOfMemory)
   LogsRead options repository words fails was now answer = (fails ≡ false) × Prints (log_text options (history_of repository) words) was now answer
 
-  -- The same of the lines of a source. Where it tells nothing, there are lines that it gave.
-  abbrev pub LogsLines : LogOptions → Records → List Bytes → Option Coming → Option Taken → Option Taken → Result (Unit {0}) CliFault → Type 0
-  LogsLines options repository words None was now answer = (lines : List Bytes) × (fails : Bool) × LogsRead options repository (words ++ lines) fails was now answer
-  LogsLines options repository words (Some c) was now answer = LogsRead options repository (words ++ lines_from Lf (heard c)) (heard c).fails was now answer
-
   -- what is printed of a repository, and where they are asked for the lines of a source are words, too
   abbrev pub LogsFrom : LogOptions → Bool → Records → List Bytes → Option Coming → Option Taken → Option Taken → Result (Unit {0}) CliFault → Type 0
-  LogsFrom options true repository words coming was now answer = LogsLines options repository words coming was now answer
+  LogsFrom options true repository words coming was now answer = OfLines coming (λ lines fails. LogsRead options repository (words ++ lines) fails was now answer)
   LogsFrom options false repository words coming was now answer = Prints (log_text options (history_of repository) words) was now answer
+
+-- ---- commits in a repository
+
+-- each of these names is that of a held commit
+abbrev pub AreCommits : Records → List Name → Type 0
+AreCommits repository names = AllByRecursion (IsHeldAs kinds.Commit repository) names
+
+module _ {N : Type 0} (names : N → Kind → Bytes → Bytes) where
+  -- The names of the commits that pass the one test and not the other, where these are marked, the last one first. Where that is
+  -- asked for, what refs reach passes, too.
+  abbrev pub ListsMarked : {A : Type 0} → Repository N → Bool → List Bool → List Bool → Vec Name A → Type 0
+  ListsMarked repo refs included excluded listed = (wanted unwanted : Commit → Bool)
+      → included ≡ marks_of wanted (values_of repo.1) → excluded ≡ marks_of unwanted (values_of repo.1)
+      → map (λ called. called.bytes) listed.items
+      ≡ map (λ made. name_of (names repo.0) (commit_value made))
+      (filter (λ made. (wanted made || (refs && is_wanted repo.1 made)) && not (unwanted made)) (reverse (filter_map commit_of (values_of repo.1))))
+
+  -- what is printed of the commit of this name
+  abbrev pub entry_at : Repository N → LogOptions → Name → Bytes
+  entry_at repo options commit = entry_of (names repo.0) options (commit_at repo.1 commit)

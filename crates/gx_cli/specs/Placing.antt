@@ -3,15 +3,16 @@
 use Rattle.std.specs.Prelude.{◌≡◌, ℕ, ◌<◌, ◌≤◌, [], ◌∷◌, ◌++◌, length, Option, Result, Ok, Err}
 use Rattle.std.specs.Fmt.{decimal}
 use Rattle.gx_model.specs.Texts.{Bytes}
-use Rattle.gx_model.specs.Texts.Sinks.{FailedWithin, Taken, Took}
+use Rattle.gx_model.specs.Texts.Sinks.{Taken}
 use Rattle.gx_text.specs.Devices.{Coming}
 use Rattle.gx_where.specs.Faults.{IsWhy}
 use Rattle.gx_where.specs.Places.{BeginsWith, GoesOnWith, front_line, line_at, rest_at}
 use Rattle.gx_where.specs.Rests.{BeginsNoComment, Reaches}
 use Rattle.gx_where.specs.declared.place.Place.{Place}
 use Rattle.gx_cli.specs.Gathering.{EndsBadly, IsAllOf}
+use Rattle.gx_cli.specs.Sending.{Sent}
 use Rattle.gx_cli.specs.declared.fault.CliFault.{CliFault}
-use Rattle.gx_cli.specs.declared.fault.CliFault.TheVariants.{OutOfMemory, ReadFailed, Where, WriteFailed}
+use Rattle.gx_cli.specs.declared.fault.CliFault.TheVariants.{OutOfMemory, ReadFailed, Where}
 
 -- the number of the line, the byte, and what stands in the line, as `grep -bn` prints a line
 abbrev pub place_line : Place → Bytes
@@ -31,10 +32,8 @@ pub record IsPlace (command : ℕ) (text : Bytes) (place : Place) : Type 0 where
 
 -- the line of a place goes out; for want of memory nothing does
 abbrev pub PutsPlace : Place → Option Taken → Option Taken → Result (Unit {0}) CliFault → Type 0
-PutsPlace place was now (Ok done) = Took was now (place_line place)
-PutsPlace place was now (Err WriteFailed) = FailedWithin was now (place_line place)
 PutsPlace place was now (Err OutOfMemory) = now ≡ was
-PutsPlace place was now (Err fault) = ⊥
+PutsPlace place was now result = Sent (place_line place) was now result
 
 -- the line of a command's place in a text goes out, or it is answered why it isn't told
 abbrev pub Places : ℕ → Bytes → Option Taken → Option Taken → Result (Unit {0}) CliFault → Type 0

@@ -4,7 +4,6 @@ use Rattle.std.specs.Prelude.{ℕ, Bool, if◌then◌else◌, List, [], ◌∷�
 use Rattle.std.specs.List.{flat_map}
 use Rattle.gx_model.specs.declared.objects.Kind.{Kind}
 use Rattle.gx_model.specs.declared.faults.Fault.{Fault}
-use Rattle.gx_model.specs.declared.store_faults.FileFault.{FileFault}
 use Rattle.gx_model.specs.Texts.{Bytes}
 use Rattle.gx_model.specs.Faults.{Given, ◌>>=◌}
 use Rattle.gx_model.specs.Texts.Paths.{Path, path_text}
@@ -17,15 +16,13 @@ use Rattle.gx_model.specs.Revisions.{RangeWord, revision_of}
 use Rattle.gx_model.specs.Revisions.Denotation.{Shown, denoted, files_in, object, submodule, value_denoted}
 use Rattle.gx_model.specs.Revisions.Ranges.{WordFault, each_word, listing, words_denoted}
 use Rattle.gx_model.specs.Stores.StoreText.{stored_ref}
-use Rattle.gx_model.specs.Stores.StoreReading.{Stored}
 use Rattle.gx_archive.specs.Archives.{archive_of}
 use Rattle.gx_cli.specs.Listings.{entry_line, text_of_word, tree_lines}
 
 -- ---- refusals
 
--- the store's text isn't read, or the word with this number, from 1, isn't one or gives nothing
+-- the word with this number, from 1, isn't one or gives nothing
 pub data Refusal : Type 0 where
-  of_store : FileFault → Refusal
   of_word : ℕ → Fault → Refusal
 
 -- a text to print, or a refusal
@@ -41,11 +38,6 @@ only_word (Err f) = Err (of_word 1 f)
 abbrev pub all_words : {A : Type 0} → Result A WordFault → Result A Refusal
 all_words (Ok x) = Ok x
 all_words (Err f) = Err (of_word f.word f.fault)
-
--- what is printed of a store, whose text is read first
-abbrev pub of_stored : Stored Records → (Records → Printed) → Printed
-of_stored (Ok repository) given = given repository
-of_stored (Err f) given = Err (of_store f)
 
 -- ---- refs
 

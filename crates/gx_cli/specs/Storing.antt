@@ -1,6 +1,7 @@
 -- Imports that answer the repository whose text is the store's next one.
 -- Source: git-fast-import(1).
 use Rattle.std.specs.Prelude.{◌≡◌, ◌⊎◌, ℕ, zero, suc, Option, Some, None, Result, Ok, Err, ⊤}
+use Rattle.std.specs.Option.{option_map}
 use Rattle.gx_model.specs.declared.objects.Kind.{Kind}
 use Rattle.gx_model.specs.declared.features.Features.{Features}
 use Rattle.gx_model.specs.Texts.{Bytes}
@@ -8,7 +9,7 @@ use Rattle.gx_model.specs.Histories.{Records, empty_repository}
 use Rattle.gx_model.specs.Records.HistoryOf.{history_of}
 use Rattle.gx_model.specs.Laws.ExportLaws.{HasNoNullGitlink}
 use Rattle.gx_model.specs.Records.Sound.{IsSound}
-use Rattle.gx_model.specs.Stores.StoreReading.{Stored, store_of}
+use Rattle.gx_model.specs.Stores.StoreReading.{Stored}
 use Rattle.gx_model.specs.Texts.Sinks.{Taken}
 use Rattle.gx_text.specs.Devices.{Coming}
 use Rattle.gx_import.specs.Exported.{IsExported, KeepsNoNullGitlink}
@@ -24,11 +25,19 @@ use Rattle.gx_cli.specs.declared.fault.CliFault.{CliFault}
 use Rattle.gx_cli.specs.declared.fault.CliFault.TheVariants.{Import, Store}
 
 -- the repository whose text is the store's next one, where there is one, and what was imported or why it is refused
-abbrev pub Answer : Type 0 → Type 0
-Answer N = Option (N × Records) × Result Report CliFault
+abbrev pub Answer : Type 0
+Answer = Option Records × Result Report CliFault
+
+-- the same with its namer
+abbrev pub Imported : Type 0 → Type 0
+Imported N = Option (N × Records) × Result Report CliFault
+
+-- an answer without the namer
+abbrev pub answer_of : {N : Type 0} → Imported N → Answer
+answer_of given = (option_map (λ repo. repo.1) given.0, given.1)
 
 -- memory ran out, while the store was read or while the stream was imported, or the sink of progress texts failed
-abbrev pub IsInterrupted : {N : Type 0} → Answer N → Type 0
+abbrev pub IsInterrupted : Answer → Type 0
 IsInterrupted answer =
     (answer ≡ (None, Err (Store file.OutOfMemory)))
     ⊎ ((fault : ImportFault) × ((fault.kind ≡ kind.OutOfMemory) ⊎ (fault.kind ≡ kind.WriteFailed)) × (answer ≡ (None, Err (Import fault))))
@@ -38,30 +47,28 @@ abbrev pub next_after : {X : Type 0} → ℕ → X → Option X
 next_after zero new = None
 next_after (suc n) new = Some new
 
-module _ {N : Type 0} (name_of : N → Kind → Bytes → Bytes) (namer : N) where
+module _ (name : Kind → Bytes → Bytes) where
   -- After an import the next text is that of the new repository, which is sound, and what was imported is told.
-  abbrev pub IsAnswer : Records → Result Report ImportFault → Answer N → Type 0
-  IsAnswer new (Ok report) answer = IsSound (name_of namer) new × (answer ≡ (Some (namer, new), Ok report))
-  IsAnswer new (Err fault) answer = IsSound (name_of namer) new × (answer ≡ (next_after fault.checkpoints (namer, new), Err (Import fault)))
+  abbrev pub IsAnswer : Records → Result Report ImportFault → Answer → Type 0
+  IsAnswer new (Ok report) answer = IsSound name new × (answer ≡ (Some new, Ok report))
+  IsAnswer new (Err fault) answer = IsSound name new × (answer ≡ (next_after fault.checkpoints new, Err (Import fault)))
 
-  -- The import of a stream into the store that a text was read as, where these features are asked for. It brings no gitlink of
-  -- forty zeros.
-  abbrev pub ImportsStored : Features → Stored Records → Option Coming → Option Taken → Option Taken → Answer N → Type 0
-  ImportsStored asks (Ok old) coming was now answer =
-      ((answer ≡ (None, Err (Store file.OutOfMemory))) × (now ≡ was))
-      ⊎ ((new : Records) × (given : Result Report ImportFault) × Imports asks (name_of namer) old new coming was now given × KeepsNoNullGitlink old new × IsAnswer new given answer)
+  -- The import of a stream into a repository, where these features are asked for. It brings no gitlink of forty zeros.
+  abbrev pub ImportsOpened : Features → Records → Option Coming → Option Taken → Option Taken → Answer → Type 0
+  ImportsOpened asks old coming was now answer =
+      (new : Records) × (given : Result Report ImportFault) × Imports asks name old new coming was now given × KeepsNoNullGitlink old new × IsAnswer new given answer
+
+  -- the same into the store that a text was read as
+  abbrev pub ImportsStored : Features → Stored Records → Option Coming → Option Taken → Option Taken → Answer → Type 0
+  ImportsStored asks (Ok old) coming was now answer = ((answer ≡ (None, Err (Store file.OutOfMemory))) × (now ≡ was)) ⊎ ImportsOpened asks old coming was now answer
   ImportsStored asks (Err f) coming was now answer =
       (why : FileFault) × ((why ≡ file.OutOfMemory) ⊎ (f ≡ why)) × (answer ≡ (None, Err (Store why))) × (now ≡ was)
 
   -- The import of a sound repository's export, in any form, into an empty store makes that repository again, as far as its refs
   -- reach. A gitlink of forty zeros is left out, which no import takes and none brings.
-  abbrev pub ImportsStoredAgain : Features → Stored Records → Option Coming → Answer N → Type 0
-  ImportsStoredAgain asks stored None answer = ⊤
-  ImportsStoredAgain asks stored (Some coming) answer =
-      (form : ExportForm) (exported : Records) → LeaveForm form asks → IsSound (name_of namer) exported → HasNoNullGitlink (history_of exported)
-      → GivesForm (name_of namer) form exported coming → stored ≡ Ok empty_repository
-      → IsInterrupted answer ⊎ ((new : Records) × (report : Report) × IsExported exported new × IsSound (name_of namer) new × (answer ≡ (Some (namer, new), Ok report)))
-
-  -- the import of a stream into the store of a text, which is read first
-  abbrev pub ImportsStore : Features → Bytes → Option Coming → Option Taken → Option Taken → Answer N → Type 0
-  ImportsStore asks text coming was now answer = ImportsStored asks (store_of (name_of namer) text) coming was now answer
+  abbrev pub ImportsAgain : Features → Stored Records → Option Coming → Answer → Type 0
+  ImportsAgain asks stored None answer = ⊤
+  ImportsAgain asks stored (Some coming) answer =
+      (form : ExportForm) (exported : Records) → LeaveForm form asks → IsSound name exported → HasNoNullGitlink (history_of exported)
+      → GivesForm name form exported coming → stored ≡ Ok empty_repository
+      → IsInterrupted answer ⊎ ((new : Records) × (report : Report) × IsExported exported new × IsSound name new × (answer ≡ (Some new, Ok report)))

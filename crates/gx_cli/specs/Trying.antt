@@ -54,9 +54,12 @@ LooksAs given (Err OutOfMemory) = ⊤
 LooksAs given (Err fault) = ⊥
 
 module _ (name : Kind → Bytes → Bytes) where
-  -- what is looked up in a repository is what its history has there
-  abbrev pub LooksIn : {A : Type 0} → Records → Revision → Path → Result (Mode × Vec ℕ A) CliFault → Type 0
-  LooksIn repository revision path answer = LooksAs (looked_up name (history_of repository) revision path) answer
+  -- This holds of the commands of a source, and of their replay into an empty store, where these features are asked for. Where the
+  -- source tells nothing, there are commands that a reader gives.
+  abbrev pub OfReplay : Features → Option Coming → (Commands → Outcome → Type 0) → Type 0
+  OfReplay asks None holds = (commands : Commands) × AreRead commands × holds commands (replayed_on asks name empty_repository commands)
+  OfReplay asks (Some coming) holds =
+      holds (commands_asked_from asks coming) (imported_asked asks name no_history (heard coming).bytes (heard coming).fails)
 
   -- a refused import into an empty store, where these features are asked for, or one that was interrupted, which leaves some repository
   abbrev pub Refuses : Features → Commands → Outcome → Option Taken → Option Taken → ImportFault → Type 0
@@ -67,11 +70,9 @@ module _ (name : Kind → Bytes → Bytes) where
   ShowsReplayed asks commands outcome word was now (Err (Import fault)) = Refuses asks commands outcome was now fault
   ShowsReplayed asks commands outcome word was now answer = (h : History) × (text : Bytes) × Replayed outcome h text × Shows text (text_of_word name h word) was now answer
 
-  -- The same of the commands of a source. Where it tells nothing, there are commands that a reader gives.
+  -- the same of the commands of a source
   abbrev pub Tries : Features → Option Coming → Bytes → Option Taken → Option Taken → Result (Unit {0}) CliFault → Type 0
-  Tries asks None word was now answer = (commands : Commands) × AreRead commands × ShowsReplayed asks commands (replayed_on asks name empty_repository commands) word was now answer
-  Tries asks (Some coming) word was now answer =
-      ShowsReplayed asks (commands_asked_from asks coming) (imported_asked asks name no_history (heard coming).bytes (heard coming).fails) word was now answer
+  Tries asks coming word was now answer = OfReplay asks coming (λ commands outcome. ShowsReplayed asks commands outcome word was now answer)
 
   -- What commands are refused for, where a sink takes their progress text: for nothing, where their replay is accepted.
   abbrev pub Finds : Features → Commands → Outcome → Result (Unit {0}) CliFault → Type 0
@@ -80,19 +81,15 @@ module _ (name : Kind → Bytes → Bytes) where
   Finds asks commands outcome (Err OutOfMemory) = ⊤
   Finds asks commands outcome (Err fault) = ⊥
 
-  -- The same of the commands of a source. Where it tells nothing, there are commands that a reader gives.
+  -- the same of the commands of a source
   abbrev pub FindsFault : Features → Option Coming → Result (Unit {0}) CliFault → Type 0
-  FindsFault asks None answer = (commands : Commands) × AreRead commands × Finds asks commands (replayed_on asks name empty_repository commands) answer
-  FindsFault asks (Some coming) answer =
-      Finds asks (commands_asked_from asks coming) (imported_asked asks name no_history (heard coming).bytes (heard coming).fails) answer
+  FindsFault asks coming answer = OfReplay asks coming (λ commands outcome. Finds asks commands outcome answer)
 
   -- an import into an empty store is accepted as the replay is, with its history and its progress text, or refused
   abbrev pub StandsAlone : {N : Type 0} → Features → Commands → Outcome → Option Taken → Option Taken → Result (N × Records) ImportFault → Type 0
   StandsAlone asks commands outcome was now (Ok repository) = (text : Bytes) × Replayed outcome (history_of repository.1) text × Took was now text
   StandsAlone asks commands outcome was now (Err fault) = Refuses asks commands outcome was now fault
 
-  -- The same of the commands of a source. Where it tells nothing, there are commands that a reader gives.
+  -- the same of the commands of a source
   abbrev pub ImportsAlone : {N : Type 0} → Features → Option Coming → Option Taken → Option Taken → Result (N × Records) ImportFault → Type 0
-  ImportsAlone asks None was now answer = (commands : Commands) × AreRead commands × StandsAlone asks commands (replayed_on asks name empty_repository commands) was now answer
-  ImportsAlone asks (Some coming) was now answer =
-      StandsAlone asks (commands_asked_from asks coming) (imported_asked asks name no_history (heard coming).bytes (heard coming).fails) was now answer
+  ImportsAlone asks coming was now answer = OfReplay asks coming (λ commands outcome. StandsAlone asks commands outcome was now answer)

@@ -52,21 +52,3 @@ module _ (name : Kind → Bytes → Bytes) (repository : Records) where
     pub tree : entry.mode ≡ Dir → IsTrue (is_held repository.records kinds.Tree entry.name)
     pub some : files_named (entry.mode, entry.name) ≢ []
     pub paths : HavePaths front (files_of_entry entry)
-
-module _ {N : Type 0} (name_of : N → Kind → Bytes → Bytes) (repo : Repository N) (front : Bytes) where
-  -- a tree of this name is held, and with this text before it each path of its files is one
-  abbrev pub HasPathsBehind : Name → Type 0
-  HasPathsBehind tree = IsTrue (is_held repo.1.records kinds.Tree tree.bytes) × HavePaths front (files_in (name_of repo.0) repo.1 tree.bytes)
-
-module _ {N W : Type 0} (name_of : N → Kind → Bytes → Bytes) (taken : W → Option Taken) (repo : Repository N) (front : Bytes) where
-  -- the lines of these files go out
-  abbrev pub PrintsLines : FileMap Bytes → W → W → Result (Unit {0}) CliFault → Type 0
-  PrintsLines files old new result = PrintsText (flat_map (line_below front) files) (taken old) (taken new) result
-
-  -- the lines of all files of the tree of this name go out
-  abbrev pub PrintsBelow : Name → W → W → Result (Unit {0}) CliFault → Type 0
-  PrintsBelow tree old new result = PrintsLines (files_in (name_of repo.0) repo.1 tree.bytes) old new result
-
-  -- the lines of the files at or below an entry go out
-  abbrev pub PrintsEntry : Entry → W → W → Result (Unit {0}) CliFault → Type 0
-  PrintsEntry entry old new result = PrintsLines (files_of_entry (name_of repo.0) repo.1 (shown entry)) old new result

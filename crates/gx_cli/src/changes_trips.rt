@@ -43,7 +43,8 @@ pub fn trip_by_changes<N: Namer + Copy + Drop, A: Allocator + Copy, R: Source + 
 ) -> Result<ChangesTrip<N, A>, CliFault>
     ensures namer { IfOk result (λ trip. trip.first.0 ≡ namer) }
     ensures again { IfOk result (λ trip. trip.again.0 ≡ namer) }
-    ensures back { TripsByChanges (N.name_of namer) done (R.coming source) (W.taken sink.old) (W.taken sink.new) result }
+    ensures back { TripsByChanges (N.name_of namer) done (R.coming source)
+        (W.taken sink.old) (W.taken sink.new) result }
 {
     replays_keep_none();
     let mut first = Repo::new(alloc, namer, state);

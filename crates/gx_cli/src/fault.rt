@@ -1,8 +1,7 @@
 //! Why a command is refused.
 
 ghost use Rattle.std.specs.Prelude.{◌≡◌};
-ghost use Rattle.gx_cli.specs.Archiving.{of_archive};
-ghost use Rattle.gx_cli.specs.Gathering.{of_batch, of_format};
+ghost use Rattle.gx_cli.specs.Gathering.{of_archive, of_batch, of_format};
 ghost use Rattle.gx_cli.specs.declared.fault.CliFault.TheVariants.{OutOfMemory};
 
 use crate::BlobsFault;

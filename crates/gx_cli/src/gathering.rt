@@ -4,11 +4,8 @@ ghost use Rattle.std.specs.Prelude.{◌≡◌, ◌<◌, [], length};
 ghost use Rattle.gx_cli.specs.Gathering.{Gathers, GathersInto};
 
 use crate::CliFault;
-use gx_text::{Failed, Source};
+use gx_text::{Failed, PIECE, Source};
 use std::alloc::Allocator;
-
-/// How many bytes a pull asks for.
-const PIECE: usize = 0x1_0000;
 
 /// All that a source gives up to its end.
 ///

@@ -29,7 +29,8 @@ pub(crate) fn add_lines<'a, A: Allocator + Copy>(
     words: &mut Vec<&'a [u8], A>,
     lines: &'a [Vec<u8, A>],
 ) -> Result<(), AllocFailed<&'a [u8]>>
-    ensures { OnOk result (lent_texts words.new.items ≡ lent_texts words.old.items ++ map (λ line. line.items) lines.now) }
+    ensures { OnOk result (lent_texts words.new.items ≡ lent_texts words.old.items
+        ++ map (λ line. line.items) lines.now) }
 {
     for line in lines {
         words.push(line.as_slice())?;

@@ -1,12 +1,12 @@
 //! The entries of a tree, one a line. Source: git-ls-tree(1), "OUTPUT FORMAT".
 
 ghost use Rattle.std.specs.Prelude.{◌≡◌, ◌++◌, IfOk, OnOk};
-ghost use Rattle.std.specs.List.{AllByRecursion};
+ghost use Rattle.std.specs.List.{AllByRecursion, flat_map};
 ghost use Rattle.gx_object.specs.Entries.{shown};
-ghost use Rattle.gx_cli.specs.FileLines.{line_head, mode_and_kind, path_line};
-ghost use Rattle.gx_cli.specs.Listings.{IsListed, entry_line, entry_lines};
+ghost use Rattle.gx_cli.specs.Listings.{IsListed, entry_line, path_line};
 
 use gx_object::{Entry, Mode, Name, TreeEntries};
+use gx_rev::put_entry_head;
 use gx_text::{TextFault, TreePath};
 use std::alloc::{AllocError, Allocator};
 
@@ -18,7 +18,7 @@ pub(crate) fn listing<A: Allocator + Copy>(
     entries: TreeEntries<'_>,
 ) -> Result<Vec<u8, A>, AllocError>
     requires components { AllByRecursion IsListed entries }
-    ensures { IfOk result (λ text. text.items ≡ entry_lines entries.entry) }
+    ensures { IfOk result (λ text. text.items ≡ flat_map entry_line entries.entry) }
 {
     let mut text = Vec::new(alloc);
     for entry in entries {
@@ -53,36 +53,9 @@ pub(crate) fn put_file<A: Allocator + Copy>(
 ) -> Result<(), AllocError>
     ensures { OnOk result (out.new.items ≡ out.old.items ++ path_line path.now mode name.now) }
 {
-    put_head(out, mode, name)?;
+    put_entry_head(out, mode, name)?;
     match path.write_quoted(out) {
         Ok(()) => Ok(out.push(b'\n')?),
         Err(_) => Err(AllocError),
-    }
-}
-
-/// Appends what stands before the path in a line: the mode, the kind, and the name's digits.
-fn put_head<A: Allocator + Copy>(
-    out: &mut Vec<u8, A>,
-    mode: Mode,
-    name: &Name,
-) -> Result<(), AllocError>
-    ensures { OnOk result (out.new.items ≡ out.old.items ++ line_head mode name.now.bytes) }
-{
-    out.extend_from_slice(mode_and_kind(mode))?;
-    out.extend_from_slice(name.hex().as_slice())?;
-    out.push(b'\t')?;
-    Ok(())
-}
-
-/// The mode in octal with six digits, and the kind of what an entry of this mode names, each with a space behind it.
-fn mode_and_kind(mode: Mode) -> &'static [u8]
-    ensures { result.now ≡ mode_and_kind mode }
-{
-    match mode {
-        Mode::File => b"100644 blob ",
-        Mode::Exec => b"100755 blob ",
-        Mode::Link => b"120000 blob ",
-        Mode::Gitlink => b"160000 commit ",
-        Mode::Dir => b"040000 tree ",
     }
 }

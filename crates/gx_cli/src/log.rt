@@ -1,11 +1,15 @@
 //! The commits that range words list, each in its format. Source: git-log(1) and git-rev-list(1).
 
-ghost use Rattle.std.specs.Prelude.{◌≡◌, []};
+ghost use Rattle.std.specs.Prelude.{◌≡◌, [], map};
 ghost use Rattle.gx_model.specs.Records.HistoryOf.{history_of};
-ghost use Rattle.gx_cli.specs.Stored.{texts_of};
-ghost use Rattle.gx_cli.specs.Logs.{LogsFrom, log_text};
+ghost use Rattle.gx_model.specs.Revisions.{range_of};
+ghost use Rattle.gx_model.specs.Revisions.Ranges.{each_word};
+ghost use Rattle.gx_rev.specs.Views.{shown_range};
+ghost use Rattle.gx_text.specs.Lent.{lent_texts};
 ghost use Rattle.gx_cli.specs.Answers.{Prints};
-ghost use Rattle.gx_cli.specs.Parts.{LogsStored, LogsWords, ReadsRangesInto};
+ghost use Rattle.gx_cli.specs.Logs.{LogsFrom, log_text};
+ghost use Rattle.gx_cli.specs.Stored.{all_words};
+ghost use Rattle.gx_cli.specs.Words.{GivesWords, with_lines};
 
 mod commits;
 mod formats;
@@ -13,9 +17,7 @@ mod identities;
 mod messages;
 
 use crate::lines::{add_lines, lines_from};
-use crate::opening::open;
-use crate::serving::{Outcome, outcome_of, refused};
-use crate::words::{refused as refused_word, texts_of};
+use crate::words::{refused, texts_of};
 use crate::{CliFault, LogOptions};
 use commits::{arrange, names_listed};
 use formats::print_commits;
@@ -24,33 +26,11 @@ use gx_repo::Repo;
 use gx_rev::Range;
 use gx_text::{Sink, Source};
 use std::alloc::Allocator;
-use std::hash::RandomState;
 
-/// Prints the commits that range words list of the store of these bytes, which are read first. With `stdin` the lines of the
-/// source are words, too, behind those that are given.
+/// Prints the commits that range words list. With `stdin` the lines of the source are words, too, behind those that are given.
 ///
-/// `ReadFailed`: the source failed, and nothing was printed.
-/// Cost: that of reading the store's bytes and the source, and that of `log`.
-pub(crate) fn log_stored<N: Namer + Drop, R: Source + Drop, W: Sink, A: Allocator + Copy>(
-    alloc: A,
-    namer: N,
-    options: LogOptions,
-    words: &[&str],
-    store: Vec<u8, A>,
-    source: R,
-    sink: &mut W,
-    state: RandomState,
-) -> Outcome<A>
-    ensures { LogsStored N.name_of W.taken namer options words.now store.items (R.coming source) sink.old sink.new result }
-{
-    match open(alloc, namer, store, state) {
-        Ok(repo) => outcome_of(log_opened(alloc, &repo, options, words, source, sink)),
-        Err(fault) => refused(CliFault::Store(fault)),
-    }
-}
-
-/// Does the same of a repository.
-fn log_opened<N: Namer, R: Source + Drop, W: Sink, A: Allocator + Copy>(
+/// `ReadFailed`: the source failed, and nothing was printed. Cost: that of reading the source, and that of `log`.
+pub(crate) fn log_with_lines<N: Namer, R: Source + Drop, W: Sink, A: Allocator + Copy>(
     alloc: A,
     repo: &Repo<N, A>,
     options: LogOptions,
@@ -58,7 +38,8 @@ fn log_opened<N: Namer, R: Source + Drop, W: Sink, A: Allocator + Copy>(
     source: R,
     sink: &mut W,
 ) -> Result<(), CliFault>
-    ensures { LogsFrom (N.name_of repo.now.0) options options.stdin repo.now.1 (texts_of words.now) (R.coming source)
+    ensures { LogsFrom (N.name_of repo.now.0) options options.stdin repo.now.1
+        (lent_texts words.now) (R.coming source)
         (W.taken sink.old) (W.taken sink.new) result }
 {
     if options.stdin {
@@ -78,7 +59,9 @@ fn log_words<'a, N: Namer, A: Allocator + Copy, W: Sink>(
     lines: &'a [Vec<u8, A>],
     sink: &mut W,
 ) -> Result<(), CliFault>
-    ensures { LogsWords N.name_of W.taken repo.now options words.now lines.now sink.old sink.new result }
+    ensures { Prints (log_text (N.name_of repo.now.0) options (history_of repo.now.1)
+        (with_lines words.now lines.now))
+        (W.taken sink.old) (W.taken sink.new) result }
 {
     let mut asked = texts_of(alloc, words)?;
     add_lines(&mut asked, lines)?;
@@ -98,7 +81,9 @@ pub(crate) fn log<N: Namer, A: Allocator + Copy, W: Sink>(
     words: &[&[u8]],
     sink: &mut W,
 ) -> Result<(), CliFault>
-    ensures { Prints (log_text (N.name_of repo.now.0) options (history_of repo.now.1) (texts_of words.now)) (W.taken sink.old) (W.taken sink.new) result }
+    ensures { Prints (log_text (N.name_of repo.now.0) options (history_of repo.now.1)
+        (lent_texts words.now))
+        (W.taken sink.old) (W.taken sink.new) result }
 {
     let mut ranges = Vec::new(alloc);
     read_into(alloc, words, &mut ranges)?;
@@ -114,12 +99,13 @@ pub(crate) fn read_into<A: Allocator + Copy>(
     ranges: &mut Vec<Range<A>, A>,
 ) -> Result<(), CliFault>
     requires empty { ranges.old.items ≡ [] }
-    ensures { ReadsRangesInto words.now ranges.new.items result }
+    ensures { GivesWords (λ done. map shown_range ranges.new.items) result
+        (all_words (each_word range_of (lent_texts words.now))) }
 {
     for (place, word) in words.iter().enumerate() {
         match Range::read(alloc, word) {
             Ok(range) => ranges.push(range)?,
-            Err(kind) => return Err(refused_word(place as u64 + 1, kind)),
+            Err(kind) => return Err(refused(place as u64 + 1, kind)),
         }
     }
     Ok(())

@@ -1,29 +1,27 @@
 //! The entries of a revision's tree, or all of its files. Source: git-ls-tree(1).
 
 ghost use Rattle.std.specs.List.{flat_map};
-ghost use Rattle.std.specs.Prelude.{◌≡◌, IfOk, OnOk};
+ghost use Rattle.std.specs.Prelude.{◌≡◌, IsTrue, OnOk};
 ghost use Rattle.gx_model.specs.Records.HistoryOf.{history_of};
-ghost use Rattle.gx_model.specs.Faults.{Gives};
+ghost use Rattle.gx_model.specs.Records.RecordFaults.{is_held};
 ghost use Rattle.gx_model.specs.declared.objects.Kind.TheVariants as kinds;
 ghost use Rattle.gx_model.specs.Objects.{is_dir};
 ghost use Rattle.gx_object.specs.Entries.{shown};
-ghost use Rattle.gx_rev.specs.RevFaults.{fault_of};
 ghost use Rattle.gx_rev.specs.Objects.{IsHeldAs, files_at};
-ghost use Rattle.gx_cli.specs.Listings.{entry_line};
+ghost use Rattle.gx_cli.specs.Listings.{entry_line, path_line};
 ghost use Rattle.gx_cli.specs.Answers.{Prints};
-ghost use Rattle.gx_cli.specs.Stored.{file_line, files_of_word, list_text};
-ghost use Rattle.gx_cli.specs.FileLines.{path_line};
+ghost use Rattle.gx_cli.specs.Stored.{file_line, list_text};
 ghost use Rattle.gx_cli.specs.Sending.{PrintsText};
-ghost use Rattle.gx_cli.specs.WalkedFiles.{HasPathsBehind, IsPathText, IsWithin, PrintsBelow, PrintsEntry};
+ghost use Rattle.gx_cli.specs.WalkedFiles.{HavePaths, IsPathText, IsWithin, files_in, files_of_entry, line_below};
 
 use crate::CliFault;
 use crate::listing::put_file;
 use crate::sending::put_text;
-use crate::showing::print_entries;
+use crate::show::print_entries;
 use crate::words::refused;
 use gx_object::{Entry, Mode, Name, Namer};
 use gx_repo::Repo;
-use gx_rev::{RevFault, Revision, entries_of, tree};
+use gx_rev::{entries_of, tree_of_text};
 use gx_text::{Sink, TextFault, TreePath};
 use std::alloc::Allocator;
 
@@ -39,9 +37,10 @@ pub(crate) fn list<N: Namer, A: Allocator + Copy, W: Sink>(
     word: &[u8],
     sink: &mut W,
 ) -> Result<(), CliFault>
-    ensures { Prints (list_text (N.name_of repo.now.0) recursive (history_of repo.now.1) word.now) (W.taken sink.old) (W.taken sink.new) result }
+    ensures { Prints (list_text (N.name_of repo.now.0) recursive (history_of repo.now.1) word.now)
+        (W.taken sink.old) (W.taken sink.new) result }
 {
-    match tree_of_word(alloc, repo, word) {
+    match tree_of_text(alloc, repo, word) {
         Ok(tree) => {
             if recursive {
                 print_files(alloc, repo, &tree, sink)
@@ -53,19 +52,6 @@ pub(crate) fn list<N: Namer, A: Allocator + Copy, W: Sink>(
     }
 }
 
-/// The tree that a word gives as a revision.
-fn tree_of_word<N: Namer, A: Allocator + Copy>(
-    alloc: A,
-    repo: &Repo<N, A>,
-    word: &[u8],
-) -> Result<Name, RevFault>
-    ensures files { Gives fault_of (files_at repo.now.1) result (files_of_word (N.name_of repo.now.0) (history_of repo.now.1) word.now) }
-    ensures held { IfOk result (IsHeldAs kinds.Tree repo.now.1) }
-{
-    let revision = Revision::read(alloc, word)?;
-    tree(repo, &revision)
-}
-
 /// Prints the lines of all files of a held tree, each as the walk comes to it.
 fn print_files<N: Namer, A: Allocator + Copy, W: Sink>(
     alloc: A,
@@ -74,7 +60,8 @@ fn print_files<N: Namer, A: Allocator + Copy, W: Sink>(
     sink: &mut W,
 ) -> Result<(), CliFault>
     requires { IsHeldAs kinds.Tree repo.now.1 tree.now }
-    ensures { PrintsText (flat_map (file_line (N.name_of repo.now.0)) (files_at repo.now.1 tree.now)) (W.taken sink.old) (W.taken sink.new) result }
+    ensures { PrintsText (flat_map (file_line (N.name_of repo.now.0))
+        (files_at repo.now.1 tree.now)) (W.taken sink.old) (W.taken sink.new) result }
 {
     repo.sound();
     let mut path = Vec::new(alloc);
@@ -92,9 +79,11 @@ fn print_below<N: Namer, A: Allocator + Copy, W: Sink>(
     line: &mut Vec<u8, A>,
     sink: &mut W,
 ) -> Result<(), CliFault>
-    requires { HasPathsBehind N.name_of repo.now path.old.items tree.now }
-    ensures lines { PrintsBelow N.name_of W.taken repo.now path.old.items tree.now sink.old
-        sink.new result }
+    requires { IsTrue (is_held repo.now.1.records kinds.Tree tree.now.bytes)
+        × HavePaths path.old.items (files_in (N.name_of repo.now.0) repo.now.1 tree.now.bytes) }
+    ensures lines { PrintsText (flat_map (line_below path.old.items)
+        (files_in (N.name_of repo.now.0) repo.now.1 tree.now.bytes))
+        (W.taken sink.old) (W.taken sink.new) result }
     ensures path { OnOk result (path.new.items ≡ path.old.items) }
 {
     repo.sound();
@@ -115,8 +104,9 @@ fn print_entry<N: Namer, A: Allocator + Copy, W: Sink>(
     sink: &mut W,
 ) -> Result<(), CliFault>
     requires { IsWithin (N.name_of repo.now.0) repo.now.1 path.old.items (shown entry.now) }
-    ensures lines { PrintsEntry N.name_of W.taken repo.now path.old.items entry.now sink.old
-        sink.new result }
+    ensures lines { PrintsText (flat_map (line_below path.old.items)
+        (files_of_entry (N.name_of repo.now.0) repo.now.1 (shown entry.now)))
+        (W.taken sink.old) (W.taken sink.new) result }
     ensures path { OnOk result (path.new.items ≡ path.old.items) }
 {
     repo.sound();
@@ -148,7 +138,9 @@ fn print_at<A: Allocator + Copy, W: Sink>(
     sink: &mut W,
 ) -> Result<(), CliFault>
     requires { IsPathText path.now }
-    ensures { PrintsText (entry_line (record { mode = mode; component = path.now; name = name.now.bytes })) (W.taken sink.old) (W.taken sink.new) result }
+    ensures { PrintsText (entry_line
+        (record { mode = mode; component = path.now; name = name.now.bytes }))
+        (W.taken sink.old) (W.taken sink.new) result }
 {
     match TreePath::read(alloc, path) {
         Ok(path) => print_file(line, &path, mode, name, sink),
@@ -165,7 +157,8 @@ fn print_file<A: Allocator + Copy, W: Sink>(
     name: &Name,
     sink: &mut W,
 ) -> Result<(), CliFault>
-    ensures { PrintsText (path_line path.now mode name.now) (W.taken sink.old) (W.taken sink.new) result }
+    ensures { PrintsText (path_line path.now mode name.now)
+        (W.taken sink.old) (W.taken sink.new) result }
 {
     line.clear();
     match put_file(line, path, mode, name) {

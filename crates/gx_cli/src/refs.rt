@@ -1,9 +1,10 @@
 //! The refs of a store, one a line. Source: git-show-ref(1).
 
 ghost use Rattle.std.specs.Prelude.{Ok};
+ghost use Rattle.gx_model.specs.Stores.StoreText.{stored_ref};
 ghost use Rattle.gx_cli.specs.Sending.{PrintsText};
 ghost use Rattle.gx_cli.specs.Answers.{Prints};
-ghost use Rattle.gx_cli.specs.Stored.{line_of_ref, refs_text};
+ghost use Rattle.gx_cli.specs.Stored.{refs_text};
 
 use crate::CliFault;
 use crate::sending::put_text;
@@ -29,7 +30,8 @@ pub(crate) fn print_refs<N: Namer, A: Allocator + Copy, W: Sink>(
 
 /// Prints a ref's line.
 fn print_ref<W: Sink>(sink: &mut W, name: &[u8], object: &Name) -> Result<(), CliFault>
-    ensures { PrintsText (line_of_ref name.now object.now) (W.taken sink.old) (W.taken sink.new) result }
+    ensures { PrintsText (stored_ref (name.now, object.now.bytes))
+        (W.taken sink.old) (W.taken sink.new) result }
 {
     put_text(sink, object.hex().as_slice())?;
     put_text(sink, b" ")?;

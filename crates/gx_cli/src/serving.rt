@@ -1,23 +1,18 @@
 //! What a command does with the store's bytes, its input and its output.
 
-ghost use Rattle.std.specs.Prelude.{◌≡◌, Result, ℕ};
+ghost use Rattle.std.specs.Prelude.{◌≡◌, Result, Some, ℕ};
+ghost use Rattle.std.specs.Result.{result_map_both};
 ghost use Rattle.gx_blobs.specs.Naming.{NamesBlobs};
 ghost use Rattle.gx_blobs.specs.declared.blob_names.BlobsFault.{BlobsFault};
-ghost use Rattle.gx_cli.specs.Again.{ServesExported};
-ghost use Rattle.std.specs.Prelude.{◌≡◌, Some};
-ghost use Rattle.gx_cli.specs.Serving.{IsOutcome, IsRefused, Serves, blobs_answer, features_of, without_room};
+ghost use Rattle.gx_cli.specs.Serving.{IsOutcome, IsRefused, Serves, ServesExported, features_of, without_room};
+ghost use Rattle.gx_cli.specs.declared.fault.CliFault.TheVariants.{Blobs};
 
-use crate::adapting::adapt_stream;
-use crate::batching::batch_stored;
-use crate::collecting::collect_stored;
-use crate::dropping::drop_stored;
-use crate::exporting::export_stored;
-use crate::exporting_range::export_range_stored;
-use crate::importing::{import_stored, init};
-use crate::log::log_stored;
-use crate::names::names_stored;
-use crate::placing::print_place;
-use crate::questions::{Question, print_stored};
+use crate::adapt::adapt_stream;
+use crate::batch::batch_stored;
+use crate::import::import_text;
+use crate::next_text::init;
+use crate::stored::serve_stored;
+use crate::where_place::print_place;
 use crate::{CliFault, Line, blobs, find_fault, try_revision};
 use gx_file::FileFault;
 use gx_import::Explanation;
@@ -58,7 +53,8 @@ pub fn serve<N: Namer + Drop, R: Source + Drop, W: Sink, A: Allocator + Copy>(
     sink: &mut W,
     state: RandomState,
 ) -> Outcome<A>
-    ensures served { Serves (N.name_of namer) line.now store.now (R.coming source) (W.taken sink.old) (W.taken sink.new) result }
+    ensures served { Serves (N.name_of namer) line.now store.now (R.coming source)
+        (W.taken sink.old) (W.taken sink.new) result }
     ensures again { ServesExported (N.name_of namer) line.now store.now (R.coming source) result }
 {
     match without_room(line) {
@@ -81,7 +77,8 @@ pub fn serve_owned<N: Namer + Drop, R: Source + Drop, W: Sink, A: Allocator + Co
     sink: &mut W,
     state: RandomState,
 ) -> Outcome<A>
-    ensures served { Serves (N.name_of namer) line.now store.items (R.coming source) (W.taken sink.old) (W.taken sink.new) result }
+    ensures served { Serves (N.name_of namer) line.now store.items (R.coming source)
+        (W.taken sink.old) (W.taken sink.new) result }
     ensures again { ServesExported (N.name_of namer) line.now store.items (R.coming source) result }
 {
     match line {
@@ -117,8 +114,7 @@ pub fn serve_owned<N: Namer + Drop, R: Source + Drop, W: Sink, A: Allocator + Co
             explain: _,
         } => {
             let features = features_of(*done, *force);
-            let (outcome, _) = import_stored(alloc, namer, store, source, sink, features, state);
-            outcome
+            import_text(alloc, namer, store, source, sink, features, state)
         }
         Line::Batch {
             form,
@@ -128,56 +124,7 @@ pub fn serve_owned<N: Namer + Drop, R: Source + Drop, W: Sink, A: Allocator + Co
         } => batch_stored(
             alloc, namer, *form, *format, *nul, store, source, sink, state,
         ),
-        Line::Export { form, file: _ } => { export_stored(alloc, namer, *form, store, sink, state) }
-        Line::ExportRange {
-            done,
-            file: _,
-            ranges,
-        } => export_range_stored(alloc, namer, *done, ranges.as_slice(), store, sink, state),
-        Line::Drop {
-            file: _,
-            refs,
-            stdin,
-        } => drop_stored(alloc, namer, store, refs.as_slice(), *stdin, source, state),
-        Line::Gc { file: _, report: _ } => collect_stored(alloc, namer, store, state),
-        Line::Show { file: _, revision } => {
-            let question = Question::Show(revision.as_bytes());
-            print_stored(alloc, namer, question, store, sink, state)
-        }
-        Line::Ls {
-            recursive,
-            file: _,
-            revision,
-        } => {
-            let question = Question::List(*recursive, revision.as_bytes());
-            print_stored(alloc, namer, question, store, sink, state)
-        }
-        Line::Archive {
-            prefix,
-            file: _,
-            revision,
-        } => {
-            let question = Question::Archive(prefix.as_bytes(), revision.as_bytes());
-            print_stored(alloc, namer, question, store, sink, state)
-        }
-        Line::Refs { file: _ } => print_stored(alloc, namer, Question::Refs, store, sink, state),
-        Line::Log {
-            options,
-            file: _,
-            ranges,
-        } => log_stored(
-            alloc,
-            namer,
-            *options,
-            ranges.as_slice(),
-            store,
-            source,
-            sink,
-            state,
-        ),
-        Line::RevParse { file: _, revisions } => {
-            names_stored(alloc, namer, revisions.as_slice(), store, sink, state)
-        }
+        _ => serve_stored(alloc, namer, line, store, source, sink, state),
     }
 }
 
@@ -194,7 +141,8 @@ fn serve_copy<N: Namer + Drop, R: Source + Drop, W: Sink, A: Allocator + Copy>(
     state: RandomState,
 ) -> Outcome<A>
     requires room { without_room line.now ≡ Some fault }
-    ensures served { Serves (N.name_of namer) line.now store.now (R.coming source) (W.taken sink.old) (W.taken sink.new) result }
+    ensures served { Serves (N.name_of namer) line.now store.now (R.coming source)
+        (W.taken sink.old) (W.taken sink.new) result }
     ensures again { ServesExported (N.name_of namer) line.now store.now (R.coming source) result }
 {
     match Vec::from_slice(alloc, store) {
@@ -234,7 +182,9 @@ fn blobs_alone<N: Namer + Drop, R: Source + Drop, W: Sink, A: Allocator + Copy>(
     sink: &mut W,
     state: RandomState,
 ) -> Result<u64, CliFault>
-    ensures { (answer : Result ℕ BlobsFault) × NamesBlobs N.name_of W.taken namer (R.coming source) sink.old sink.new answer × (result ≡ blobs_answer answer) }
+    ensures { (answer : Result ℕ BlobsFault)
+        × NamesBlobs N.name_of W.taken namer (R.coming source) sink.old sink.new answer
+        × (result ≡ result_map_both (λ count. count) Blobs answer) }
 {
     match blobs(alloc, namer, source, sink, state) {
         Ok(count) => Ok(count),

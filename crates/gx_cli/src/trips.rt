@@ -8,9 +8,9 @@ ghost use Rattle.gx_export.specs.Outputs.{most};
 ghost use Rattle.gx_cli.specs.Forms.{text_as};
 ghost use Rattle.gx_cli.specs.Headline.{ComesBackOr, ExportsAgain, GivesText, ImportsAgainOr, RoundTrips};
 
-use crate::exporting::export_as;
+use crate::export::export_as;
 use crate::forms::forms_are_imported;
-use crate::trying::look_in;
+use crate::try_stream::look_in;
 use crate::{CliFault, ExportForm};
 use gx_export::ExportFault;
 use gx_import::{ImportFault, Report, import};
@@ -52,7 +52,8 @@ pub fn round_trip<N: Namer + Copy + Drop, A: Allocator + Copy, R: Source + Drop,
 ) -> Result<RoundTrip<N, A>, CliFault>
     ensures namer { IfOk result (λ trip. trip.first.0 ≡ namer) }
     ensures again { IfOk result (λ trip. trip.again.0 ≡ namer) }
-    ensures back { RoundTrips (N.name_of namer) revision.now path.now (R.coming source) (W.taken sink.old) (W.taken sink.new) result }
+    ensures back { RoundTrips (N.name_of namer) revision.now path.now (R.coming source)
+        (W.taken sink.old) (W.taken sink.new) result }
 {
     replays_keep_none();
     let mut first = Repo::new(alloc, namer, state);

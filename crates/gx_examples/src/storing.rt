@@ -6,7 +6,7 @@ use crate::commands::{has_line, is_text};
 use crate::steps::{Step, step_of};
 use crate::texts::text;
 use gx_cli::{
-    AdaptReport, Explanation, Features, Repo, adapt_stream, import_into, import_store, send_store,
+    AdaptReport, Explanation, Features, Repo, adapt_stream, import_store, send_store,
 };
 use gx_object::Sha1Namer;
 use gx_text::{Bytes, Held};
@@ -45,23 +45,7 @@ foo
 % first % gx: command 4: UnknownCommand
 ";
 
-/// Whether just this is told of an import.
-fn is_told(alloc: Global, step: &Step<'_>, state: RandomState) -> bool {
-    let Ok(mut sink) = Held::new(alloc, 64) else {
-        return false;
-    };
-    let source = Bytes::new(step.input, 4096, false);
-    let store = text("empty");
-    let none = Features::none();
-    let (outcome, told) = import_into(alloc, Sha1Namer, store, source, &mut sink, none, state);
-    let is_report = match told {
-        Some(report) => is_text(format!(in alloc; "{report:?}"), step.words),
-        None => step.words.is_empty(),
-    };
-    is_report && has_line(alloc, outcome.fault, step.line)
-}
-
-/// Whether the import of a stream has such a next text, and is refused so.
+/// Whether the import of a stream has such a next text, tells this of what was imported, and is refused so.
 fn is_stored(alloc: Global, step: &Step<'_>, state: RandomState) -> bool {
     let Ok(mut sink) = Held::new(alloc, 64) else {
         return false;
@@ -71,7 +55,7 @@ fn is_stored(alloc: Global, step: &Step<'_>, state: RandomState) -> bool {
     };
     let source = Bytes::new(step.input, 7, false);
     let none = Features::none();
-    let (repo, told) = import_store(
+    let (repo, answer) = import_store(
         alloc,
         Sha1Namer,
         store,
@@ -81,7 +65,13 @@ fn is_stored(alloc: Global, step: &Step<'_>, state: RandomState) -> bool {
         state,
         &mut Explanation::none(),
     );
-    is_next(alloc, repo.as_ref(), step.printed) && has_line(alloc, told.err(), step.line)
+    let is_told = match &answer {
+        Ok(report) => is_text(format!(in alloc; "{report:?}"), step.words),
+        Err(_) => step.words.is_empty(),
+    };
+    is_told
+        && is_next(alloc, repo.as_ref(), step.printed)
+        && has_line(alloc, answer.err(), step.line)
 }
 
 /// Whether a repository's text is this one, also where the sink has no room for its last byte; no repository has none.
@@ -107,8 +97,7 @@ fn imports_are_counted_and_their_next_texts_go_out(rt: HostRuntime) -> Result<()
     let state = RandomState::new(&rt)?;
     for part in IMPORTS.split('$').skip(1) {
         let step = step_of(part);
-        let is_right = is_told(rt.alloc(), &step, state) && is_stored(rt.alloc(), &step, state);
-        assert!(rt; is_right, "{part}");
+        assert!(rt; is_stored(rt.alloc(), &step, state), "{part}");
     }
     Ok(())
 }

@@ -2,8 +2,8 @@
 
 use crate::serving::Report;
 use gx_cli::{
-    CliFault, Explanation, Features, Outcome, Repo, collect_store, import_store_reporting,
-    send_store,
+    CliFault, Explanation, Features, Outcome, Repo, collect_store, import_store,
+    import_store_reporting, send_store,
 };
 use gx_object::Namer;
 use gx_text::{Held, Sink, Source};
@@ -12,6 +12,30 @@ use std::hash::RandomState;
 
 /// Stores have fewer bytes.
 const ROOM: usize = 0x10_0000;
+
+/// An import with its counts.
+pub(crate) fn imported<N: Namer + Drop, R: Source + Drop, W: Sink>(
+    alloc: Global,
+    namer: N,
+    store: Vec<u8>,
+    source: R,
+    sink: &mut W,
+    features: Features,
+    state: RandomState,
+) -> (Outcome<Global>, Report) {
+    let mut told = Explanation::none();
+    let (left, answer) = import_store(
+        alloc, namer, store, source, sink, features, state, &mut told,
+    );
+    let text = match left {
+        Some(repo) => text_of(alloc, &repo),
+        None => None,
+    };
+    match answer {
+        Ok(report) => (outcome_of(0, None, text), Report::Import(report)),
+        Err(fault) => (outcome_of(1, Some(fault), text), Report::Unknown),
+    }
+}
 
 /// An import with the lines of the refs that it changes.
 pub(crate) fn reported<N: Namer + Drop, R: Source + Drop, W: Sink>(

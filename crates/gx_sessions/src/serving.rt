@@ -1,10 +1,10 @@
 //! The commands of `gx_cli`, with what they tell of their work.
 
 use crate::pass::Pass;
-use crate::reporting::{collected, reported};
+use crate::reporting::{collected, imported, reported};
 use gx_cli::{
-    AdaptReport, CliFault, Features, ImportReport, Line, Outcome, Pruned, adapt_stream,
-    import_into, serve, serve_owned,
+    AdaptReport, CliFault, Features, ImportReport, Line, Outcome, Pruned, adapt_stream, serve,
+    serve_owned,
 };
 use gx_devices::ShortNamer;
 use gx_object::{Namer, Sha1Namer};
@@ -124,7 +124,7 @@ fn ended<N: Namer + Drop, R: Source + Drop, W: Sink>(
                 done: *done,
                 force: *force,
             };
-            imported(alloc, namer, &store, source, sink, features, pass.state)
+            imported(alloc, namer, store, source, sink, features, pass.state)
         }
         Line::Gc { file: _, report: _ } => collected(alloc, namer, store, pass.state),
         Line::Adapt { drop_signatures } => adapted(alloc, source, sink, *drop_signatures),
@@ -132,22 +132,6 @@ fn ended<N: Namer + Drop, R: Source + Drop, W: Sink>(
             let outcome = serve(alloc, namer, line, &store, source, sink, pass.state);
             (outcome, Report::Unknown)
         }
-    }
-}
-
-fn imported<N: Namer + Drop, R: Source + Drop, W: Sink>(
-    alloc: Global,
-    namer: N,
-    store: &[u8],
-    source: R,
-    sink: &mut W,
-    features: Features,
-    state: RandomState,
-) -> (Outcome<Global>, Report) {
-    let (outcome, report) = import_into(alloc, namer, store, source, sink, features, state);
-    match report {
-        Some(report) => (outcome, Report::Import(report)),
-        None => (outcome, Report::Unknown),
     }
 }
 

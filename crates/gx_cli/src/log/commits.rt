@@ -1,18 +1,23 @@
 //! Which commits are listed, by their names, and in which order.
 
-ghost use Rattle.std.specs.Prelude.{◌≡◌, IfOk, OnOk, length, map};
+ghost use Rattle.std.specs.Prelude.{◌≡◌, ◌&&◌, ◌||◌, Bool, IfOk, OnOk, length, map};
 ghost use Rattle.gx_export.specs.ChangedParts.{AreEither};
+ghost use Rattle.gx_model.specs.Histories.Marks.{marks_of};
+ghost use Rattle.gx_model.specs.Histories.Values.{Commit};
 ghost use Rattle.gx_model.specs.Laws.RepositoryLaws.{values_of};
-ghost use Rattle.gx_rev.specs.Calls.{AreMarkedAlone};
+ghost use Rattle.gx_model.specs.Records.HistoryOf.{history_of};
 ghost use Rattle.gx_rev.specs.Views.{shown_range};
-ghost use Rattle.gx_cli.specs.Logs.{arranged, limited, turned};
-ghost use Rattle.gx_cli.specs.Parts.{AreCommits, ListsCommits, ListsMarked, MarksRefs};
+ghost use Rattle.gx_rev.specs.Objects.{commit_at};
+ghost use Rattle.gx_rev.specs.Reached.{is_wanted};
+ghost use Rattle.gx_cli.specs.Logs.{AreCommits, ListsMarked, arranged, commits_logged, limited, turned};
+ghost use Rattle.gx_cli.specs.Stored.{all_words};
+ghost use Rattle.gx_cli.specs.Words.{GivesWords};
 
 use crate::words::refused;
 use crate::{CliFault, LogOptions};
 use gx_object::{Name, Namer};
 use gx_repo::Repo;
-use gx_rev::{Range, name_at, reached_from_refs, walked};
+use gx_rev::{Range, names_marked, reached_from_refs, walked};
 use std::alloc::{AllocError, Allocator};
 
 /// The names of the commits that range words list, the last made first. With `refs` the commits of all refs are listed, too.
@@ -22,7 +27,9 @@ pub(super) fn names_listed<N: Namer, A: Allocator + Copy>(
     ranges: &[Range<A>],
     refs: bool,
 ) -> Result<Vec<Name, A>, CliFault>
-    ensures commits { ListsCommits N.name_of repo.now refs (map shown_range ranges.now) result }
+    ensures commits { GivesWords (λ names. map (commit_at repo.now.1) names.items) result
+        (all_words (commits_logged (N.name_of repo.now.0) (history_of repo.now.1) refs
+        (map shown_range ranges.now))) }
     ensures held { IfOk result (λ names. AreCommits repo.now.1 names.items) }
 {
     repo.sound();
@@ -63,7 +70,10 @@ fn include_refs<N: Namer, A: Allocator + Copy>(
 ) -> Result<(), AllocError>
     requires { length marks.old ≡ length (values_of repo.now.1) }
     ensures long { length marks.new ≡ length marks.old }
-    ensures marked { OnOk result (MarksRefs repo.now.1 refs marks.old marks.new) }
+    ensures marked { OnOk result ((test : Commit → Bool) → marks.old
+        ≡ marks_of test (values_of repo.now.1)
+        → marks.new ≡ marks_of (λ made. test made || (refs && is_wanted repo.now.1 made))
+        (values_of repo.now.1)) }
 {
     if !refs {
         return Ok(());
@@ -84,29 +94,6 @@ fn add_marks(marks: &mut [bool], others: &[bool])
             marks[place] = true;
         }
     }
-}
-
-/// The names of the objects that are marked as included and not as excluded, the last one first.
-fn names_marked<N: Namer, A: Allocator + Copy>(
-    alloc: A,
-    repo: &Repo<N, A>,
-    included: &[bool],
-    excluded: &[bool],
-) -> Result<Vec<Name, A>, AllocError>
-    requires included { length included.now ≡ length (values_of repo.now.1) }
-    requires excluded { length excluded.now ≡ length (values_of repo.now.1) }
-    ensures { IfOk result (AreMarkedAlone N.name_of repo.now included.now excluded.now) }
-{
-    repo.sound();
-    let mut names = Vec::new(alloc);
-    let mut left = included.len();
-    while left > 0 {
-        left -= 1;
-        if included[left] && !excluded[left] {
-            names.push(name_at(repo, left))?;
-        }
-    }
-    Ok(names)
 }
 
 /// Keeps so many names at most, and then turns them round, as the options ask.

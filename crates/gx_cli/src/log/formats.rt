@@ -1,14 +1,14 @@
 //! What is printed of each commit. Source: git-log(1), "PRETTY FORMATS".
 
 ghost use Rattle.std.specs.Prelude.{◌≡◌, ◌≤◌, ◌-◌, ◌++◌, ◌∷◌, OnOk, [], codes, length, map, take};
+ghost use Rattle.std.specs.List.{flat_map};
 ghost use Rattle.gx_model.specs.Objects.{hex};
 ghost use Rattle.gx_model.specs.declared.objects.Kind.TheVariants as kinds;
 ghost use Rattle.gx_rev.specs.Objects.{IsHeldAs, commit_at};
 ghost use Rattle.gx_cli.specs.Sending.{PrintsText};
 ghost use Rattle.gx_cli.specs.Identities.{name_and_email};
-ghost use Rattle.gx_cli.specs.Logs.{both_dates, entries_text, gap, head_text, named, parent_text, told};
+ghost use Rattle.gx_cli.specs.Logs.{AreCommits, both_dates, entries_text, entry_at, gap, head_text, named, next_entry, parent_text, told};
 ghost use Rattle.gx_cli.specs.Messages.{indented, subject, trimmed};
-ghost use Rattle.gx_cli.specs.Parts.{AreCommits, PrintsOthers, entry_at};
 
 use super::identities::{email_in, name_in, seconds_in};
 use super::messages::{put_indented, put_subject, trimmed};
@@ -29,7 +29,9 @@ pub(super) fn print_commits<N: Namer, A: Allocator + Copy, W: Sink>(
     sink: &mut W,
 ) -> Result<(), CliFault>
     requires { AreCommits repo.now.1 names.now }
-    ensures { PrintsText (entries_text (N.name_of repo.now.0) options (map (commit_at repo.now.1) names.now)) (W.taken sink.old) (W.taken sink.new) result }
+    ensures { PrintsText (entries_text (N.name_of repo.now.0) options
+        (map (commit_at repo.now.1) names.now))
+        (W.taken sink.old) (W.taken sink.new) result }
 {
     let Some((first, others)) = names.split_first() else {
         return Ok(());
@@ -48,7 +50,9 @@ fn print_others<N: Namer, A: Allocator + Copy, W: Sink>(
     sink: &mut W,
 ) -> Result<(), CliFault>
     requires { AreCommits repo.now.1 names.now }
-    ensures { PrintsOthers N.name_of W.taken repo.now options names.now sink.old sink.new result }
+    ensures { PrintsText (flat_map (next_entry (N.name_of repo.now.0) options)
+        (map (commit_at repo.now.1) names.now))
+        (W.taken sink.old) (W.taken sink.new) result }
 {
     for name in names {
         print_commit(repo, options, gap(options.format), name, text, sink)?;
@@ -80,7 +84,8 @@ fn print_commit<N: Namer, A: Allocator + Copy, W: Sink>(
     sink: &mut W,
 ) -> Result<(), CliFault>
     requires { IsHeldAs kinds.Commit repo.now.1 commit.now }
-    ensures { PrintsText (before.now ++ entry_at N.name_of repo.now options commit.now) (W.taken sink.old) (W.taken sink.new) result }
+    ensures { PrintsText (before.now ++ entry_at N.name_of repo.now options commit.now)
+        (W.taken sink.old) (W.taken sink.new) result }
 {
     text.clear();
     put_commit(text, repo, options, commit)?;
@@ -112,7 +117,9 @@ fn put_told<N: Namer, A: Allocator + Copy>(
 ) -> Result<(), AllocError>
     requires held { IsHeldAs kinds.Commit repo.now.1 commit.now }
     requires empty { text.old.items ≡ [] }
-    ensures { OnOk result (text.new.items ≡ told (N.name_of repo.now.0) options.format options.parents (commit_at repo.now.1 commit.now)) }
+    ensures { OnOk result (text.new.items
+        ≡ told (N.name_of repo.now.0) options.format options.parents
+        (commit_at repo.now.1 commit.now)) }
 {
     repo.sound();
     let view = view_of(repo, commit);
@@ -133,7 +140,8 @@ fn put_name<A: Allocator + Copy>(
     parents: bool,
     commit: &Name,
 ) -> Result<(), AllocError>
-    ensures { OnOk result (out.new.items ≡ out.old.items ++ named parents commit.now.bytes view.now.parents) }
+    ensures { OnOk result (out.new.items ≡ out.old.items
+        ++ named parents commit.now.bytes view.now.parents) }
 {
     out.extend_from_slice(commit.hex().as_slice())?;
     if parents {
@@ -172,7 +180,8 @@ fn put_oneline<A: Allocator + Copy>(
     view: &CommitView<'_>,
     commit: &Name,
 ) -> Result<(), AllocError>
-    ensures { OnOk result (out.new.items ≡ out.old.items ++ (hex commit.now.bytes ++ 32 ∷ subject view.now.text.message)) }
+    ensures { OnOk result (out.new.items ≡ out.old.items
+        ++ (hex commit.now.bytes ++ 32 ∷ subject view.now.text.message)) }
 {
     out.extend_from_slice(commit.hex().as_slice())?;
     out.push(b' ')?;
@@ -188,7 +197,9 @@ fn put_raw<A: Allocator + Copy>(
 ) -> Result<(), AllocError>
     requires empty { out.old.items ≡ [] }
     requires body { body.now ≡ head_text view.now ++ view.now.text.message }
-    ensures { OnOk result (out.new.items ≡ trimmed (codes "commit " ++ hex commit.now.bytes ++ 10 ∷ head_text view.now ++ indented view.now.text.message)) }
+    ensures { OnOk result (out.new.items
+        ≡ trimmed (codes "commit " ++ hex commit.now.bytes ++ 10 ∷ head_text view.now
+        ++ indented view.now.text.message)) }
 {
     out.extend_from_slice(b"commit ")?;
     out.extend_from_slice(commit.hex().as_slice())?;
@@ -205,7 +216,8 @@ fn put_message<A: Allocator + Copy>(
     message: &[u8],
 ) -> Result<(), AllocError>
     requires { length message.now ≤ length body.now }
-    ensures { OnOk result (out.new.items ≡ out.old.items ++ (take (length body.now - length message.now) body.now ++ indented message.now)) }
+    ensures { OnOk result (out.new.items ≡ out.old.items
+        ++ (take (length body.now - length message.now) body.now ++ indented message.now)) }
 {
     out.extend_from_slice(&body[..body.len() - message.len()])?;
     put_indented(out, message)
@@ -225,7 +237,8 @@ fn put_author<A: Allocator + Copy>(
     view: &CommitView<'_>,
     commit: &Name,
 ) -> Result<(), AllocError>
-    ensures { OnOk result (out.new.items ≡ out.old.items ++ (hex commit.now.bytes ++ 32 ∷ name_and_email view.now.text.author)) }
+    ensures { OnOk result (out.new.items ≡ out.old.items
+        ++ (hex commit.now.bytes ++ 32 ∷ name_and_email view.now.text.author)) }
 {
     let author = view.author();
     out.extend_from_slice(commit.hex().as_slice())?;
@@ -242,7 +255,8 @@ fn put_dates<A: Allocator + Copy>(
     view: &CommitView<'_>,
     commit: &Name,
 ) -> Result<(), AllocError>
-    ensures { OnOk result (out.new.items ≡ out.old.items ++ (hex commit.now.bytes ++ 32 ∷ both_dates view.now.text)) }
+    ensures { OnOk result (out.new.items ≡ out.old.items
+        ++ (hex commit.now.bytes ++ 32 ∷ both_dates view.now.text)) }
 {
     out.extend_from_slice(commit.hex().as_slice())?;
     out.push(b' ')?;

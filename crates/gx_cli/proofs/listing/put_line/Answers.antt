@@ -1,5 +1,5 @@
 use Rattle.std.proofs.Common.{◌≡◌, subst, sym, ◌∙◌, [], ◌∷◌, ◌++◌, OnOk}
-use Rattle.gx_cli.specs.FileLines.{path_line}
+use Rattle.gx_cli.specs.Listings.{path_line}
 use Rattle.gx_cli.proofs.listing.put_line.Goals as goal
 
 pub returns : goal.returns

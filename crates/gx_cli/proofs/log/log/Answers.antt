@@ -48,7 +48,7 @@ returns-in_err-names g c =
     let fault = c.in_err-names.field-0.0 in
     let ranges = map shown_range c.read_into.new.ranges.items in
     let refused = subst (λ rs. RefusesWord fault (all_words (commits_logged name h o.all (map shown_range rs)))) c.as_slice.ensures.value c.in_err-names.ensures.commits in
-    rw (p.1, p.2) (subst (λ given. Prints given was was (Err fault)) (sym (in_two read listed text)) (refusal_printed (all_words (and_then read listed)) text was fault (later_refused read ranges listed fault c.in_ok-read_into.ensures refused)))
+    rw (p.1, p.2) (subst (λ given. Prints given was was (Err fault)) (sym (in_two read listed text)) (refusal_printed (all_words (read >>= listed)) text was fault (later_refused read ranges listed fault c.in_ok-read_into.ensures refused)))
 
 pub print_commits-requires : goal.print_commits-requires
 print_commits-requires g c =
@@ -71,6 +71,6 @@ returns g c =
     let names = c.in_ok-names.names.items in
     let ranges = map shown_range c.read_into.new.ranges.items in
     let told = (λ i. all_words (commits_logged name h o.all (map shown_range (sym c.as_slice.ensures.value i)))) ∙ c.in_ok-names.ensures.commits in
-    let given = in_two read listed text ∙ ap (λ x. and_then x (λ commits. Ok (text commits))) (then_words read ranges listed c.in_ok-read_into.ensures ∙ told) in
+    let given = in_two read listed text ∙ ap (λ x. x >>= λ commits. Ok (text commits)) (then_words read ranges listed c.in_ok-read_into.ensures ∙ told) in
     let lines = ap (λ ns. entries_text name o (map (commit_at r) ns)) (c.as_slice-2.ensures.value ∙ c.arrange.ensures) ∙ ap (entries_text name o) (map_arranged (commit_at r) o.reverse o.max_count names) in
     given_text (log_text name o h words) (text (map (commit_at r) names)) was now c.print_commits.result given (subst (λ t. PrintsText t was now c.print_commits.result) lines c.print_commits.ensures)

@@ -1,5 +1,5 @@
 use Rattle.std.proofs.Common.{◌≡◌, ◌∙◌, ◌++◌, ap, subst}
-use Rattle.gx_cli.specs.FileLines.{path_line}
+use Rattle.gx_cli.specs.Listings.{path_line}
 use Rattle.gx_cli.specs.Sending.{PrintsText}
 use Rattle.gx_cli.proofs.Pieces.{sent_prints}
 use Rattle.gx_cli.proofs.ls.print_file.Goals as goal

@@ -1,7 +1,0 @@
-use Rattle.std.proofs.Common.{sym, ◌∙◌}
-use Rattle.gx_cli.proofs.FoundFaults.{fault_found}
-use Rattle.gx_cli.proofs.finding.find_fault.Goals as goal
-
-pub returns-clause-found : goal.returns-clause-found
-returns-clause-found g c =
-    fault_found g.row.N.Denot c.args.features (g.N.Namer.name_of c.args.namer) c.new-progress.result c.import_alone.new.sink (g.R.Source.coming c.args.source) c.in-Err.fault c.new-progress.ensures (sym c.has_failed.ensures ∙ c.if-has_failed.false) c.in-Err.ensures.replayed

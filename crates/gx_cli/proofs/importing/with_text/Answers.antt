@@ -1,5 +1,0 @@
-use Rattle.std.proofs.Common.{refl, inl}
-use Rattle.gx_cli.proofs.importing.with_text.Goals as goal
-
-pub returns-in-Ok : goal.returns-in-Ok
-returns-in-Ok g c = inl (refl, refl, (c.in-Ok.text, refl, c.in-Ok.ensures.text, c.in-Ok.ensures.read))

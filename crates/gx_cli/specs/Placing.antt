@@ -1,6 +1,6 @@
 -- What is printed of where a command of a stream begins.
 -- Source: git-fast-import(1), and grep(1), "Output Line Prefix Control".
-use Rattle.std.specs.Prelude.{◌≡◌, ℕ, ◌<◌, ◌≤◌, [], ◌∷◌, ◌++◌, length, Option, Result, Ok, Err}
+use Rattle.std.specs.Prelude.{◌≡◌, ℕ, ◌<◌, ◌≤◌, [], ◌∷◌, ◌++◌, length, Option, Result, Err}
 use Rattle.std.specs.Fmt.{decimal}
 use Rattle.gx_model.specs.Texts.{Bytes}
 use Rattle.gx_model.specs.Texts.Sinks.{Taken}

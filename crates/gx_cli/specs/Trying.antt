@@ -7,13 +7,10 @@ use Rattle.gx_model.specs.declared.objects.Mode.{Mode}
 use Rattle.gx_model.specs.declared.features.Features.{Features}
 use Rattle.gx_model.specs.Texts.{Bytes}
 use Rattle.gx_model.specs.Faults.{Given}
-use Rattle.gx_model.specs.Texts.Paths.{Path}
 use Rattle.gx_model.specs.Histories.Files.{Leaf}
 use Rattle.gx_model.specs.Streams.Commands.{Commands}
 use Rattle.gx_model.specs.Histories.{History, Records, empty_repository, no_history}
 use Rattle.gx_model.specs.Records.HistoryOf.{history_of}
-use Rattle.gx_model.specs.Revisions.{Revision}
-use Rattle.gx_model.specs.Revisions.Denotation.{looked_up}
 use Rattle.gx_model.specs.Replay as model
 use Rattle.gx_model.specs.Replay.{Outcome, finished, imported_asked}
 use Rattle.gx_model.specs.Texts.Sinks.{FailedWithin, Taken, Took}

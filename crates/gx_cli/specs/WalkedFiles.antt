@@ -1,7 +1,7 @@
 -- The files of a held tree, as a walk comes to them, with a text before their paths: the path of the directory, and its slash.
 -- Source: git-ls-tree(1), `-r`.
-use Rattle.std.specs.Prelude.{◌≡◌, ◌≢◌, if◌then◌else◌, [], ◌∷◌, ◌++◌, Option, Result, Ok, IsTrue}
-use Rattle.std.specs.List.{AllByRecursion, flat_map}
+use Rattle.std.specs.Prelude.{◌≡◌, ◌≢◌, if◌then◌else◌, [], ◌∷◌, ◌++◌, Ok, IsTrue}
+use Rattle.std.specs.List.{AllByRecursion}
 use Rattle.gx_model.specs.declared.objects.Kind.{Kind}
 use Rattle.gx_model.specs.declared.objects.Kind.TheVariants as kinds
 use Rattle.gx_model.specs.declared.objects.Mode.TheVariants.{Dir}
@@ -13,14 +13,7 @@ use Rattle.gx_model.specs.Records.RecordFaults.{is_held}
 use Rattle.gx_model.specs.Histories.{Records}
 use Rattle.gx_model.specs.Texts.{Bytes}
 use Rattle.gx_model.specs.Texts.Paths.{Path, parts_of, path_of, path_text}
-use Rattle.gx_model.specs.Texts.Sinks.{Taken}
-use Rattle.gx_object.specs.Entries.{shown}
-use Rattle.gx_object.specs.declared.entry.Entry.{Entry}
-use Rattle.gx_object.specs.declared.name.Name.{Name}
-use Rattle.gx_repo.specs.Repositories.{Repository}
 use Rattle.gx_cli.specs.Listings.{entry_line}
-use Rattle.gx_cli.specs.Sending.{PrintsText}
-use Rattle.gx_cli.specs.declared.fault.CliFault.{CliFault}
 
 -- a text is that of a path
 abbrev pub IsPathText : Bytes → Type 0

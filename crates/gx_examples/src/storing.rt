@@ -5,9 +5,7 @@ ghost use Rattle.std.specs.Prelude.{◌<◌};
 use crate::commands::{has_line, is_text};
 use crate::steps::{Step, step_of};
 use crate::texts::text;
-use gx_cli::{
-    AdaptReport, Explanation, Features, Repo, adapt_stream, import_store, send_store,
-};
+use gx_cli::{AdaptReport, Explanation, Features, Repo, adapt_stream, import_store, send_store};
 use gx_object::Sha1Namer;
 use gx_text::{Bytes, Held};
 use std::alloc::Global;

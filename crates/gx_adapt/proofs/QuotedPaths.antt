@@ -9,7 +9,7 @@ use Rattle.gx_model.specs.declared.faults.Fault.TheVariants as faults
 use Rattle.gx_model.specs.Faults.{◌>>=◌}
 use Rattle.gx_model.specs.Texts.{Bytes, is_line, lacks}
 use Rattle.gx_model.specs.Texts.Paths.{Path, named, WritesByte, as_itself, by_letter, WritesText, writes_none, writes_more, path_of, path_at, quoted_of, with_rest}
-use Rattle.gx_model.specs.Streams.Grammar.{last_path, source_path, after_space}
+use Rattle.gx_model.specs.Streams.Lines.{last_path, source_path, after_space}
 use Rattle.gx_model.proofs.Texts.Cuts.{lacks-cons}
 use Rattle.gx_model.proofs.Texts.Idents.{and_one, and_two}
 use Rattle.gx_model.proofs.Texts.Quotes.{quoted_text_tells}

@@ -4,7 +4,7 @@ use Rattle.gx_model.specs.Texts.{Bytes, is_line, lacks}
 use Rattle.gx_model.specs.Faults.{◌>>=◌}
 use Rattle.gx_model.specs.Streams.Items.{Item, Line, Data, Finished, items_of}
 use Rattle.gx_model.specs.Texts.Paths.{path_of}
-use Rattle.gx_model.specs.Streams.Grammar.{last_path, source_path}
+use Rattle.gx_model.specs.Streams.Lines.{last_path, source_path}
 use Rattle.gx_text.specs.Devices.{Coming}
 use Rattle.gx_stream.specs.Heard.{items_from}
 use Rattle.gx_adapt.specs.Paths.{quoted}

@@ -6,7 +6,7 @@ use Rattle.std.specs.Result.{result_ok}
 use Rattle.std.specs.Str.{bytes_eq}
 use Rattle.gx_model.specs.Texts.{Bytes, cut_at}
 use Rattle.gx_model.specs.Streams.Items.{Item, Line, Data}
-use Rattle.gx_model.specs.Streams.Grammar.{mark_of}
+use Rattle.gx_model.specs.Streams.Lines.{mark_of}
 use Rattle.gx_adapt.specs.Lines.{begins, is_reset_line}
 use Rattle.gx_adapt.specs.declared.marks.Command.{Command}
 use Rattle.gx_adapt.specs.declared.marks.Command.TheVariants.{Blob, Commit, Tag, Reset}

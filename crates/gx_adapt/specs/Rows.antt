@@ -2,7 +2,7 @@
 use Rattle.std.specs.Prelude.{◌≡◌, ℕ, Bool, true, false, List, [], ◌∷◌, ◌++◌, map, codes, refl}
 use Rattle.gx_model.specs.Texts.{Bytes, cut_at}
 use Rattle.gx_model.specs.Texts.Paths.{char_at, unquote_within, path_of, quoted_of}
-use Rattle.gx_model.specs.Streams.Grammar.{last_path, mark_of}
+use Rattle.gx_model.specs.Streams.Lines.{last_path, mark_of}
 use Rattle.gx_model.specs.Streams.Items.{Item, Line, Data}
 use Rattle.gx_adapt.specs.Paths.{quoted, is_open, source_of}
 use Rattle.gx_adapt.specs.Lines.{Lot, kept, deletion, marks, feature, signature, spaced, requoted, ident_lot, path_lot, modify_lot, move_lot, word_lot, lot_of, is_early, is_refused}

@@ -2,7 +2,7 @@
 
 ghost use Rattle.std.specs.Prelude.{◌≡◌, IfOk, OnOk, []};
 ghost use Rattle.std.specs.Result.{result_ok};
-ghost use Rattle.gx_model.specs.Streams.Grammar.{mark_of};
+ghost use Rattle.gx_model.specs.Streams.Lines.{mark_of};
 ghost use Rattle.gx_model.specs.Streams.Items.{Line};
 ghost use Rattle.gx_adapt.specs.Marks.{command_begun, is_blob_or_tag, is_tag, mark_behind};
 ghost use Rattle.gx_adapt.specs.Adapting.{Passes, SetsMark, StandsBehind, names_held};

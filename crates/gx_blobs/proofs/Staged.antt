@@ -6,7 +6,8 @@ use Rattle.gx_model.specs.Texts.{Bytes}
 use Rattle.gx_model.specs.Faults.{Given, ◌>>=◌}
 use Rattle.std.specs.Option.{ok_or}
 use Rattle.gx_model.specs.Streams.Items.{Item, Line, Data, End, Finished, Failed, Stream}
-use Rattle.gx_model.specs.Streams.Grammar.{Read, words_of, is_word, mark_of, blob_at, block, block_in, rest_line_in, optional, any_text, read_some}
+use Rattle.gx_model.specs.Streams.Grammar.{blob_at}
+use Rattle.gx_model.specs.Streams.Lines.{Read, words_of, is_word, mark_of, block, block_in, rest_line_in, optional, any_text, read_some}
 use Rattle.gx_model.specs.Streams.Commands.{Command, Blob}
 use Rattle.gx_blobs.specs.Blobs.{BlobRun, blobs_within, blobs_of, then_blobs, stops, first_body, not_a_blob}
 use Rattle.gx_blobs.specs.Steps.{stop, go, run_of, stepped, command_line, mark_line, oid_line, named_by, marked_by, marked_as, refuse_line}

@@ -5,7 +5,8 @@ use Rattle.gx_model.specs.declared.faults.Fault.{Fault}
 use Rattle.gx_model.specs.Texts.{Bytes}
 use Rattle.gx_model.specs.Streams.Items.{Item, Line, Data, End, Finished, Failed, Stream}
 use Rattle.gx_model.specs.Streams.Commands.{Command, Blob, Commit, Tag, Reset, Checkpoint, Progress, Asks, OptionLine, Done}
-use Rattle.gx_model.specs.Streams.Grammar.{Read, blob_at}
+use Rattle.gx_model.specs.Streams.Grammar.{blob_at}
+use Rattle.gx_model.specs.Streams.Lines.{Read}
 
 -- why no further blob comes: a fault of the grammar, or an item that begins no blob command
 pub data Stop : Type 0 where

@@ -6,7 +6,7 @@ use Rattle.gx_model.specs.declared.faults.Fault.TheVariants.{BadLine}
 use Rattle.gx_model.specs.Texts.{Bytes}
 use Rattle.gx_model.specs.Faults.{Given}
 use Rattle.gx_model.specs.Streams.Items.{Item, Line, Data, End, Finished, Failed}
-use Rattle.gx_model.specs.Streams.Grammar.{words_of, is_word, mark_of}
+use Rattle.gx_model.specs.Streams.Lines.{words_of, is_word, mark_of}
 use Rattle.gx_blobs.specs.Blobs.{Stop, refused, not_a_blob, BlobRun, stops, first_body}
 use Rattle.gx_blobs.specs.declared.blob_names.Stage.{Stage}
 use Rattle.gx_blobs.specs.declared.blob_names.Stage.TheVariants.{Expected, Started, Marked, Named}

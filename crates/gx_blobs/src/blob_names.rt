@@ -3,7 +3,7 @@
 ghost use Rattle.std.specs.Prelude.{◌≡◌, ◌<◌, ◌≤◌, ◌-◌, ◌^◌, [], Ok, Err};
 ghost use Rattle.std.specs.Option.{option_map};
 ghost use Rattle.gx_model.specs.Streams.Items.{Finished};
-ghost use Rattle.gx_model.specs.Streams.Grammar.{mark_of};
+ghost use Rattle.gx_model.specs.Streams.Lines.{mark_of};
 ghost use Rattle.gx_stream.specs.Reading.{item_of};
 ghost use Rattle.gx_blobs.specs.Naming.{NamesBlobs, NamesItems};
 ghost use Rattle.gx_blobs.specs.Steps.{step_of, stop_at, marked_as, marked_by, named_by, command_line, mark_line, oid_line};

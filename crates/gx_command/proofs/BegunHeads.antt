@@ -5,7 +5,8 @@ use Rattle.gx_model.specs.Faults.{Given, Gives, IsFaultOf, ◌>>=◌}
 use Rattle.gx_model.specs.declared.faults.Fault.TheVariants as model
 use Rattle.gx_model.specs.Streams.Items.{Stream}
 use Rattle.gx_model.specs.Streams.Commands as commands
-use Rattle.gx_model.specs.Streams.Grammar.{Read, Words, bare, command_at, commit_at, feature_of, if_early, is_word, ref_of, reset_at, rest_of, tag_at, tag_of}
+use Rattle.gx_model.specs.Streams.Grammar.{command_at, commit_at, if_early, reset_at, tag_at}
+use Rattle.gx_model.specs.Streams.Lines.{Read, Words, bare, feature_of, is_word, ref_of, rest_of, tag_of}
 use Rattle.gx_command.specs.Ahead.{Fails}
 use Rattle.gx_command.specs.CommandFaults.{fault_of}
 use Rattle.gx_command.specs.Heads.{Begins, BeginsWhole, MayBeWhole, begun, early_feature, early_rest, is_left_out, name_at, option_of, progress_of, ref_named}

@@ -8,7 +8,8 @@ use Rattle.gx_model.specs.declared.faults.Fault.TheVariants as faults
 use Rattle.gx_model.specs.Faults.{Given, ◌>>=◌}
 use Rattle.gx_model.specs.Streams.Items.{Item, Line, Data, End, Stream}
 use Rattle.gx_model.specs.Streams.Commands.{Command, Commands}
-use Rattle.gx_model.specs.Streams.Grammar.{Read, asks_done, is_done, is_option, stops, with_command}
+use Rattle.gx_model.specs.Streams.Grammar.{asks_done, is_done, is_option, stops, with_command}
+use Rattle.gx_model.specs.Streams.Lines.{Read}
 use Rattle.gx_command.specs.Behind.{AreBehind, commands_behind, from_next, left_behind, next_behind, or_missing_done, past_empty, then_come}
 use Rattle.gx_command.specs.Heads.{first, first_in}
 use Rattle.gx_command.specs.Reading.{commands_after}

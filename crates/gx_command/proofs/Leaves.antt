@@ -5,7 +5,8 @@ use Rattle.gx_model.specs.Texts.{Bytes}
 use Rattle.gx_model.specs.Faults.{Given, ◌>>=◌}
 use Rattle.gx_model.specs.Streams.Items.{Item, Line, Data, End, Finished, Failed, Stream}
 use Rattle.gx_model.specs.Streams.Commands.{Change, Command, CommitIsh}
-use Rattle.gx_model.specs.Streams.Grammar.{Read, Words, at_end, after, words_of, is_word, rest_of, bare, rest_line_in, rest_line, read_some, optional, read_needed, needed, block_in, block, mark_of, any_text, encoding_of, ident_of, ref_of, tag_of, commit_ish_of, feature_of, mode_of, where_of, suits, Where, AtMark, AtName, AtBlock, bytes_from, part_of, last_path, two_paths, modify_at, change_at, changes_within, changes, merges_within, merges, item_after_in, item_after, unsigned_in, unsigned, blob_at, links_at, commit_at, tag_at, reset_at, if_early, command_at}
+use Rattle.gx_model.specs.Streams.Grammar.{where_of, suits, Where, AtMark, AtName, AtBlock, bytes_from, part_of, two_paths, modify_at, change_at, changes_within, changes, merges_within, merges, item_after_in, item_after, unsigned_in, unsigned, blob_at, links_at, commit_at, tag_at, reset_at, if_early, command_at}
+use Rattle.gx_model.specs.Streams.Lines.{Read, Words, at_end, after, words_of, is_word, rest_of, bare, rest_line_in, rest_line, read_some, optional, read_needed, needed, block_in, block, mark_of, any_text, encoding_of, ident_of, ref_of, tag_of, commit_ish_of, feature_of, mode_of, last_path}
 
 abbrev pub Leaves : {A : Type 0} → Read A → Stream → Type 0
 Leaves (Ok x) s = length x.1.items ≤ length s.items

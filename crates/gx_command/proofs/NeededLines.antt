@@ -5,7 +5,7 @@ use Rattle.gx_model.specs.Texts.{Bytes}
 use Rattle.gx_model.specs.Faults.{Given, ◌>>=◌}
 use Rattle.gx_model.specs.declared.faults.Fault.TheVariants as model
 use Rattle.gx_model.specs.Streams.Items.{Stream}
-use Rattle.gx_model.specs.Streams.Grammar.{Read, needed, optional, read_needed, read_some, rest_line}
+use Rattle.gx_model.specs.Streams.Lines.{Read, needed, optional, read_needed, read_some, rest_line}
 use Rattle.gx_command.specs.Ahead.{Reads}
 use Rattle.gx_command.specs.declared.fault.CommandFault.{CommandFault}
 use Rattle.gx_command.specs.declared.fault.CommandFault.TheVariants.{BadLine}

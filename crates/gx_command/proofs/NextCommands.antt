@@ -9,7 +9,8 @@ use Rattle.gx_model.specs.Faults.{◌>>=◌}
 use Rattle.gx_model.specs.Streams.Items.{Finished, Stream}
 use Rattle.gx_model.specs.Streams.Commands as model
 use Rattle.gx_model.specs.Streams.Commands.{Commands}
-use Rattle.gx_model.specs.Streams.Grammar.{Read, is_option, asks_done, is_done, fault_at_end, stops, with_command}
+use Rattle.gx_model.specs.Streams.Grammar.{is_option, asks_done, is_done, fault_at_end, stops, with_command}
+use Rattle.gx_model.specs.Streams.Lines.{Read}
 use Rattle.gx_command.specs.Ahead.{Fails}
 use Rattle.gx_command.specs.Ahead as ahead
 use Rattle.gx_command.specs.CommandFaults.{fault_of}

@@ -6,7 +6,8 @@ use Rattle.std.specs.Option.{option_map}
 use Rattle.gx_model.specs.Faults.{Given, ◌>>=◌}
 use Rattle.gx_model.specs.Streams.Items.{Stream}
 use Rattle.gx_model.specs.Streams.Commands as model
-use Rattle.gx_model.specs.Streams.Grammar.{Read, asks_done, is_done, is_option}
+use Rattle.gx_model.specs.Streams.Grammar.{asks_done, is_done, is_option}
+use Rattle.gx_model.specs.Streams.Lines.{Read}
 use Rattle.gx_command.specs.Ahead.{Fails}
 use Rattle.gx_command.specs.Ahead as ahead
 use Rattle.gx_command.specs.Behind.{FailsAt, Passes, at_start, fault_at, from_next, left_behind, next_behind, or_missing_done, or_none}

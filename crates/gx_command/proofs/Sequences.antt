@@ -2,7 +2,7 @@
 use Rattle.std.proofs.Common.{◌≡◌, ℕ, ◌≤◌, arith, Option, Some, None, Result, Ok, Err, refl, ap, subst, ◌∙◌, inl, inr}
 use Rattle.gx_model.specs.Faults.{◌>>=◌}
 use Rattle.gx_model.specs.Streams.Items.{Stream}
-use Rattle.gx_model.specs.Streams.Grammar.{Read}
+use Rattle.gx_model.specs.Streams.Lines.{Read}
 use Rattle.gx_command.specs.Ahead.{Fails, Falls, Reads}
 use Rattle.gx_command.specs.declared.fault.CommandFault.{CommandFault}
 

@@ -5,7 +5,8 @@ use Rattle.std.specs.List.{list_any, list_all}
 use Rattle.gx_model.specs.Texts.{Bytes}
 use Rattle.gx_model.specs.Streams.Items.{Item, Line, Data, End, Finished, Failed, Stream}
 use Rattle.gx_model.specs.Streams.Commands.{Command, Commands}
-use Rattle.gx_model.specs.Streams.Grammar.{Read, at_end, after, words_of, command_at, commands_within, is_option, asks_done, is_done, fault_at_end, stops, with_command}
+use Rattle.gx_model.specs.Streams.Grammar.{command_at, commands_within, is_option, asks_done, is_done, fault_at_end, stops, with_command}
+use Rattle.gx_model.specs.Streams.Lines.{Read, at_end, after, words_of}
 use Rattle.gx_command.specs.Heads.{first_in, first}
 use Rattle.gx_command.specs.Reading.{commands_after}
 use Rattle.gx_command.proofs.Leaves.{Leaves, command_leaves}

@@ -4,7 +4,8 @@ use Rattle.std.specs.Option.{option_map}
 use Rattle.gx_model.specs.Texts.{Bytes}
 use Rattle.gx_model.specs.Streams.Items as model
 use Rattle.gx_model.specs.Streams.Items.{Stream, then_comes, Finished, Failed}
-use Rattle.gx_model.specs.Streams.Grammar.{words_of, command_at}
+use Rattle.gx_model.specs.Streams.Grammar.{command_at}
+use Rattle.gx_model.specs.Streams.Lines.{words_of}
 use Rattle.gx_stream.specs.Faults.{ended}
 use Rattle.gx_stream.specs.Reading.{item_of}
 use Rattle.gx_stream.specs.declared.item.Item.{Item}

@@ -6,7 +6,7 @@ use Rattle.std.proofs.lemmas.Grind.{common_steps}
 use Rattle.std.specs.Borrow.{Bor}
 use Rattle.gx_model.specs.Texts.{Bytes}
 use Rattle.gx_model.specs.Streams.Items.{Stream, then_comes, Finished, Failed}
-use Rattle.gx_model.specs.Streams.Grammar.{optional, read_some, rest_line, rest_line_in}
+use Rattle.gx_model.specs.Streams.Lines.{optional, read_some, rest_line, rest_line_in}
 use Rattle.gx_stream.specs.Faults.{ended}
 use Rattle.gx_stream.specs.Reading.{item_of}
 use Rattle.gx_stream.specs.declared.item.Item.{Item}

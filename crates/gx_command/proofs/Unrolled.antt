@@ -6,7 +6,8 @@ use Rattle.std.proofs.lemmas.List.{append-nil}
 use Rattle.gx_model.specs.Faults.{◌>>=◌}
 use Rattle.gx_model.specs.Streams.Items.{Item, Line, Data, End, Finished, Failed, Stream}
 use Rattle.gx_model.specs.Streams.Commands.{Change, CommitIsh}
-use Rattle.gx_model.specs.Streams.Grammar.{Read, at_end, after, words_of, optional, commit_ish_of, change_at, changes_within, changes, merges_within, merges}
+use Rattle.gx_model.specs.Streams.Grammar.{change_at, changes_within, changes, merges_within, merges}
+use Rattle.gx_model.specs.Streams.Lines.{Read, at_end, after, words_of, optional, commit_ish_of}
 use Rattle.gx_command.specs.Ahead.{Fails, Reads}
 use Rattle.gx_command.specs.Bodies.{next_change_in, next_change}
 use Rattle.gx_command.specs.declared.fault.CommandFault.{CommandFault}

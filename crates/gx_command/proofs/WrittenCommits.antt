@@ -4,7 +4,8 @@ use Rattle.gx_model.specs.Texts.{Bytes}
 use Rattle.gx_model.specs.Faults.{◌>>=◌}
 use Rattle.gx_model.specs.Streams.Items.{Stream}
 use Rattle.gx_model.specs.Streams.Commands.{Command, Commit}
-use Rattle.gx_model.specs.Streams.Grammar.{Read, optional, needed, unsigned, block, ident_of, encoding_of, links_at}
+use Rattle.gx_model.specs.Streams.Grammar.{unsigned, links_at}
+use Rattle.gx_model.specs.Streams.Lines.{Read, optional, needed, block, ident_of, encoding_of}
 use Rattle.gx_command.specs.Ahead.{Reads}
 use Rattle.gx_command.specs.Bodies.{written_at}
 use Rattle.gx_command.specs.declared.fault.CommandFault.{CommandFault}

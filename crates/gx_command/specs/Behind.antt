@@ -6,7 +6,8 @@ use Rattle.gx_model.specs.Streams.Items.{Item, Line, Data, Stream}
 use Rattle.gx_model.specs.declared.faults.Fault.TheVariants as model
 use Rattle.gx_model.specs.declared.features.Features.{Features}
 use Rattle.gx_model.specs.Streams.Commands.{Command, Commands}
-use Rattle.gx_model.specs.Streams.Grammar.{Read, asks_done, commands_of, commands_within, is_done, is_option, stops}
+use Rattle.gx_model.specs.Streams.Grammar.{asks_done, commands_of, commands_within, is_done, is_option, stops}
+use Rattle.gx_model.specs.Streams.Lines.{Read}
 use Rattle.gx_command.specs.CommandFaults.{fault_of}
 use Rattle.gx_command.specs.Heads.{first}
 use Rattle.gx_command.specs.declared.fault.CommandFault.{CommandFault}

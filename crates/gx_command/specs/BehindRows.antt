@@ -5,7 +5,8 @@ use Rattle.gx_model.specs.Texts.{Bytes, cut_at}
 use Rattle.gx_model.specs.Streams.Spelling.{text_of_lines}
 use Rattle.gx_model.specs.Faults.{Given}
 use Rattle.gx_model.specs.Streams.Items.{Item, Line, Data, End, Stream, Finished, Failed, counted_block, lines_before, delimited, first_line, first_of, read_upto, items_of}
-use Rattle.gx_model.specs.Streams.Grammar.{rest_line_in, block_in, item_after_in, mark_of, commit_ish_of, blob_at, reset_at, command_at}
+use Rattle.gx_model.specs.Streams.Grammar.{item_after_in, blob_at, reset_at, command_at}
+use Rattle.gx_model.specs.Streams.Lines.{rest_line_in, block_in, mark_of, commit_ish_of}
 use Rattle.gx_command.specs.Heads.{first_in}
 use Rattle.gx_command.specs.Behind.{left_behind}
 

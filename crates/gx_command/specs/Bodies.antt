@@ -7,7 +7,8 @@ use Rattle.gx_model.specs.Streams.Items as model
 use Rattle.gx_model.specs.Streams.Items.{Stream, Line, Data}
 use Rattle.gx_model.specs.Streams.Commands as command
 use Rattle.gx_model.specs.declared.faults.Fault.TheVariants as faults
-use Rattle.gx_model.specs.Streams.Grammar.{Read, at_end, after, words_of, is_word, change_at, optional, needed, unsigned, block, ident_of, encoding_of}
+use Rattle.gx_model.specs.Streams.Grammar.{change_at, unsigned}
+use Rattle.gx_model.specs.Streams.Lines.{Read, at_end, after, words_of, is_word, optional, needed, block, ident_of, encoding_of}
 use Rattle.gx_command.specs.Ahead.{Fails}
 use Rattle.gx_command.specs.ChangeLines.{BeginsChange, completed}
 use Rattle.gx_command.specs.Views.{shown_ident, shown_encoding, shown_commit_ish, shown_change}

@@ -3,7 +3,8 @@ use Rattle.std.specs.Prelude.{◌≡◌, Option, Some, None, Result, Ok, Err}
 use Rattle.gx_model.specs.Faults.{IsFaultOf, ◌>>=◌}
 use Rattle.gx_model.specs.Streams.Items.{Stream}
 use Rattle.gx_model.specs.Streams.Commands as model
-use Rattle.gx_model.specs.Streams.Grammar.{Read, Where, AtMark, AtName, AtBlock, bytes_from}
+use Rattle.gx_model.specs.Streams.Grammar.{Where, AtMark, AtName, AtBlock, bytes_from}
+use Rattle.gx_model.specs.Streams.Lines.{Read}
 use Rattle.gx_command.specs.CommandFaults.{fault_of}
 use Rattle.gx_command.specs.Views.{shown_change}
 use Rattle.gx_command.specs.declared.fault.CommandFault.{CommandFault}

@@ -6,7 +6,8 @@ use Rattle.gx_model.specs.Streams.Commands as model
 use Rattle.gx_model.specs.Texts.{Bytes}
 use Rattle.gx_model.specs.declared.faults.Fault.TheVariants as faults
 use Rattle.gx_model.specs.declared.features.Feature.{Feature}
-use Rattle.gx_model.specs.Streams.Grammar.{Read, Words, at_end, after, words_of, is_word, rest_of, if_early, feature_of, ref_of, tag_of, blob_at, commit_at, tag_at, reset_at, command_at}
+use Rattle.gx_model.specs.Streams.Grammar.{if_early, blob_at, commit_at, tag_at, reset_at, command_at}
+use Rattle.gx_model.specs.Streams.Lines.{Read, Words, at_end, after, words_of, is_word, rest_of, feature_of, ref_of, tag_of}
 use Rattle.gx_command.specs.Ahead.{Fails}
 use Rattle.gx_command.specs.Views.{shown_command}
 use Rattle.gx_command.specs.declared.fault.CommandFault.{CommandFault}

@@ -6,8 +6,8 @@ use Rattle.gx_model.specs.Texts.{Bytes}
 use Rattle.gx_model.specs.Faults.{Given, ◌>>=◌}
 use Rattle.gx_model.specs.Streams.Items as model
 use Rattle.gx_model.specs.Streams.Items.{Line, Data}
-use Rattle.gx_model.specs.Streams.Grammar as grammar
-use Rattle.gx_model.specs.Streams.Grammar.{words_of, is_word, rest_of, bare}
+use Rattle.gx_model.specs.Streams.Lines as grammar
+use Rattle.gx_model.specs.Streams.Lines.{words_of, is_word, rest_of, bare}
 use Rattle.gx_command.specs.declared.lines.Words.{Words}
 
 -- the bytes that are lent

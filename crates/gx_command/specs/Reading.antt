@@ -9,7 +9,8 @@ use Rattle.gx_model.specs.Streams.Gitlinks.{BringsNoNullGitlink}
 use Rattle.gx_model.specs.Streams.Items.{Stream}
 use Rattle.gx_model.specs.Streams.Commands as model
 use Rattle.gx_model.specs.Streams.Commands.{Commands, no_features}
-use Rattle.gx_model.specs.Streams.Grammar.{Read, commands_asked, commands_within, is_done, is_option, asks_done, stops, with_command}
+use Rattle.gx_model.specs.Streams.Grammar.{commands_asked, commands_within, is_done, is_option, asks_done, stops, with_command}
+use Rattle.gx_model.specs.Streams.Lines.{Read}
 use Rattle.gx_text.specs.Devices.{Coming}
 use Rattle.gx_stream.specs.Heard.{items_from}
 use Rattle.gx_command.specs.CommandFaults.{fault_of}

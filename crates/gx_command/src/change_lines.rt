@@ -5,7 +5,8 @@ ghost use Rattle.gx_command.specs.Places.{is_file_mode, is_suited_place};
 ghost use Rattle.gx_model.specs.Faults.{Gives, NeedsNoMemory};
 ghost use Rattle.gx_model.specs.Streams.Items.{Stream};
 ghost use Rattle.gx_model.specs.Texts.Paths.{is_quoted};
-ghost use Rattle.gx_model.specs.Streams.Grammar.{mode_of, where_of, suits, last_path, source_path, two_paths, modify_at, change_at, words_of};
+ghost use Rattle.gx_model.specs.Streams.Grammar.{where_of, suits, two_paths, modify_at, change_at};
+ghost use Rattle.gx_model.specs.Streams.Lines.{mode_of, last_path, source_path, words_of};
 ghost use Rattle.gx_command.specs.CommandFaults.{fault_of};
 ghost use Rattle.gx_command.specs.ChangeLines.{shown_where, BeginsModify, BeginsChange};
 

@@ -2,7 +2,7 @@
 
 ghost use Rattle.std.specs.Prelude.{◌≡◌};
 ghost use Rattle.gx_model.specs.Faults.{Gives, NeedsNoMemory};
-ghost use Rattle.gx_model.specs.Streams.Grammar.{words_of, is_word, rest_of};
+ghost use Rattle.gx_model.specs.Streams.Lines.{words_of, is_word, rest_of};
 ghost use Rattle.gx_stream.specs.Reading.{item_of};
 ghost use Rattle.gx_command.specs.CommandFaults.{fault_of};
 ghost use Rattle.gx_command.specs.Lines.{bare_as, lent_bytes, shown_words, shown_rest, rest_in};

@@ -2,7 +2,7 @@
 
 ghost use Rattle.std.specs.Prelude.{IsOk, IsErrOf};
 ghost use Rattle.gx_model.specs.Faults.{Gives, NeedsNoMemory};
-ghost use Rattle.gx_model.specs.Streams.Grammar.{mark_number, mark_of, commit_ish_of};
+ghost use Rattle.gx_model.specs.Streams.Lines.{mark_number, mark_of, commit_ish_of};
 ghost use Rattle.gx_command.specs.CommandFaults.{fault_of};
 ghost use Rattle.gx_command.specs.Views.{shown_commit_ish};
 ghost use Rattle.gx_command.specs.declared.fault.CommandFault.TheVariants.{OutOfMemory};

@@ -7,7 +7,7 @@ ghost use Rattle.gx_model.specs.Texts.Idents.{is_ident};
 ghost use Rattle.gx_model.specs.Texts.{is_line};
 ghost use Rattle.gx_model.specs.Histories.Values.{is_optional_encoding};
 ghost use Rattle.gx_model.specs.Texts.RefNames.{is_ref_name, is_tag_name};
-ghost use Rattle.gx_model.specs.Streams.Grammar.{ident_of, encoding_of, is_null};
+ghost use Rattle.gx_model.specs.Streams.Lines.{ident_of, encoding_of, is_null};
 ghost use Rattle.gx_model.specs.Texts.Digits.{is_any_name_text};
 ghost use Rattle.gx_command.specs.CommandFaults.{fault_of};
 ghost use Rattle.gx_command.specs.Lines.{shown_words};

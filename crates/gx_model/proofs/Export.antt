@@ -6,4 +6,7 @@ pub mod ReachedValues
 pub mod ExportSteps
 pub mod SpelledExports
 pub mod ReadableExports
+pub mod FirstNulls
+pub mod ExportItems
+pub mod RefusedCommits
 pub mod RefusedExports

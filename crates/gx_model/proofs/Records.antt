@@ -1,6 +1,7 @@
 -- Records: the history that they stand for, what is added to them and found in them.
 pub mod OneHistory
 pub mod LinkedValues
+pub mod ReadRecords
 pub mod HistoriesExist
 pub mod HistoriesAreSound
 pub mod GrownRecords

@@ -2,4 +2,5 @@
 pub mod NullGitlinks
 pub mod GivenCommits
 pub mod GitlinkSteps
+pub mod ProperStates
 pub mod HistorySteps

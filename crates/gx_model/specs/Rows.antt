@@ -5,6 +5,7 @@ pub mod ExportRows
 pub mod FeatureRows
 pub mod ImportRows
 pub mod PruningRows
+pub mod RefusalRows
 pub mod RevisionRows
 pub mod RowTexts
 pub mod StoreRows

@@ -5,4 +5,5 @@ pub mod Gitlinks
 pub mod Grammar
 pub mod Items
 pub mod LineShapes
+pub mod Lines
 pub mod Spelling

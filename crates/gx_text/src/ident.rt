@@ -17,7 +17,7 @@ pub struct Ident<'a> {
 
 impl<'a> Ident<'a> {
     ghost use Rattle.gx_model.specs.Faults.{Gives};
-    ghost use Rattle.gx_model.specs.Streams.Grammar.{ident_of};
+    ghost use Rattle.gx_model.specs.Streams.Lines.{ident_of};
     ghost use Rattle.gx_text.specs.Idents.{ident_bytes};
     ghost use Rattle.gx_text.specs.TextFaults.{fault_of};
 

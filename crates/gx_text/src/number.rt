@@ -2,7 +2,7 @@
 
 ghost use Rattle.std.specs.Prelude.{◌≡◌};
 ghost use Rattle.std.specs.Result.{result_ok};
-ghost use Rattle.gx_model.specs.Streams.Grammar.{mark_number};
+ghost use Rattle.gx_model.specs.Streams.Lines.{mark_number};
 ghost use Rattle.gx_model.specs.Texts.Numbers.{decimal_of};
 
 use std::str;

@@ -3,7 +3,7 @@
 ghost use Rattle.std.specs.Prelude.{ℕ, ◌≡◌, ◌≢◌, true, nat_lt, ◌<◌, ◌≤◌, [], Ok, IsTrue, ◌==◌, length, drop, slice_index_or, IfOk, IsOk, OnErr, IfErr, IsErrOf};
 ghost use Rattle.std.specs.List.{list_all, slice_split};
 ghost use Rattle.gx_model.specs.Faults.{Gives};
-ghost use Rattle.gx_model.specs.Streams.Grammar.{last_path};
+ghost use Rattle.gx_model.specs.Streams.Lines.{last_path};
 ghost use Rattle.gx_model.specs.Texts.Paths.{is_component, parts_of, path_of, path_text, quoted_of, printed};
 ghost use Rattle.gx_text.specs.declared.fault.TextFault.TheVariants.{OutOfMemory};
 ghost use Rattle.gx_text.specs.TextFaults.{fault_of};

@@ -3,7 +3,7 @@
 ghost use Rattle.std.specs.Prelude.{ℕ, ◌≡◌, length, take};
 ghost use Rattle.std.specs.List.{list_all};
 ghost use Rattle.gx_model.specs.Texts.Paths.{path_of, is_printed_bare, letter_of, printed_byte, printed};
-ghost use Rattle.gx_model.specs.Streams.Grammar.{last_path};
+ghost use Rattle.gx_model.specs.Streams.Lines.{last_path};
 ghost use Rattle.gx_text.specs.Buffers.{GrowsBy};
 ghost use Rattle.gx_text.specs.Quoting.{printed_quoted};
 

@@ -6,7 +6,7 @@ use Rattle.gx_model.specs.Texts.{Bytes}
 use Rattle.gx_model.specs.Objects.{TagParts, IsTagText, hex, line, optional_line}
 use Rattle.gx_model.proofs.Records.OneHistory.{line_flat}
 use Rattle.gx_model.proofs.ObjectTexts.BodiesReadBack.{tag_text_flat, long_name}
-use Rattle.gx_model.proofs.Records.HistoriesExist.{hex_long}
+use Rattle.gx_model.proofs.Records.ReadRecords.{hex_long}
 
 taken : (x r : Bytes) (n : ℕ) → length x ≡ n → take n (x ++ r) ≡ x
 taken [] r zero e = refl

@@ -25,7 +25,8 @@ use Rattle.gx_model.proofs.Texts.PathTests.{both, first, second, is_true, same_i
 use Rattle.gx_model.proofs.Records.OneHistory.{told_by_name, no_other}
 use Rattle.gx_model.proofs.ObjectTexts.BodiesReadBack.{unhex_hex, bytes_name}
 use Rattle.gx_model.proofs.Records.LinkedValues.{proper_in, named, found, is_blob, holds}
-use Rattle.gx_model.proofs.Records.HistoriesExist.{tag_text_is, stands, named_is, hex_text, is_read}
+use Rattle.gx_model.proofs.Records.HistoriesExist.{tag_text_is, stands, named_is}
+use Rattle.gx_model.proofs.Records.ReadRecords.{hex_text, is_read}
 use Rattle.gx_model.proofs.Records.GrownRecords.{Lookup, looked_up, whole_of, distinct_of}
 
 module _ (name : Kind → Bytes → Bytes) (namer : IsNamer name) where

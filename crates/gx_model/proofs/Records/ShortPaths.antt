@@ -25,7 +25,8 @@ use Rattle.gx_model.proofs.ObjectTexts.RebuiltValues.{at_append}
 use Rattle.std.specs.Option.{option_or}
 use Rattle.gx_model.proofs.Records.LinkedValues.{named, is_tree, found, holds}
 use Rattle.gx_model.proofs.ObjectTexts.TreePaths.{entries_of, text_of_tree, content_in, path_held, some_unrecord}
-use Rattle.gx_model.proofs.Records.HistoriesExist.{stands, named_is, entry_short}
+use Rattle.gx_model.proofs.Records.HistoriesExist.{stands, named_is}
+use Rattle.gx_model.proofs.Records.ReadRecords.{entry_short}
 use Rattle.gx_model.proofs.Records.GrownRecords.{whole_of, distinct_of}
 
 short_at : (p : Path) (f : FileMap Bytes) → T (list_all (λ x. is_short x.0) f) → is_some (file_at f p) ≡ true → T (is_short p)

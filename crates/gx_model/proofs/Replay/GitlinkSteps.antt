@@ -25,7 +25,8 @@ use Rattle.gx_model.specs.Texts.Digits.{lower}
 use Rattle.gx_model.specs.Streams.Items.{items_of}
 use Rattle.gx_model.specs.Streams.Commands as command
 use Rattle.gx_model.specs.Streams.Commands.{Asks, Blob, Change, Checkpoint, Clear, Command, CommitIsh, CommitParts, Copy, DataRef, Done, Inline, Mark, Marked, Modify, Named, Object, OptionLine, Progress, Remove, Rename, Reset, TagParts}
-use Rattle.gx_model.specs.Streams.Grammar.{commands_of, is_null}
+use Rattle.gx_model.specs.Streams.Grammar.{commands_of}
+use Rattle.gx_model.specs.Streams.Lines.{is_null}
 use Rattle.gx_model.specs.Laws.ExportLaws.{IsNotNull}
 use Rattle.gx_model.specs.Streams.Gitlinks.{BringsNoNullGitlink, GivesNoNullGitlink, HoldsNoNullGitlink, HoldsTellsHas, RefusalsKeepNone, ReplaysKeepNone, TextsBringNone}
 use Rattle.gx_model.specs.Replay.{Outcome, State, added, all_changed, all_committed, at, blob_bytes, changed, checkpointed, commit_alone, committed, committed_for, content, ended, final, finished, first_parent, is_fast_forward, marked, on_branch, refused, replayed, report, start, starting_files, step, step_checkpoint, step_commit, step_reset, step_tag, text_made, with_branch, with_first_parent}

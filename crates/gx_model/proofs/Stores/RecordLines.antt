@@ -24,7 +24,7 @@ use Rattle.gx_model.proofs.ObjectTexts.OneTree.{digits_of, forty, unhex_long}
 use Rattle.gx_model.proofs.Records.OneHistory.{hex_line}
 use Rattle.gx_model.proofs.ObjectTexts.BodiesReadBack.{bytes_name, unhex_hex}
 use Rattle.gx_model.proofs.ObjectTexts.TreePaths.{unhex_bytes}
-use Rattle.gx_model.proofs.Records.HistoriesExist.{hex_text}
+use Rattle.gx_model.proofs.Records.ReadRecords.{hex_text}
 use Rattle.gx_model.proofs.Stores.StoreTexts.{both_some, decimal_line, number_of, number_read}
 
 -- ---- digits

@@ -32,7 +32,7 @@ use Rattle.gx_model.proofs.Streams.CommandFields.{link_no_space}
 use Rattle.gx_model.proofs.Records.OneHistory.{hex_line}
 use Rattle.gx_model.proofs.ObjectTexts.BodiesReadBack.{bytes_name, tag_read, unhex_hex}
 use Rattle.gx_model.proofs.ObjectTexts.TreePaths.{name_is_name}
-use Rattle.gx_model.proofs.Records.HistoriesExist.{hex_text}
+use Rattle.gx_model.proofs.Records.ReadRecords.{hex_text}
 use Rattle.gx_model.proofs.ObjectTexts.BodyTests.{commit_test, tag_test, tag_text_in, tree_test}
 use Rattle.gx_model.proofs.Records.TakenRecords.{all_named, named_some, some_named}
 use Rattle.gx_model.proofs.Stores.RecordLines.{hex_unhex}

@@ -10,7 +10,8 @@ use Rattle.gx_model.specs.Texts.{Bytes, cut_at}
 use Rattle.gx_model.specs.Histories.{History}
 use Rattle.gx_model.specs.Streams.Items.{Item, Line, Data, End, Finished, Failed, Stream, items_of, then_comes}
 use Rattle.gx_model.specs.Streams.Commands.{Asks, Command, Commands, Done}
-use Rattle.gx_model.specs.Streams.Grammar.{Read, asked, asks_done, command_at, commands_asked, commands_of, commands_within, is_done, is_option, stops, with_command, words_of}
+use Rattle.gx_model.specs.Streams.Grammar.{asked, asks_done, command_at, commands_asked, commands_of, commands_within, is_done, is_option, stops, with_command}
+use Rattle.gx_model.specs.Streams.Lines.{Read, words_of}
 use Rattle.gx_model.specs.Changes.{sending_commands}
 use Rattle.gx_model.specs.Export.{command_items, inner_commands, item_text, reached_commits}
 use Rattle.gx_model.specs.Replay.{begun, replayed, replayed_commands}

@@ -9,7 +9,8 @@ use Rattle.gx_model.specs.Faults.{◌>>=◌}
 use Rattle.gx_model.specs.Texts.Paths.{Path, path_text, printed}
 use Rattle.gx_model.specs.Streams.Items.{Item, Line, Finished, Stream}
 use Rattle.gx_model.specs.Streams.Commands.{DataRef, Mark, Object, Inline, Change, Modify, Remove, Copy, Rename, Clear}
-use Rattle.gx_model.specs.Streams.Grammar.{last_path, words_of, words_by, modify_at, change_at, changes_within}
+use Rattle.gx_model.specs.Streams.Grammar.{modify_at, change_at, changes_within}
+use Rattle.gx_model.specs.Streams.Lines.{last_path, words_of, words_by}
 use Rattle.gx_model.specs.Export.{mode_digits, dataref_text, dataref_block, change_items}
 use Rattle.gx_model.specs.Laws.ExportLaws.{IsMark, IsLink, IsPath, IsDataRef, IsSpelledChange}
 use Rattle.gx_model.proofs.Texts.Cuts.{cut_after}

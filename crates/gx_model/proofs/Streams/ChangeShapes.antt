@@ -8,7 +8,8 @@ use Rattle.gx_model.specs.Faults.{Given, ◌>>=◌}
 use Rattle.gx_model.specs.Texts.Paths.{Path}
 use Rattle.gx_model.specs.Streams.Items.{Item, Line, Data, End, Finished, Failed}
 use Rattle.gx_model.specs.Streams.Commands.{CommitIsh, DataRef, Mark, Object, Inline, Change, Modify, Remove, Copy, Rename, Clear}
-use Rattle.gx_model.specs.Streams.Grammar.{Read, Where, AtMark, AtName, AtBlock, words_of, mode_of, where_of, suits, bytes_from, modify_at, change_at, changes_within, changes, merges_within, merges, optional, commit_ish_of}
+use Rattle.gx_model.specs.Streams.Grammar.{Where, AtMark, AtName, AtBlock, where_of, suits, bytes_from, modify_at, change_at, changes_within, changes, merges_within, merges}
+use Rattle.gx_model.specs.Streams.Lines.{Read, words_of, mode_of, optional, commit_ish_of}
 use Rattle.gx_model.specs.Streams.LineShapes.{line_of, IsOfNone, IsOfOne, BeginsPart, IsCommitIshText, IsModeText, IsDataRefText, IsLastPath, AreTwoPaths}
 use Rattle.gx_model.specs.Streams.CommandShapes.{all_change_words, Optional, Block, Repeated, no_more, one_more, next_fault, later_fault, Content, content_of_mark, content_of_name, content_of_block, no_content, Unfit, mark_of_gitlink, block_of_gitlink, BeginsModify, IsModify, modify, bad_mode, no_dataref, bad_dataref, unfit_dataref, no_path, bad_path, no_block, made, refused, of_text, text_fault, IsChange, modified, removed, copied, renamed, cleared, clear_of_text, change_without_text, note, no_change_at_line, no_change_at_block, no_change_at_end, change_failure, TakenFrom}
 use Rattle.gx_model.proofs.Streams.WordShapes.{part_read, part_there, other_word, which_word}

@@ -12,7 +12,8 @@ use Rattle.gx_model.specs.Texts.{Bytes, lacks}
 use Rattle.gx_model.specs.Texts.Paths.{Path, is_component, path_text, printed}
 use Rattle.gx_model.specs.Texts.Digits.{is_any_digit, is_any_name_text, is_lower_digit, is_name_text}
 use Rattle.gx_model.specs.Streams.Commands.{Marked, Named}
-use Rattle.gx_model.specs.Streams.Grammar.{mark_of, of_mark, mark_number, commit_ish_of, commit_ish_by, last_path, AtMark, AtName, where_of, where_by}
+use Rattle.gx_model.specs.Streams.Grammar.{AtMark, AtName, where_of, where_by}
+use Rattle.gx_model.specs.Streams.Lines.{mark_of, of_mark, mark_number, commit_ish_of, commit_ish_by, last_path}
 use Rattle.gx_model.specs.Laws.ExportLaws.{IsMark, IsLink, IsPath}
 use Rattle.gx_model.proofs.Texts.Idents.{and_one, and_two}
 use Rattle.gx_model.proofs.Texts.Decimals.{decimal_digits, decimal_read}

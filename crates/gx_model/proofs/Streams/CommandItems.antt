@@ -16,7 +16,8 @@ use Rattle.gx_model.specs.Faults.{Given, ◌>>=◌}
 use Rattle.gx_model.specs.Streams.Items.{Item, Line, Data, Finished, Stream}
 use Rattle.gx_model.specs.Streams.Commands.{CommitIsh, Marked, Named, DataRef, Mark, Object, Inline, Change, Modify, Remove, Copy, Rename, Clear, Command, Commands}
 use Rattle.gx_model.specs.Streams.Commands as command
-use Rattle.gx_model.specs.Streams.Grammar.{words_of, is_word, rest_line_in, optional, block_in, commit_ish_of, merges_within, item_after_in, unsigned_in, blob_at, commit_at, links_at, read_some, ident_of, encoding_of, ref_of, tag_of, item_after, tag_at, reset_at, command_at, commands_within, commands_of, is_option, is_done, with_command}
+use Rattle.gx_model.specs.Streams.Grammar.{merges_within, item_after_in, unsigned_in, blob_at, commit_at, links_at, item_after, tag_at, reset_at, command_at, commands_within, commands_of, is_option, is_done, with_command}
+use Rattle.gx_model.specs.Streams.Lines.{words_of, is_word, rest_line_in, optional, block_in, commit_ish_of, read_some, ident_of, encoding_of, ref_of, tag_of}
 use Rattle.gx_model.specs.Histories.Values.{is_optional_encoding, is_optional_ident}
 use Rattle.std.specs.Option.{unwrap_or}
 use Rattle.gx_model.specs.Export.{reset_items, commit_ish_text, change_items, command_items, from_line, word_line_if}

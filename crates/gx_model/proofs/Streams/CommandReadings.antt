@@ -10,7 +10,8 @@ use Rattle.gx_model.specs.Faults.{Given}
 use Rattle.gx_model.specs.Streams.Items.{Item, Line, Data, End, Finished, Failed, Stream}
 use Rattle.gx_model.specs.Streams.Commands as command
 use Rattle.gx_model.specs.Streams.Commands.{CommitIsh, Change, Command, Commands}
-use Rattle.gx_model.specs.Streams.Grammar.{words_of, mark_of, any_text, ident_of, encoding_of, commit_ish_of, optional, needed, blob_at, links_at, commit_at, tag_at, reset_at, command_at, commands_within, asked, commands_asked, is_option, asks_done, is_done, stops, with_command}
+use Rattle.gx_model.specs.Streams.Grammar.{blob_at, links_at, commit_at, tag_at, reset_at, command_at, commands_within, asked, commands_asked, is_option, asks_done, is_done, stops, with_command}
+use Rattle.gx_model.specs.Streams.Lines.{words_of, mark_of, any_text, ident_of, encoding_of, commit_ish_of, optional, needed}
 use Rattle.gx_model.specs.Streams.LineShapes.{line_of, IsOfNone, IsOfOne, IsRefText, IsFeatureText, IsIdentText, IsEncodingText, IsAnyText, IsMarkText, IsCommitIshText, IsTagNameText}
 use Rattle.gx_model.specs.Streams.CommandShapes.{words_of_text, words_alone, unsupported_words, Optional, Needed, both, first_fault, second_fault, IsChange, mark_line, oid_line, blob_lines, commit_links, commit_lines, tag_lines, reset_lines, AreOptions, IsCommand, BlobLines, CommitLinks, CommitLines, TagLines, ResetLines, blob_command, commit_command, tag_command, reset_command, made, refused, of_text, text_fault, blob, commit, commit_of_bad_ref, tag, tag_of_bad_name, reset, reset_of_bad_ref, checkpoint, progress, feature, late_feature, option, late_option, done, command_without_text, command_of_text, unsupported, unknown_line, unknown_block, AskDone, AreCommands, skipped, taken, at_done, at_fault, at_end, at_missing_done, at_failure, TakenFrom}
 use Rattle.gx_model.proofs.Streams.Readings.{refuted}

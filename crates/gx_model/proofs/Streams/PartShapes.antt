@@ -7,8 +7,9 @@ use Rattle.gx_model.specs.declared.faults.Fault.TheVariants as faults
 use Rattle.gx_model.specs.Texts.{Bytes, lacks}
 use Rattle.gx_model.specs.Faults.{Given, ◌>>=◌}
 use Rattle.gx_model.specs.Streams.Items.{Item, Line, Data, End, Finished, Failed, Stream}
-use Rattle.gx_model.specs.Streams.Grammar as read
-use Rattle.gx_model.specs.Streams.Grammar.{Read, rest_line_in, rest_line, read_some, read_needed, optional, needed, block_in, unsigned_in, unsigned, item_after_in, item_after}
+use Rattle.gx_model.specs.Streams.Lines as read
+use Rattle.gx_model.specs.Streams.Grammar.{unsigned_in, unsigned, item_after_in, item_after}
+use Rattle.gx_model.specs.Streams.Lines.{Read, rest_line_in, rest_line, read_some, read_needed, optional, needed, block_in}
 use Rattle.gx_model.specs.Streams.LineShapes.{TextShape, line_of, IsOf}
 use Rattle.gx_model.specs.Streams.CommandShapes.{Part, Optional, given, of_bad_text, without_text, before_line, before_block, before_end, before_failure, Needed, stands, is_missing, is_at_fault, Block, block, line_for_block, end_for_block, failure_for_block, Unsigned, signature, line_unsigned, block_unsigned, end_unsigned, failure_unsigned, Ending, empty_line, other_line, other_block, last_item, failure, Then, both, first_fault, second_fault, Repeated, no_more, one_more, next_fault, later_fault, TakenFrom}
 use Rattle.gx_model.proofs.Streams.WordShapes.{word_alone, word_with, other_word, its_word, is_of}

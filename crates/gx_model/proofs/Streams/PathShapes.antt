@@ -9,7 +9,8 @@ use Rattle.gx_model.specs.Faults.{Given}
 use Rattle.gx_model.specs.Streams.Spelling.{IsNot}
 use Rattle.gx_model.specs.Texts.Paths.{Path, is_quoted, path_of, quoted_of}
 use Rattle.gx_model.specs.Laws.TextLaws.{IsQuotedPath}
-use Rattle.gx_model.specs.Streams.Grammar.{last_path, source_path, two_paths, after_space}
+use Rattle.gx_model.specs.Streams.Grammar.{two_paths}
+use Rattle.gx_model.specs.Streams.Lines.{last_path, source_path, after_space}
 use Rattle.gx_model.specs.Streams.LineShapes.{BeginsPart, quote_text, space_text, IsLastPath, bare_last, bare_last_fault, quoted_last, quoted_last_goes_on, quoted_last_fault, IsSource, bare_source, bare_source_fault, bare_source_is_last, quoted_source, quoted_source_goes_on, quoted_source_fault, AreTwoPaths, source_and_destination, source_fault, destination_fault}
 use Rattle.gx_model.proofs.Texts.Cuts.{cut_after}
 use Rattle.gx_model.proofs.Streams.Readings.{refuted}

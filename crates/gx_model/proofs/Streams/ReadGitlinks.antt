@@ -11,7 +11,8 @@ use Rattle.gx_model.specs.Faults.{Given, ◌>>=◌}
 use Rattle.gx_model.specs.Texts.Paths.{Path}
 use Rattle.gx_model.specs.Streams.Items.{Data, End, Failed, Finished, Item, Line, Stream}
 use Rattle.gx_model.specs.Streams.Commands.{Change, Command, CommitIsh, DataRef, Modify}
-use Rattle.gx_model.specs.Streams.Grammar.{AtBlock, AtMark, AtName, Read, Where, after, any_text, at_end, bare, blob_at, block, bytes_from, change_at, changes, changes_within, command_at, commands_within, commit_at, commit_ish_of, encoding_of, feature_of, ident_of, if_early, is_done, is_null, is_option, is_word, item_after, last_path, links_at, mark_of, merges, mode_of, modify_at, needed, optional, part_of, ref_of, reset_at, rest_of, stops, suits, tag_at, tag_of, two_paths, unsigned, where_by, where_of, words_of, Words, colon_number, with_command}
+use Rattle.gx_model.specs.Streams.Grammar.{AtBlock, AtMark, AtName, Where, blob_at, bytes_from, change_at, changes, changes_within, command_at, commands_within, commit_at, if_early, is_done, is_option, item_after, links_at, merges, modify_at, part_of, reset_at, stops, suits, tag_at, two_paths, unsigned, where_by, where_of, with_command}
+use Rattle.gx_model.specs.Streams.Lines.{Read, after, any_text, at_end, bare, block, commit_ish_of, encoding_of, feature_of, ident_of, is_null, is_word, last_path, mark_of, mode_of, needed, optional, ref_of, rest_of, tag_of, words_of, Words, colon_number}
 use Rattle.gx_model.specs.Texts.Digits.{is_any_name_text}
 use Rattle.gx_model.specs.Streams.Gitlinks.{BringsNoNullGitlink, GivesNoNullGitlink, StreamsBringNone}
 use Rattle.gx_model.proofs.Replay.NullGitlinks.{then_if}

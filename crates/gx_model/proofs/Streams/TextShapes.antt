@@ -14,8 +14,9 @@ use Rattle.gx_model.specs.Histories.Values.{is_optional_encoding}
 use Rattle.gx_model.specs.Faults.{Given, ◌>>=◌}
 use Rattle.gx_model.specs.Streams.Spelling.{IsNot}
 use Rattle.gx_model.specs.Streams.Commands.{Marked, Named}
-use Rattle.gx_model.specs.Streams.Grammar as read
-use Rattle.gx_model.specs.Streams.Grammar.{mark_of, mark_number, any_text, encoding_of, ident_of, ref_of, tag_of, commit_ish_of, commit_ish_by, feature_of, mode_of, is_null, AtMark, AtName, AtBlock, where_of, where_by}
+use Rattle.gx_model.specs.Streams.Lines as read
+use Rattle.gx_model.specs.Streams.Grammar.{AtMark, AtName, AtBlock, where_of}
+use Rattle.gx_model.specs.Streams.Lines.{mark_of, mark_number, any_text, encoding_of, ident_of, ref_of, tag_of, commit_ish_of, commit_ish_by, feature_of, mode_of, is_null}
 use Rattle.gx_model.specs.Texts.Digits.{is_any_name_text}
 use Rattle.gx_model.specs.Streams.LineShapes.{TextShape, IsOneOf, IsForm, has_form, lacks_form, IsIdentText, IsRefText, IsEncodingText, IsAnyText, IsMarkText, is_mark, mark_is_zero, mark_is_no_number, is_no_mark, forty_zeros, IsCommitIshText, names_mark, names_bad_mark, names_zeros, names_commit, IsFeatureText, asks_done, asks_raw_dates, asks_force, asks_other, mode_texts, IsModeText, mode_file, mode_executable, mode_link, mode_gitlink, mode_directory, mode_other, IsDataRefText, at_mark, at_bad_mark, at_block, at_zeros, at_name, at_nothing, IsTagNameText, with_colon}
 use Rattle.gx_model.proofs.Texts.Idents.{and_one, and_two, ident_tells}

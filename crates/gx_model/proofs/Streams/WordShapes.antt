@@ -6,7 +6,7 @@ use Rattle.std.specs.Str.{bytes_eq}
 use Rattle.std.proofs.lemmas.Bool.{false≢true, eqb-true}
 use Rattle.std.proofs.lemmas.Slice.Eq.{bytes_eq-Decides}
 use Rattle.gx_model.specs.Texts.{Bytes, cut_at, lacks}
-use Rattle.gx_model.specs.Streams.Grammar.{words_of, words_by, is_word}
+use Rattle.gx_model.specs.Streams.Lines.{words_of, words_by, is_word}
 use Rattle.gx_model.specs.Streams.LineShapes.{line_of, IsOf, IsOfNone, IsOfOne, IsOneOf, BeginsPart}
 use Rattle.gx_model.proofs.Texts.Idents.{and_one, and_two}
 use Rattle.gx_model.proofs.Texts.Cuts.{lacks-cons}

@@ -12,7 +12,7 @@ use Rattle.gx_model.specs.declared.faults.Fault.TheVariants as faults
 use Rattle.gx_model.specs.Faults.{◌>>=◌}
 use Rattle.gx_model.specs.Texts.{Bytes}
 use Rattle.gx_model.specs.Texts.Paths.{Path, AreBytes, is_quoted, with_rest, path_text, path_of, path_at, named, is_octal, octal_of, escape_at, char_at, with_char, unquote_within, unquote, quoted_of, is_itself, WritesByte, as_itself, by_letter, by_digits, WritesText, writes_none, writes_more, IsQuotedText, letter_of, is_printed_bare, escaped, printed_byte, printed}
-use Rattle.gx_model.specs.Streams.Grammar.{last_path}
+use Rattle.gx_model.specs.Streams.Lines.{last_path}
 use Rattle.gx_model.specs.Laws.TextLaws.{IsQuotedPath, IsQuotedFault, HasNoQuotedText}
 use Rattle.gx_model.proofs.Texts.Cuts.{some_is, map_some}
 use Rattle.gx_model.proofs.Texts.Idents.{and_one}

@@ -15,7 +15,8 @@ use Rattle.gx_model.specs.Faults.{◌>>=◌}
 use Rattle.gx_model.specs.Texts.Paths.{Path, is_file_path}
 use Rattle.gx_model.specs.Streams.Items.{Data, Finished, Item, Line, items_of}
 use Rattle.gx_model.specs.Streams.Commands.{Change, Clear, Command, CommitIsh, CommitParts, Copy, DataRef, Mark, Marked, Modify, Named, Object, Remove, Rename, TagParts}
-use Rattle.gx_model.specs.Streams.Grammar.{commands_of, is_null}
+use Rattle.gx_model.specs.Streams.Grammar.{commands_of}
+use Rattle.gx_model.specs.Streams.Lines.{is_null}
 use Rattle.gx_model.specs.Histories.Files.{Leaf}
 use Rattle.gx_model.specs.Histories.Values.{Commit, Value, blob_value, commit_of, commit_value, files_of, is_content, is_optional_encoding, is_optional_ident, is_proper, list_of, parents_of, text_of}
 use Rattle.gx_model.specs.Texts.Digits.{is_name_text}

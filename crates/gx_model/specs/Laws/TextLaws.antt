@@ -10,7 +10,7 @@ use Rattle.gx_model.specs.Texts.Numbers.{decimal_of}
 use Rattle.gx_model.specs.Texts.RefNames.{is_ref_name, is_tag_name}
 use Rattle.gx_model.specs.Texts.Idents.{is_ident, IsIdent}
 use Rattle.gx_model.specs.Texts.Paths.{AreBytes, Path, is_component, path_text, parts_of, path_of, IsPathOf, unquote, quoted_of, IsQuotedText, printed}
-use Rattle.gx_model.specs.Streams.Grammar.{last_path}
+use Rattle.gx_model.specs.Streams.Lines.{last_path}
 
 -- a number's decimal text is read as the number
 abbrev pub DecimalsAreRead : Type 0

@@ -7,7 +7,8 @@ use Rattle.gx_model.specs.Texts.{Bytes, cut_at}
 use Rattle.gx_model.specs.Texts.Idents.{is_ident}
 use Rattle.gx_model.specs.Texts.Paths.{char_at, unquote_within, quoted_of}
 use Rattle.gx_model.specs.Streams.Items.{counted_block, lines_before, delimited, first_line, first_of, read_upto, items_of}
-use Rattle.gx_model.specs.Streams.Grammar.{unsigned_in, item_after_in, rest_line_in, block_in, mark_of, commit_ish_of, last_path, source_path, modify_at, two_paths, change_at, changes_within, merges_within, blob_at, commit_at, links_at, tag_at, reset_at, command_at, commands_within}
+use Rattle.gx_model.specs.Streams.Grammar.{unsigned_in, item_after_in, modify_at, two_paths, change_at, changes_within, merges_within, blob_at, commit_at, links_at, tag_at, reset_at, command_at, commands_within}
+use Rattle.gx_model.specs.Streams.Lines.{rest_line_in, block_in, mark_of, commit_ish_of, last_path, source_path}
 use Rattle.gx_model.specs.Revisions.{revision_of}
 use Rattle.gx_model.specs.Streams.Spelling.{text_of_lines}
 use Rattle.gx_model.specs.Histories.Values.{Commit, commit, commit_value, none}

@@ -11,7 +11,8 @@ use Rattle.gx_model.specs.Texts.{Bytes}
 use Rattle.gx_model.specs.Streams.Items.{Stream}
 use Rattle.gx_model.specs.Streams.Commands as command
 use Rattle.gx_model.specs.Streams.Commands.{Change, Command, Inline, Mark, Modify, Object}
-use Rattle.gx_model.specs.Streams.Grammar.{commands_of, is_null}
+use Rattle.gx_model.specs.Streams.Grammar.{commands_of}
+use Rattle.gx_model.specs.Streams.Lines.{is_null}
 use Rattle.gx_model.specs.Histories.{History, IsHistory, no_history}
 use Rattle.gx_model.specs.Histories.Values.{commit_of}
 use Rattle.gx_model.specs.Export.{export_text}

@@ -2,7 +2,7 @@ use Rattle.std.proofs.Common.{◌≡◌, Bool, true, false, cond, Ok, Err, refl,
 use Rattle.gx_model.specs.Texts.{Bytes}
 use Rattle.gx_model.specs.Texts.Idents.{is_ident}
 use Rattle.gx_model.specs.Faults.{IsFaultOf}
-use Rattle.gx_model.specs.Streams.Grammar.{ident_of}
+use Rattle.gx_model.specs.Streams.Lines.{ident_of}
 use Rattle.gx_model.specs.declared.faults.Fault.TheVariants as faults
 use Rattle.gx_text.specs.declared.fault.TextFault.{TextFault}
 use Rattle.gx_text.specs.declared.fault.TextFault.TheVariants.{BadIdent}

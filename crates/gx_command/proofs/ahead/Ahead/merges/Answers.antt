@@ -2,7 +2,8 @@ use Rattle.std.proofs.Common.{arith}
 use Rattle.std.proofs.lemmas.List.{map-append}
 use Rattle.std.proofs.lemmas.Result.{err_from_is_err_and}
 use Rattle.std.specs.Prelude.{codes}
-use Rattle.gx_model.specs.Streams.Grammar.{optional, commit_ish_of, merges}
+use Rattle.gx_model.specs.Streams.Grammar.{merges}
+use Rattle.gx_model.specs.Streams.Lines.{optional, commit_ish_of}
 use Rattle.gx_command.specs.Views.{shown_commit_ish}
 use Rattle.gx_command.proofs.Unrolled.{merges_unrolled, collects_one, collects_all, collects_fails}
 use Rattle.gx_command.proofs.ahead.Ahead.merges.Goals as goal

@@ -1,5 +1,5 @@
 use Rattle.std.proofs.lemmas.Result.{err_from_is_err_and}
-use Rattle.gx_model.specs.Streams.Grammar.{commit_ish_of}
+use Rattle.gx_model.specs.Streams.Lines.{commit_ish_of}
 use Rattle.gx_command.specs.Views.{shown_commit_ish}
 use Rattle.gx_command.proofs.NeededLines.{needed_fails, needed_reads}
 use Rattle.gx_command.proofs.ahead.Ahead.needed_commit_ish.Goals as goal

@@ -1,5 +1,5 @@
 use Rattle.std.proofs.lemmas.Result.{err_from_is_err_and}
-use Rattle.gx_model.specs.Streams.Grammar.{ident_of}
+use Rattle.gx_model.specs.Streams.Lines.{ident_of}
 use Rattle.gx_command.specs.Views.{shown_ident}
 use Rattle.gx_command.proofs.NeededLines.{needed_fails, needed_reads}
 use Rattle.gx_command.proofs.ahead.Ahead.needed_ident.Goals as goal

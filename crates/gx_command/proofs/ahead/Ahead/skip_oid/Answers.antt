@@ -1,5 +1,5 @@
 use Rattle.std.proofs.Common.{rules}
-use Rattle.gx_model.specs.Streams.Grammar.{any_text}
+use Rattle.gx_model.specs.Streams.Lines.{any_text}
 use Rattle.gx_command.proofs.TakenLines.{reads_plain_line}
 use Rattle.gx_command.proofs.ahead.Ahead.skip_oid.Goals as goal
 

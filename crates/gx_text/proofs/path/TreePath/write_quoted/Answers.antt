@@ -1,7 +1,7 @@
 use Rattle.std.proofs.Common.{◌≡◌, ◌++◌, Ok, ap, sym, ◌∙◌}
 use Rattle.gx_model.specs.Texts.{Bytes}
 use Rattle.gx_model.specs.Texts.Paths.{Path, parts_of, path_of, path_text, printed}
-use Rattle.gx_model.specs.Streams.Grammar.{last_path}
+use Rattle.gx_model.specs.Streams.Lines.{last_path}
 use Rattle.gx_model.proofs.Texts.PathTexts.{text_of_parts}
 use Rattle.gx_text.proofs.path.TreePath.write_quoted.Goals as goal
 

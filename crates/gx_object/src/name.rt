@@ -1,15 +1,31 @@
 //! The names of objects.
 
-ghost use Rattle.std.specs.Prelude.{◌≡◌, ℕ, length, IsTrue, ◌↔◌};
+ghost use Rattle.std.specs.Prelude.{◌≡◌, ◌∷◌, ℕ, [], length, take, IsTrue, ◌↔◌};
 ghost use Rattle.std.specs.Option.{option_map};
 ghost use Rattle.std.specs.List.{list_all};
+ghost use Rattle.std.proofs.Common.{rules};
+ghost use Rattle.std.specs.Cmp.Rules.{hashing};
 ghost use Rattle.gx_model.specs.Objects.{hex, is_name};
 ghost use Rattle.gx_model.specs.Objects.Naming.{name_in, lower_name_in};
 
+use std::hash::{Hash, Hasher};
+
 /// The name of an object: 20 bytes, ordered byte by byte. Source: gitglossary(7), "object name".
-#[derive(Clone, Copy, Debug, PartialEq, Eq, PartialOrd, Ord, Hash)]
+#[derive(Clone, Copy, Debug, PartialEq, Eq, PartialOrd, Ord)]
 pub struct Name {
     pub bytes: [u8; 20],
+}
+
+/// Fed are the first eight bytes: a name is a digest, so these tell names apart as all of them would. Names that were made to
+/// begin alike fall together, whatever the key: two of them take 2^32 digests, and ten over 2^57.
+impl Hash for Name {
+    ghost hash_input = { λ name. take 8 name.bytes ∷ [] };
+
+    ghost respects_eq = { Prim.search (hashing, rules) };
+
+    fn hash<H: Hasher>(&self, state: &mut H) {
+        state.write(&self.bytes[..8]);
+    }
 }
 
 impl Name {

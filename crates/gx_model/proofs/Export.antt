@@ -8,5 +8,6 @@ pub mod SpelledExports
 pub mod ReadableExports
 pub mod FirstNulls
 pub mod ExportItems
+pub mod BeforeNulls
 pub mod RefusedCommits
 pub mod RefusedExports

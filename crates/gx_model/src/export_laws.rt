@@ -1,12 +1,18 @@
 //! Laws of the export text.
 ghost use Rattle.std.specs.Prelude.{List, ℕ};
-ghost use Rattle.gx_model.specs.Laws.ExportLaws.{CommandsAreItems, CommandsAreRead, CommitIsReplayed, CommitKeeps, ExportIsImported, ExportIsReplayed, ExportIsSpelled, FormedIsReadable, ItemsAreRead};
+ghost use Rattle.gx_model.specs.Laws.ExportLaws.{CommandsAreItems, CommandsAreRead, CommitIsReplayed, CommitKeeps, ExportIsImported, ExportIsReplayed, ExportIsSpelled, ExportsAreItems, FormedIsReadable, ItemsAreRead};
 ghost use Rattle.gx_model.specs.declared.objects.Kind.{Kind};
 
 /// The text of some items is read as these items, where each is a line that is no comment and announces no block, or a block.
 #[tactic(auto, using(crate::proofs::Streams::ItemTexts::items_read))]
 pub fn items_are_read()
     ensures items { ItemsAreRead }
+{}
+
+/// The text of any history's export is read as its items, to its end, if its length is below 2^64: also where refs reach a
+/// gitlink of forty zeros.
+pub fn exports_are_items()
+    ensures items { ExportsAreItems }
 {}
 
 /// The items of an export's commands are such items, and they are read as these commands.

@@ -1,6 +1,6 @@
 //! Laws of gitlinks of forty zeros: no stream brings one.
 ghost use Rattle.gx_model.specs.Histories.{no_history};
-ghost use Rattle.gx_model.specs.Streams.Gitlinks.{HoldsNoNullGitlink, HoldsTellsHas, NullGitlinksAreRefused, RefusalsKeepNone, ReplaysKeepNone, StreamsBringNone, TextsBringNone, TextsComeBack};
+ghost use Rattle.gx_model.specs.Streams.Gitlinks.{CommandsBeforeNullAreReplayed, HoldsNoNullGitlink, HoldsTellsHas, NullGitlinksAreRefused, NullGitlinksEndCommands, RefusalsKeepNone, ReplaysKeepNone, StreamsBringNone, TextsBringNone, TextsComeBack};
 
 /// No command that a stream has gives a gitlink of forty zeros.
 #[tactic(auto, using(crate::proofs::Streams::ReadGitlinks::none_brought))]
@@ -26,7 +26,11 @@ pub fn texts_come_back()
 {}
 
 /// Where refs reach a gitlink of forty zeros, as they may in a store that was opened, the import of the export's text into
-/// nothing is refused as Unsupported, if the text's length is below 2^64. Source: git-fast-import(1), "filemodify".
+/// nothing is refused as Unsupported at the first command that brings one, if the text's length is below 2^64. The commands
+/// before that one make no other values than the exported history has, so that no two of these have one name where its values
+/// have names of their own. Source: git-fast-import(1), "filemodify".
 pub fn nulls_are_refused()
-    ensures { NullGitlinksAreRefused }
+    ensures commands { NullGitlinksEndCommands }
+    ensures refused { NullGitlinksAreRefused }
+    ensures before { CommandsBeforeNullAreReplayed }
 {}

@@ -16,8 +16,8 @@ use Rattle.gx_model.specs.Histories.{History, IsHistory, IsIn}
 use Rattle.gx_model.specs.Streams.Items.{Line}
 use Rattle.gx_model.specs.Streams.Commands as command
 use Rattle.gx_model.specs.Streams.Commands.{Change, Clear, Command, CommitParts, Modify, Object}
-use Rattle.gx_model.specs.Export.{all_written, blob_commands, carrier, change_items, command_items, commit_command, commit_commands, contents, file_change, first_parent_mark, from_line, inner_commands, item_text, last_reset, mode_digits, one_commit, other_parent_marks, ref_command, root_reset, with_blobs, with_commit, word_line_if}
-use Rattle.gx_model.specs.Laws.ExportLaws.{IsOne, IsSpelledChange, IsSpelledCommit, between}
+use Rattle.gx_model.specs.Export.{all_written, blob_commands, carrier, change_items, command_items, commit_command, commit_commands, contents, file_change, first_parent_mark, from_line, export_items, inner_commands, item_text, last_reset, mode_digits, one_commit, other_parent_marks, reached_commits, ref_command, root_reset, with_blobs, with_commit, word_line_if}
+use Rattle.gx_model.specs.Laws.ExportLaws.{ExportsAreItems, IsOne, IsSpelledChange, IsSpelledCommit, between}
 use Rattle.gx_model.proofs.Texts.PathTests.{first, is_true, second}
 use Rattle.gx_model.proofs.Histories.FileMapEdits.{parts_of}
 use Rattle.gx_model.proofs.Export.KeptCommits.{FollowsAll, each_one, one_of_all, snoc_all}
@@ -27,7 +27,8 @@ use Rattle.gx_model.proofs.Streams.CommandItems.{merge_item}
 use Rattle.gx_model.proofs.Streams.SpelledItems.{AreItems, all_spelled, author_spelled, change_spelled, encoding_spelled, from_spelled, items_append, mark_spelled, merges_spelled, plain_line}
 use Rattle.gx_model.proofs.Texts.LineTexts.{ident_is_line, ref_is_line}
 use Rattle.gx_model.proofs.Export.CommitSteps.{are_leaves, blobs_have, blobs_keep, front_of, leaves_of, map_of, rest_of}
-use Rattle.gx_model.proofs.Export.ExportSteps.{proper_refs}
+use Rattle.gx_model.proofs.Streams.ItemTexts.{items_read}
+use Rattle.gx_model.proofs.Export.ExportSteps.{all_follow, peeled_ones, proper_refs}
 use Rattle.gx_model.proofs.Export.PublishedRefs.{ArePeeled}
 use Rattle.gx_model.proofs.Export.ReadableExports.{BlobsFit, CommandsFit, all_fit, all_text, blobs_fit, commands_left, commands_right, commits_count, count_append, fit_left, later_commit, message_fits, refs_fit}
 use Rattle.gx_model.proofs.Export.SpelledExports.{blobs_spelled, carrier_is_ref, dataref_spelled, last_spelled, more_commits, others_spelled, parent_spelled, refs_spelled, root_spelled, spelled_append}
@@ -200,3 +201,9 @@ module _ (h : History) (is : IsHistory h) (cs : List Commit) (known : AreExporte
         (two_parts (commit_commands [] cs) behind_commits (commits_items [] [] cs tt known.follows fitting marks_fit) refs_items)
         (record { line = refl; no_comment = refl; no_data = refl }, tt),
   )
+
+-- ---- read again
+
+pub exports_read : ExportsAreItems
+exports_read h is short =
+    items_read (export_items h) (export_is_items h is (reached_commits h) (record { follows = all_follow h is; peeled = peeled_ones h is; fits = short }))

@@ -8,7 +8,7 @@ use Rattle.std.specs.Prelude.{T}
 use Rattle.gx_model.specs.Streams.Commands.{Command}
 use Rattle.gx_model.specs.Revisions.Denotation.{ref_at}
 use Rattle.gx_model.specs.Export.{all_written, carrier, commit_commands, export_commands, inner_commands, is_reached, last_reset, one_commit, reached_commits, ref_command, with_commit}
-use Rattle.gx_model.specs.Laws.ExportLaws.{HoldsWhat, IsAgain, IsOne, IsReached, carried, exported_report, state_at, steps, values_with_commit}
+use Rattle.gx_model.specs.Laws.ExportLaws.{AnyReaches, HoldsWhat, IsAgain, IsOne, IsReached, carried, exported_report, state_at, steps, values_with_commit}
 use Rattle.gx_model.specs.Faults.{◌>>=◌}
 use Rattle.gx_model.specs.Histories.{History, IsHistory, IsIn, IsWhole, Target, no_history, value_at}
 use Rattle.gx_model.specs.Replay.{Outcome, State, ended, final, final_refs, finished, is_fast_forward, is_forward, peeled_at, refused, replayed, report, start, step}
@@ -84,7 +84,7 @@ carried_sorted : (cs : List Commit) → T (is_sorted byte_cmp (carried (after_re
 carried_sorted [] = tt
 carried_sorted (c ∷ cs) = tt
 
-all_forward : (us : List Value) (bs : Branches) → list_all (λ b. is_forward (ref_at (record { values = us; refs = [] }) b.0) b.1) bs ≡ true
+pub all_forward : (us : List Value) (bs : Branches) → list_all (λ b. is_forward (ref_at (record { values = us; refs = [] }) b.0) b.1) bs ≡ true
 all_forward us [] = refl
 all_forward us (b ∷ bs) = all_forward us bs
 
@@ -101,6 +101,16 @@ peeled_ones h x =
     let held = commits_keep [] [] [] cs none_held (all_follow h x) in
     all_two (λ r. IsIn h.values (value_at r.1)) (λ r. T (is_reached h.refs (peeled_at r.1))) (λ r. IsIn (all_written cs) (commit_value (peeled_at r.1)))
     (λ r a b. one_of_all (λ c. IsIn (all_written cs) (commit_value c)) cs (peeled_at r.1) held.commits (one_filter (is_reached h.refs) (filter_map commit_of h.values) (peeled_at r.1) (among h.values (peeled_at r.1) (target_held h.values whole r.1 a)) b)) h.refs x.held (all_reached h.refs)
+
+-- what the commits that refs reach are made of is held
+pub reach_held : (h : History) → IsHistory h → (u : Value) → AnyReaches (map commit_value (reached_commits h)) u → IsIn h.values u
+reach_held h x u r =
+    let a = any_from (map (λ s. value_at s.1) h.refs) u (commits_reached h.refs (reached_commits h) u (all_pass (is_reached h.refs) (filter_map commit_of h.values)) r) in
+    reached_held h.values (record { closed = x.closed; proper = x.proper }) a.0 u a.2 (all_in (IsIn h.values) (map (λ s. value_at s.1) h.refs) a.0 (targets h.refs x.held) a.1)
+  where
+    targets : (rs : Refs) → AllByRecursion (λ s. IsIn h.values (value_at s.1)) rs → AllByRecursion (IsIn h.values) (map (λ s. value_at s.1) rs)
+    targets [] g = tt
+    targets (s ∷ rs) g = (g.0, targets rs g.1)
 
 pub proper_refs : (h : History) → IsHistory h → AllByRecursion (λ r. T (is_proper (value_at r.1))) h.refs
 proper_refs h x = proper_all h.refs x.held where

@@ -23,7 +23,7 @@ use Rattle.gx_model.specs.Texts.Digits.{is_name_text}
 use Rattle.gx_model.specs.Histories.{History, IsHistory, IsIn, IsWhole, Reaches, Target, at_commit, at_tag, is_in, no_history, value_at, with_one, with_value}
 use Rattle.gx_model.specs.Replay.{Report, State, finished, replayed, replayed_text, start, step}
 use Rattle.std.specs.Option.{unwrap_or}
-use Rattle.gx_model.specs.Export.{all_written, carrier, command_items, contents, export_commands, export_text, inner_commands, item_text, one_commit, reached_commits, with_commit}
+use Rattle.gx_model.specs.Export.{all_written, carrier, command_items, contents, export_commands, export_items, export_text, inner_commands, item_text, one_commit, reached_commits, with_commit}
 
 -- a line with no LF that is no comment and announces no block
 pub record IsItemLine (l : Bytes) : Type 0 where
@@ -39,6 +39,12 @@ IsItem (Data x) = length x < 2 ^ 64
 -- items are read again
 abbrev pub ItemsAreRead : Type 0
 ItemsAreRead = (is : List Item) → AllByRecursion IsItem is → items_of (flat_map item_text is) false ≡ record { items = is; end = Finished }
+
+-- the text of any history's export is read as its items, whatever gitlinks it has
+abbrev pub ExportsAreItems : Type 0
+ExportsAreItems =
+    (h : History) → IsHistory h → length (export_text h) < 2 ^ 64
+    → items_of (export_text h) false ≡ record { items = export_items h; end = Finished }
 
 -- ---- commands
 

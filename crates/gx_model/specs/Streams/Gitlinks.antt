@@ -1,21 +1,21 @@
 -- Gitlinks of forty zeros: no command of a stream gives one, so that an import makes no commit with one, and its export can be
 -- imported.
 -- Source: git-fast-import(1), "filemodify".
-use Rattle.std.specs.Prelude.{◌≡◌, ℕ, ◌<◌, ◌^◌, Bool, false, List, [], length, Option, ⊤}
-use Rattle.std.specs.List.{AllByRecursion, filter_map}
+use Rattle.std.specs.Prelude.{◌≡◌, ℕ, ◌+◌, ◌<◌, ◌^◌, Bool, false, not, List, [], length, Option, None, Some, ⊤}
+use Rattle.std.specs.List.{AllByRecursion, filter_map, list_any, take_while}
 use Rattle.gx_model.specs.declared.faults.Fault.{Fault}
 use Rattle.gx_model.specs.declared.faults.Fault.TheVariants.{Unsupported}
 use Rattle.gx_model.specs.declared.objects.Kind.{Kind}
 use Rattle.gx_model.specs.declared.objects.Mode.TheVariants.{Gitlink}
 use Rattle.gx_model.specs.Texts.{Bytes}
-use Rattle.gx_model.specs.Streams.Items.{Stream}
+use Rattle.gx_model.specs.Streams.Items.{Stream, items_of}
 use Rattle.gx_model.specs.Streams.Commands as command
 use Rattle.gx_model.specs.Streams.Commands.{Change, Command, Inline, Mark, Modify, Object}
 use Rattle.gx_model.specs.Streams.Grammar.{commands_of}
 use Rattle.gx_model.specs.Streams.Lines.{is_null}
-use Rattle.gx_model.specs.Histories.{History, IsHistory, no_history}
-use Rattle.gx_model.specs.Histories.Values.{commit_of}
-use Rattle.gx_model.specs.Export.{export_text}
+use Rattle.gx_model.specs.Histories.{History, IsHistory, IsIn, no_history}
+use Rattle.gx_model.specs.Histories.Values.{Value, commit_of}
+use Rattle.gx_model.specs.Export.{export_commands, export_text}
 use Rattle.gx_model.specs.Replay.{Kept, Report, finished, refused, replayed, replayed_text, start}
 use Rattle.gx_model.specs.Laws.ExportLaws.{HasNoNullGitlink, HaveNoNullGitlink, IsAgain, exported_report}
 
@@ -32,6 +32,20 @@ GivesNoNullGitlink _ = ⊤
 abbrev pub BringsNoNullGitlink : Command → Type 0
 BringsNoNullGitlink (command.Commit c) = AllByRecursion GivesNoNullGitlink c.changes
 BringsNoNullGitlink _ = ⊤
+
+-- whether a change gives a gitlink of forty zeros
+abbrev pub gives_null : Change → Bool
+gives_null (Modify Gitlink (Object digits) path) = is_null digits
+gives_null _ = false
+
+-- whether a change of the command gives one
+abbrev pub brings_null : Command → Bool
+brings_null (command.Commit c) = list_any gives_null c.changes
+brings_null _ = false
+
+-- the commands of an export before the first that brings one
+abbrev pub commands_before_null : History → List Command
+commands_before_null h = take_while (λ c. not (brings_null c)) (export_commands h)
 
 -- ---- histories
 
@@ -79,9 +93,23 @@ TextsComeBack =
     → replayed_text name no_history given fails ≡ finished h text report → length (export_text h) < 2 ^ 64
     → (k : History) × IsAgain h k × (replayed_text name no_history (export_text h) false ≡ finished k [] (exported_report h k))
 
--- Where refs reach one, which no text brings but a store may hold, the history's export is refused: what it writes can't be read.
+-- Where refs reach one, which no text brings but a store may hold, the text of the history's export has the commands before the
+-- first that brings one, and no more can be read.
+abbrev pub NullGitlinksEndCommands : Type 0
+NullGitlinksEndCommands =
+    (h : History) → IsHistory h → (HasNoNullGitlink h → ⊥) → length (export_text h) < 2 ^ 64
+    → commands_of (items_of (export_text h) false) ≡ record { list = commands_before_null h; fault = Some Unsupported }
+
+-- so its import is refused, at that command
 abbrev pub NullGitlinksAreRefused : Type 0
 NullGitlinksAreRefused =
     (name : Kind → Bytes → Bytes) (h : History)
     → IsHistory h → (HasNoNullGitlink h → ⊥) → length (export_text h) < 2 ^ 64
-    → (n : ℕ) × (replayed_text name no_history (export_text h) false ≡ refused n Unsupported [] (start no_history).kept)
+    → replayed_text name no_history (export_text h) false ≡ refused (length (commands_before_null h) + 1) Unsupported [] (start no_history).kept
+
+-- The commands before it make no other values than the history has, and meet no fault.
+abbrev pub CommandsBeforeNullAreReplayed : Type 0
+CommandsBeforeNullAreReplayed =
+    (name : Kind → Bytes → Bytes) (h : History) → IsHistory h
+    → (k : History) × (report : Report) × ((u : Value) → IsIn k.values u → IsIn h.values u)
+    × (replayed name 0 (start no_history) (commands_before_null h) None ≡ finished k [] report)

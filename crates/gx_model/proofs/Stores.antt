@@ -4,3 +4,4 @@ pub mod RecordLines
 pub mod StoredRecords
 pub mod StoredRefs
 pub mod ReadStores
+pub mod OneStore

@@ -2,9 +2,9 @@
 use Rattle.std.proofs.Common.{◌≡◌, ℕ, ◌+◌, ◌≤◌, ◌<◌, ◌^◌, refl, sym, ap, subst, ◌∙◌, List, [], ◌∷◌, ◌++◌, length, None, Ok, codes, arith, append_assoc, length-append}
 use Rattle.std.specs.Bool.{passes}
 use Rattle.std.specs.List.{AllByRecursion, flat_map}
-use Rattle.std.specs.Fmt.{decimal}
 use Rattle.gx_model.specs.declared.objects.Kind.{Kind}
 use Rattle.gx_model.specs.declared.store_versions.Version.{Version}
+use Rattle.gx_model.specs.Texts.Numbers.{number_text}
 use Rattle.gx_model.specs.Texts.{Bytes}
 use Rattle.gx_model.specs.Faults.{◌>>=◌}
 use Rattle.gx_model.specs.Objects.{IsNamer, hex, line}
@@ -26,20 +26,20 @@ grouped a b c d e f g = simp append_assoc
 
 -- a text of this many records and refs, grouped to the right
 abbrev pub text_of : Version → ℕ → List Record → ℕ → List (Bytes × Bytes) → Bytes → Bytes
-text_of v n rs m xs rest = line (codes "gxstore") (version_text v) ++ (line (codes "objects") (decimal n) ++ (flat_map (stored_record v) rs ++ (line (codes "refs") (decimal m) ++ (flat_map stored_ref xs ++ rest))))
+text_of v n rs m xs rest = line (codes "gxstore") (version_text v) ++ (line (codes "objects") (number_text n) ++ (flat_map (stored_record v) rs ++ (line (codes "refs") (number_text m) ++ (flat_map stored_ref xs ++ rest))))
 
 -- the text of a repository, grouped to the right
-store_text_flat : (v : Version) (r : Records) → store_text v r ≡ text_of v (length r.records) r.records (length r.refs) r.refs (codes "end" ++ 10 ∷ [])
+pub store_text_flat : (v : Version) (r : Records) → store_text v r ≡ text_of v (length r.records) r.records (length r.refs) r.refs (codes "end" ++ 10 ∷ [])
 unfolding store_text
 store_text_flat v r =
-    grouped (line (codes "gxstore") (version_text v)) (line (codes "objects") (decimal (length r.records))) (flat_map (stored_record v) r.records) (line (codes "refs") (decimal (length r.refs))) (flat_map stored_ref r.refs) (codes "end") (10 ∷ [])
+    grouped (line (codes "gxstore") (version_text v)) (line (codes "objects") (number_text (length r.records))) (flat_map (stored_record v) r.records) (line (codes "refs") (number_text (length r.refs))) (flat_map stored_ref r.refs) (codes "end") (10 ∷ [])
 
 -- the version in the first line of a text
-told_version : (v : Version) (r : Records) → after_magic (store_text v r) ≡ Ok (v, line (codes "objects") (decimal (length r.records)) ++ (flat_map (stored_record v) r.records ++ (line (codes "refs") (decimal (length r.refs)) ++ (flat_map stored_ref r.refs ++ (codes "end" ++ 10 ∷ [])))))
+pub told_version : (v : Version) (r : Records) → after_magic (store_text v r) ≡ Ok (v, line (codes "objects") (number_text (length r.records)) ++ (flat_map (stored_record v) r.records ++ (line (codes "refs") (number_text (length r.refs)) ++ (flat_map stored_ref r.refs ++ (codes "end" ++ 10 ∷ [])))))
 told_version v r = ap after_magic (store_text_flat v r) ∙ magic_read v _
 
 -- one text is of one version
-one_version : (v w : Version) (r s : Records) → store_text v r ≡ store_text w s → v ≡ w
+pub one_version : (v w : Version) (r s : Records) → store_text v r ≡ store_text w s → v ≡ w
 one_version v w r s e = let same = ok_is _ _ (sym (told_version v r) ∙ ap after_magic e ∙ told_version w s) in ap (λ (z : Version × Bytes). z.0) same
 
 -- ---- lengths
@@ -141,9 +141,9 @@ module _ (name : Kind → Bytes → Bytes) where
         let spelled : text ≡ text_of v b.0.0 c.0.0 d.0.0 f.0.0 (codes "end" ++ 10 ∷ []) =
         magic_of text a.0 a.1
         ∙ ap (λ z. line (codes "gxstore") (version_text v) ++ z) (count_of (codes "objects") a.0.1 b.0 b.1)
-        ∙ ap (λ z. line (codes "gxstore") (version_text v) ++ (line (codes "objects") (decimal b.0.0) ++ z)) (q.spelled ∙ ap (λ z. flat_map (stored_record v) z ++ c.0.1) (sym q.whole))
-        ∙ ap (λ z. line (codes "gxstore") (version_text v) ++ (line (codes "objects") (decimal b.0.0) ++ (flat_map (stored_record v) c.0.0 ++ z))) (count_of (codes "refs") c.0.1 d.0 d.1)
-        ∙ ap (λ z. line (codes "gxstore") (version_text v) ++ (line (codes "objects") (decimal b.0.0) ++ (flat_map (stored_record v) c.0.0 ++ (line (codes "refs") (decimal d.0.0) ++ z)))) s.spelled
+        ∙ ap (λ z. line (codes "gxstore") (version_text v) ++ (line (codes "objects") (number_text b.0.0) ++ z)) (q.spelled ∙ ap (λ z. flat_map (stored_record v) z ++ c.0.1) (sym q.whole))
+        ∙ ap (λ z. line (codes "gxstore") (version_text v) ++ (line (codes "objects") (number_text b.0.0) ++ (flat_map (stored_record v) c.0.0 ++ z))) (count_of (codes "refs") c.0.1 d.0 d.1)
+        ∙ ap (λ z. line (codes "gxstore") (version_text v) ++ (line (codes "objects") (number_text b.0.0) ++ (flat_map (stored_record v) c.0.0 ++ (line (codes "refs") (number_text d.0.0) ++ z)))) s.spelled
         ∙ ap (text_of v b.0.0 c.0.0 d.0.0 f.0.0) (end_of f.0.1 g.0 g.1) in
         let counted : text_of v b.0.0 c.0.0 d.0.0 f.0.0 (codes "end" ++ 10 ∷ []) ≡ text_of v (length c.0.0) c.0.0 (length f.0.0) f.0.0 (codes "end" ++ 10 ∷ []) =
         λ i. text_of v (sym (ap length q.whole ∙ q.count) i) c.0.0 (sym s.count i) f.0.0 (codes "end" ++ 10 ∷ []) in
@@ -166,28 +166,19 @@ module _ (name : Kind → Bytes → Bytes) where
         let xs = r.refs in
         let ends = codes "end" ++ 10 ∷ [] in
         let refs_text = flat_map stored_ref xs ++ ends in
-        let objects_text = flat_map (stored_record v) rs ++ (line (codes "refs") (decimal (length xs)) ++ refs_text) in
-        let short = parts_short (line (codes "gxstore") (version_text v)) (line (codes "objects") (decimal (length rs))) (flat_map (stored_record v) rs) (line (codes "refs") (decimal (length xs))) (flat_map stored_ref xs) ends (2 ^ 64)
+        let objects_text = flat_map (stored_record v) rs ++ (line (codes "refs") (number_text (length xs)) ++ refs_text) in
+        let short = parts_short (line (codes "gxstore") (version_text v)) (line (codes "objects") (number_text (length rs))) (flat_map (stored_record v) rs) (line (codes "refs") (number_text (length xs))) (flat_map stored_ref xs) ends (2 ^ 64)
         (subst (λ t. length t < 2 ^ 64) (store_text_flat v r) h) in
         let few = fewer (length rs) (length (flat_map (stored_record v) rs)) (2 ^ 64) (many_bytes (stored_record v) (record_some v) rs) short.0 in
         let few_refs = fewer (length xs) (length (flat_map stored_ref xs)) (2 ^ 64) (many_bytes stored_ref (λ x. line_some (hex x.1) x.0) xs) short.1 in
         let alone : IsSound name (record { records = rs; refs = [] }) = record { named = i.named; distinct = i.distinct; linked = i.linked; paths = i.paths; sorted = refl; ref_names = refl; held = tt } in
         ap (store_of name) (store_text_flat v r)
-        ∙ ap (λ s. s >>= records_count) (magic_read v (line (codes "objects") (decimal (length rs)) ++ objects_text))
+        ∙ ap (λ s. s >>= records_count) (magic_read v (line (codes "objects") (number_text (length rs)) ++ objects_text))
         ∙ ap (λ s. s >>= records_rest v) (count_read (codes "objects") (length rs) objects_text tt few)
-        ∙ ap (λ s. s >>= refs_count) (records_read name v namer [] rs (line (codes "refs") (decimal (length xs)) ++ refs_text) alone (bodies_short v (2 ^ 64) rs short.0))
+        ∙ ap (λ s. s >>= refs_count) (records_read name v namer [] rs (line (codes "refs") (number_text (length xs)) ++ refs_text) alone (bodies_short v (2 ^ 64) rs short.0))
         ∙ ap (λ s. s >>= refs_rest rs) (count_read (codes "refs") (length xs) refs_text tt few_refs)
         ∙ ap (λ s. s >>= whole rs) (refs_read rs None xs ends (targets_name name namer rs i.distinct i.named xs i.held) (passes _ i.ref_names) (targets_test rs i.distinct xs i.held) tt (passes _ i.sorted))
         ∙ ap (λ s. s >>= λ u. Ok (record { records = rs; refs = xs })) end_read
       where
         fewer : (n m limit : ℕ) → n ≤ m → m < limit → n < limit
         fewer n m limit a b = omega arith
-
-    -- repositories with one text, of whichever versions, are one
-    same_store : (v w : Version) (r s : Records) → IsSound name r → IsSound name s → length (store_text v r) < 2 ^ 64 → store_text v r ≡ store_text w s → r ≡ s
-    same_store v w r s i j h e =
-        ok_is r s (sym (stores_read v r i h) ∙ ap (store_of name) e ∙ stores_read w s j (subst (λ t. length t < 2 ^ 64) e h))
-
-    -- one text is of one version, and of one repository
-    pub one_store : (v w : Version) (r s : Records) → IsSound name r → IsSound name s → length (store_text v r) < 2 ^ 64 → store_text v r ≡ store_text w s → (v ≡ w) × (r ≡ s)
-    one_store v w r s i j h e = (one_version v w r s e, same_store v w r s i j h e)

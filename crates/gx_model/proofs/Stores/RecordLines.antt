@@ -4,11 +4,11 @@ use Rattle.std.specs.Prelude.{T}
 use Rattle.std.specs.Bool.{passes}
 use Rattle.std.specs.Option.{option_and_then}
 use Rattle.std.specs.Map.{lookup}
-use Rattle.std.specs.Fmt.{decimal}
 use Rattle.gx_model.specs.declared.objects.Kind.{Kind}
 use Rattle.gx_model.specs.declared.objects.Kind.TheVariants as kind
 use Rattle.gx_model.specs.declared.store_versions.Version.{Version}
 use Rattle.gx_model.specs.declared.store_versions.Version.TheVariants.{One, Two}
+use Rattle.gx_model.specs.Texts.Numbers.{number_text}
 use Rattle.gx_model.specs.Texts.{Bytes, cut_at, is_line, lacks, same_bytes}
 use Rattle.gx_model.specs.Texts.Digits.{is_name_text}
 use Rattle.gx_model.specs.Objects.{hex, is_name, unhex}
@@ -18,14 +18,14 @@ use Rattle.gx_model.specs.Stores.StoreReading.{Length, is_stated, kind_words, le
 use Rattle.gx_model.proofs.Texts.PathTests.{both, is_same, is_true, same_is}
 use Rattle.gx_model.proofs.Texts.Cuts.{cut_after, cut_spelled}
 use Rattle.gx_model.proofs.Texts.LineTexts.{line_append}
-use Rattle.gx_model.proofs.Streams.CommandFields.{mark_no_space}
+use Rattle.gx_model.proofs.Streams.CommandFields.{number_no_space}
 use Rattle.gx_model.proofs.Texts.HexDigits.{one_unhex}
 use Rattle.gx_model.proofs.ObjectTexts.OneTree.{digits_of, forty, unhex_long}
 use Rattle.gx_model.proofs.Records.OneHistory.{hex_line}
 use Rattle.gx_model.proofs.ObjectTexts.BodiesReadBack.{bytes_name, unhex_hex}
 use Rattle.gx_model.proofs.ObjectTexts.TreePaths.{unhex_bytes}
 use Rattle.gx_model.proofs.Records.ReadRecords.{hex_text}
-use Rattle.gx_model.proofs.Stores.StoreTexts.{both_some, decimal_line, number_of, number_read}
+use Rattle.gx_model.proofs.Stores.StoreTexts.{both_some, number_line, number_of, number_read}
 
 -- ---- digits
 
@@ -62,32 +62,32 @@ digits_state digits name n y e s = by (is_name_text digits) refl e
         let stated : is_stated (Some (unhex digits)) name ≡ true = ap (λ (z : Length). is_stated z.1 name) same ∙ s in
         (ap (λ (z : Length). z.0) same, sym (hex_unhex digits (passes _ h)) ∙ ap hex (same_is (unhex digits) name (passes _ stated)))
 
--- a length is a decimal, with the digits of the name that it states
+-- a length is a number's text, with the digits of the name that it states
 field_of : (v : Version) (x name : Bytes) (y : Length) → length_field v x ≡ Some y → is_stated y.1 name ≡ true → x ≡ length_text v y.0 name
 field_of One x name y e s =
     let p = both_some (λ (n : ℕ). Some (n, None)) (stored_number x) y e in
     let same : ◌≡◌ {A = Length} (p.0, None) y = cc (p.2) in
-    number_of x p.0 p.1 ∙ ap (λ (z : Length). decimal z.0) same
+    number_of x p.0 p.1 ∙ ap (λ (z : Length). number_text z.0) same
 field_of Two x name y e s =
     let p = both_some (λ q. option_and_then (with_digits q.1) (stored_number q.0)) (cut_at 32 x) y e in
     let n = both_some (with_digits p.0.1) (stored_number p.0.0) y p.2 in
     let d = digits_state p.0.1 name n.0 y n.2 s in
-    cut_spelled 32 x p.0 p.1 ∙ (λ i. number_of p.0.0 n.0 n.1 i ++ 32 ∷ d.1 i) ∙ ap (λ m. decimal m ++ 32 ∷ hex name) d.0
+    cut_spelled 32 x p.0 p.1 ∙ (λ i. number_of p.0.0 n.0 n.1 i ++ 32 ∷ d.1 i) ∙ ap (λ m. number_text m ++ 32 ∷ hex name) d.0
 
 -- a length's text is read
 field_read : (v : Version) (n : ℕ) (name : Bytes) → n < 2 ^ 64 → T (is_name name) → length_field v (length_text v n name) ≡ Some (n, stated_name v name)
 field_read One n name l h = ap (option_and_then (λ (m : ℕ). Some (m, None))) (number_read n l)
 field_read Two n name l h =
     let text = hex_text name h in
-    ap (option_and_then (λ q. option_and_then (with_digits q.1) (stored_number q.0))) (cut_after 32 (decimal n) (hex name) (mark_no_space n l))
+    ap (option_and_then (λ q. option_and_then (with_digits q.1) (stored_number q.0))) (cut_after 32 (number_text n) (hex name) (number_no_space n))
     ∙ ap (option_and_then (with_digits (hex name))) (number_read n l)
     ∙ ap (λ b. cond b (Some (n, Some (unhex (hex name)))) None) (is_true _ text)
     ∙ ap (λ z. Some (n, Some z)) (unhex_hex name (bytes_name name h))
 
 -- a length's text has no LF
-pub length_is_line : (v : Version) (n : ℕ) (name : Bytes) → n < 2 ^ 64 → T (is_line (length_text v n name))
-length_is_line One n name l = decimal_line n l
-length_is_line Two n name l = passes _ (line_append (decimal n) (32 ∷ hex name) (is_true _ (decimal_line n l)) (is_true _ (hex_line name)))
+pub length_is_line : (v : Version) (n : ℕ) (name : Bytes) → T (is_line (length_text v n name))
+length_is_line One n name = number_line n
+length_is_line Two n name = passes _ (line_append (number_text n) (32 ∷ hex name) (is_true _ (number_line n)) (is_true _ (hex_line name)))
 
 -- ---- kinds
 

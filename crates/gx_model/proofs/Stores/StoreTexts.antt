@@ -1,10 +1,12 @@
 -- The lines of a store text: each is read again, and whatever is read is spelled so.
-use Rattle.std.proofs.Common.{◌≡◌, ℕ, ◌+◌, ◌<◌, ◌^◌, Bool, true, false, cond, refl, sym, ap, ◌∙◌, [], ◌∷◌, ◌++◌, length, take, drop, Option, None, Some, Ok, Err, codes, arith, append_assoc, suc}
-use Rattle.std.specs.Prelude.{T, not, ◌||◌, nat_eq, nat_lt}
+use Rattle.std.proofs.Common.{◌≡◌, ℕ, ◌+◌, ◌<◌, ◌^◌, Bool, true, false, cond, refl, sym, ap, subst, ◌∙◌, [], ◌∷◌, ◌++◌, length, take, drop, Option, None, Some, Ok, Err, codes, arith, append_assoc, suc}
+use Rattle.std.specs.Prelude.{T, not, ◌&&◌, ◌||◌, nat_eq, nat_lt}
 use Rattle.std.specs.Bool.{passes}
-use Rattle.std.specs.List.{starts_with}
-use Rattle.std.specs.Option.{ok_or, option_and_then}
 use Rattle.std.specs.Fmt.{decimal}
+use Rattle.std.specs.Char.{is_ascii_digit}
+use Rattle.std.specs.Str.Parse.{digits_value}
+use Rattle.std.specs.List.{list_all, starts_with}
+use Rattle.std.specs.Option.{ok_or, option_and_then}
 use Rattle.std.proofs.Math.Seq.{drop-append-add}
 use Rattle.std.proofs.lemmas.Bool.{not-true}
 use Rattle.std.proofs.lemmas.Bool.Decides.{Decides-eqb, nat_tests}
@@ -15,14 +17,14 @@ use Rattle.gx_model.specs.declared.store_versions.Version.TheVariants.{One, Two}
 use Rattle.gx_model.specs.declared.store_faults.FileFault.{FileFault}
 use Rattle.gx_model.specs.declared.store_faults.FileFault.TheVariants as fault
 use Rattle.gx_model.specs.Texts.{Bytes, cut_at, is_line, lacks, same_bytes}
-use Rattle.gx_model.specs.Texts.Numbers.{decimal_of}
+use Rattle.gx_model.specs.Texts.Numbers.{decimal_of, is_number, number_text}
 use Rattle.gx_model.specs.Faults.{◌>>=◌}
 use Rattle.gx_model.specs.Objects.{line}
 use Rattle.gx_model.specs.Stores.StoreText.{version_text}
 use Rattle.gx_model.specs.Stores.StoreReading.{Stored, after_magic, after_word, if_written_so, only_if, stored_body, stored_count, stored_end, stored_line, stored_number, version_of}
 use Rattle.gx_model.proofs.Texts.PathTests.{first, is_same, is_true, same_is, second}
 use Rattle.gx_model.proofs.Texts.Cuts.{cut_after, cut_spelled}
-use Rattle.gx_model.proofs.Texts.Decimals.{decimal_digits, decimal_read}
+use Rattle.gx_model.proofs.Texts.Decimals.{decimal_read, text_digits, text_is_decimal}
 use Rattle.gx_model.proofs.Texts.LineTexts.{digits_are_line, line_append}
 use Rattle.gx_model.proofs.Records.OneHistory.{line_flat}
 
@@ -98,21 +100,35 @@ word_read w x =
 
 -- ---- numbers
 
--- a number is written as decimals are
-pub number_of : (x : Bytes) (n : ℕ) → stored_number x ≡ Some n → x ≡ decimal n
-number_of x n e = let p = both_some (if_written_so x) (decimal_of x) n e in by p.0 (same_bytes (decimal p.0) x) refl p.2
+-- a number that is read is below 2^64
+number_small : (x : Bytes) (n : ℕ) → decimal_of x ≡ Some n → n < 2 ^ 64
+number_small x n e = by (is_number x) refl e
   where
-    by : (m : ℕ) (b : Bool) → same_bytes (decimal m) x ≡ b → cond b (Some m) None ≡ Some n → x ≡ decimal n
-    by m true k i = let j : m ≡ n = cc i in sym (same_is (decimal m) x (passes _ k)) ∙ ap decimal j
-    by m false k i = absurd (cc)
+    by : (b : Bool) → is_number x ≡ b → cond b (Some (digits_value 10 x)) None ≡ Some n → n < 2 ^ 64
+    by false h i = absurd (cc)
+    by true h i =
+        let small : nat_lt (digits_value 10 x) (2 ^ 64) ≡ true = is_true _ (second (list_all is_ascii_digit x && nat_lt 0 (length x)) _ (passes _ h)) in
+        let same : digits_value 10 x ≡ n = cc i in
+        let below : digits_value 10 x < 2 ^ 64 = grind (arith, nat_tests) in
+        subst (λ m. m < 2 ^ 64) same below
 
--- a decimal is read as its number
-pub number_read : (n : ℕ) → n < 2 ^ 64 → stored_number (decimal n) ≡ Some n
-number_read n h = ap (option_and_then (if_written_so (decimal n))) (decimal_read n h) ∙ ap (λ b. cond b (Some n) None) (is_true _ (is_same (decimal n) (decimal n) refl))
+-- a number is written as its text
+pub number_of : (x : Bytes) (n : ℕ) → stored_number x ≡ Some n → x ≡ number_text n
+number_of x n e = let p = both_some (if_written_so x) (decimal_of x) n e in by p.0 (number_small x p.0 p.1) (same_bytes (decimal p.0) x) refl p.2
+  where
+    by : (m : ℕ) → m < 2 ^ 64 → (b : Bool) → same_bytes (decimal m) x ≡ b → cond b (Some m) None ≡ Some n → x ≡ number_text n
+    by m l true k i = let j : m ≡ n = cc i in sym (same_is (decimal m) x (passes _ k)) ∙ sym (text_is_decimal m l) ∙ ap number_text j
+    by m l false k i = absurd (cc)
 
--- a decimal is a line
-pub decimal_line : (n : ℕ) → n < 2 ^ 64 → T (is_line (decimal n))
-decimal_line n h = passes _ (digits_are_line (decimal n) (decimal_digits n h))
+-- a number's text is read as the number
+pub number_read : (n : ℕ) → n < 2 ^ 64 → stored_number (number_text n) ≡ Some n
+number_read n h =
+    ap stored_number (text_is_decimal n h) ∙ ap (option_and_then (if_written_so (decimal n))) (decimal_read n h)
+    ∙ ap (λ b. cond b (Some n) None) (is_true _ (is_same (decimal n) (decimal n) refl))
+
+-- a number's text is a line
+pub number_line : (n : ℕ) → T (is_line (number_text n))
+number_line n = passes _ (digits_are_line (number_text n) (text_digits n))
 
 -- ---- counts
 
@@ -121,20 +137,20 @@ abbrev count_rest : Bytes → Bytes × Bytes → Stored (ℕ × Bytes)
 count_rest w l = ok_or (option_and_then stored_number (after_word w l.0)) fault.BadRecord >>= λ n. Ok (n, l.1)
 
 -- a count stands in a line behind its word
-pub count_of : (w text : Bytes) (x : ℕ × Bytes) → stored_count w text ≡ Ok x → text ≡ line w (decimal x.0) ++ x.1
+pub count_of : (w text : Bytes) (x : ℕ × Bytes) → stored_count w text ≡ Ok x → text ≡ line w (number_text x.0) ++ x.1
 count_of w text x e =
     let p = both_steps (stored_line text) (count_rest w) x e in
     let q = both_steps (ok_or (option_and_then stored_number (after_word w p.0.0)) fault.BadRecord) (λ n. Ok (n, p.0.1)) x p.2 in
     let k = both_some stored_number (after_word w p.0.0) q.0 (if_there fault.BadRecord (option_and_then stored_number (after_word w p.0.0)) q.0 q.1) in
-    let spelled : p.0.0 ≡ w ++ 32 ∷ decimal q.0 = word_of w p.0.0 k.0 k.1 ∙ ap (λ z. w ++ 32 ∷ z) (number_of k.0 q.0 k.2) in
+    let spelled : p.0.0 ≡ w ++ 32 ∷ number_text q.0 = word_of w p.0.0 k.0 k.1 ∙ ap (λ z. w ++ 32 ∷ z) (number_of k.0 q.0 k.2) in
     let same : ◌≡◌ {A = ℕ × Bytes} (q.0, p.0.1) x = ok_is (q.0, p.0.1) x q.2 in
-    line_of text p.0 p.1 ∙ ap (λ z. z ++ 10 ∷ p.0.1) spelled ∙ line_text w (decimal q.0) p.0.1 ∙ ap (λ (z : ℕ × Bytes). line w (decimal z.0) ++ z.1) same
+    line_of text p.0 p.1 ∙ ap (λ z. z ++ 10 ∷ p.0.1) spelled ∙ line_text w (number_text q.0) p.0.1 ∙ ap (λ (z : ℕ × Bytes). line w (number_text z.0) ++ z.1) same
 
 -- a count's line is read as the count
-pub count_read : (w : Bytes) (n : ℕ) (r : Bytes) → T (is_line w) → n < 2 ^ 64 → stored_count w (line w (decimal n) ++ r) ≡ Ok (n, r)
+pub count_read : (w : Bytes) (n : ℕ) (r : Bytes) → T (is_line w) → n < 2 ^ 64 → stored_count w (line w (number_text n) ++ r) ≡ Ok (n, r)
 count_read w n r h l =
-    ap (λ s. s >>= count_rest w) (word_line_read w (decimal n) r h (decimal_line n l))
-    ∙ ap (λ o. ok_or (option_and_then stored_number o) fault.BadRecord >>= λ m. Ok (m, r)) (word_read w (decimal n))
+    ap (λ s. s >>= count_rest w) (word_line_read w (number_text n) r h (number_line n))
+    ∙ ap (λ o. ok_or (option_and_then stored_number o) fault.BadRecord >>= λ m. Ok (m, r)) (word_read w (number_text n))
     ∙ ap (λ o. ok_or o fault.BadRecord >>= λ m. Ok (m, r)) (number_read n l)
 
 -- ---- the first line and the last

@@ -120,7 +120,7 @@ module _ (name : Kind → Bytes → Bytes) (v : Version) where
       let w = kind_found k in
       let stated : Kind × Length = (k, (n, stated_name v r.name)) in
       ap (next_record name v rs) (record_flat v r rest)
-      ∙ ap (λ s. s >>= record_rest rs) (word_line_read (kind_word k) (length_text v n r.name) (body ++ 10 ∷ rest) w.2 (length_is_line v n r.name l))
+      ∙ ap (λ s. s >>= record_rest rs) (word_line_read (kind_word k) (length_text v n r.name) (body ++ 10 ∷ rest) w.2 (length_is_line v n r.name))
       ∙ ap (λ o. ok_or o fault.BadRecord >>= body_then rs (body ++ 10 ∷ rest)) (record_line_read v k n r.name l (name_is_name name namer k body))
       ∙ ap (λ s. s >>= taken_rest rs stated) (body_read body rest)
       ∙ ap (λ b. (only_if b fault.NameMismatch >>= λ u. admitted rs r (record_fault rs r)) >>= λ more. Ok (more, rest)) (stated_is_named v r.name)

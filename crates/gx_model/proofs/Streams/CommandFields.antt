@@ -16,7 +16,8 @@ use Rattle.gx_model.specs.Streams.Grammar.{AtMark, AtName, where_of, where_by}
 use Rattle.gx_model.specs.Streams.Lines.{mark_of, of_mark, mark_number, commit_ish_of, commit_ish_by, last_path}
 use Rattle.gx_model.specs.Laws.ExportLaws.{IsMark, IsLink, IsPath}
 use Rattle.gx_model.proofs.Texts.Idents.{and_one, and_two}
-use Rattle.gx_model.proofs.Texts.Decimals.{decimal_digits, decimal_read}
+use Rattle.gx_model.specs.Texts.Numbers.{number_text}
+use Rattle.gx_model.proofs.Texts.Decimals.{decimal_digits, decimal_read, text_digits}
 use Rattle.gx_model.proofs.Texts.PathTexts.{path_again}
 use Rattle.gx_model.proofs.Texts.Quotes.{path_printed}
 
@@ -49,6 +50,9 @@ digit_no_space b e = grind (arith, nat_tests)
 
 pub mark_no_space : (n : ℕ) → n < 2 ^ 64 → lacks 32 (58 ∷ decimal n) ≡ true
 mark_no_space n h = lacks-by is_ascii_digit digit_no_space (decimal n) (decimal_digits n h)
+
+pub number_no_space : (n : ℕ) → lacks 32 (number_text n) ≡ true
+number_no_space n = lacks-by is_ascii_digit digit_no_space (number_text n) (text_digits n)
 
 hex_no_space : (b : ℕ) → is_lower_digit b ≡ true → (b == 32) ≡ false
 hex_no_space b e = grind (arith, nat_tests)

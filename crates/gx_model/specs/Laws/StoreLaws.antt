@@ -50,5 +50,5 @@ pub record StoresAreRead (name : Kind → Bytes → Bytes) : Type 0 where
   pub read : (version : Version) (repository : Records) → IsSound name repository → length (store_text version repository) < 2 ^ 64
       → store_of name (store_text version repository) ≡ Ok repository
   pub only : (text : Bytes) (repository : Records) → store_of name text ≡ Ok repository → IsSound name repository × IsStoreText text repository
-  pub one : (version another : Version) (repository other : Records) → IsSound name repository → IsSound name other → length (store_text version repository) < 2 ^ 64
+  pub one : (version another : Version) (repository other : Records) → IsSound name repository → IsSound name other
       → store_text version repository ≡ store_text another other → (version ≡ another) × (repository ≡ other)

@@ -9,6 +9,7 @@ use Rattle.gx_model.specs.declared.store_versions.Version.{Version}
 use Rattle.gx_model.specs.declared.store_versions.Version.TheVariants.{One, Two}
 use Rattle.gx_model.specs.declared.store_faults.FileFault.{FileFault}
 use Rattle.gx_model.specs.declared.store_faults.FileFault.TheVariants as fault
+use Rattle.gx_model.specs.Texts.Numbers.{number_text}
 use Rattle.gx_model.specs.Texts.{Bytes, cut_at, same_bytes}
 use Rattle.gx_model.specs.Texts.Idents.{is_ident}
 use Rattle.gx_model.specs.Texts.Paths.{char_at, unquote_within, quoted_of}
@@ -70,7 +71,7 @@ pub record StoreRows : Type 0 where
   pub read_again : store_of name (store_text Two (records_of branches)) ≡ Ok (records_of branches)
 
 pub store_rows : StoreRows
-unfolding char_at unsigned_in item_after_in rest_line_in block_in cut_at is_ident unquote_within quoted_of mark_of commit_ish_of last_path source_path modify_at two_paths change_at changes_within merges_within blob_at commit_at links_at tag_at reset_at command_at commands_within counted_block lines_before delimited first_line first_of read_upto items_of digits revision_of imported_asked store_text store_of content_fault record_fault short_name
+unfolding char_at unsigned_in item_after_in rest_line_in block_in cut_at is_ident unquote_within quoted_of mark_of commit_ish_of last_path source_path modify_at two_paths change_at changes_within merges_within blob_at commit_at links_at tag_at reset_at command_at commands_within counted_block lines_before delimited first_line first_of read_upto items_of digits number_text revision_of imported_asked store_text store_of content_fault record_fault short_name
 store_rows = record { empty_of_one = refl; empty = refl; blob_of_one = refl; blob = refl; blob_of_one_read = refl; blob_read = refl; read_again_of_one = refl; read_again = refl }
 
 -- ---- texts that are refused
@@ -225,5 +226,5 @@ pub record StoreRefusals : Type 0 where
   pub own_name : fault_of (text_with (root_commit ++ tag_of root ∷ []) (ref (codes "refs/heads/a") root ∷ ref (codes "refs/tags/v1") (tag_of root) ∷ [])) ≡ None
 
 pub store_refusals : StoreRefusals
-unfolding char_at unsigned_in item_after_in rest_line_in block_in cut_at is_ident unquote_within quoted_of mark_of commit_ish_of last_path source_path modify_at two_paths change_at changes_within merges_within blob_at commit_at links_at tag_at reset_at command_at commands_within counted_block lines_before delimited first_line first_of read_upto items_of digits revision_of imported_asked store_text store_of content_fault record_fault short_name
+unfolding char_at unsigned_in item_after_in rest_line_in block_in cut_at is_ident unquote_within quoted_of mark_of commit_ish_of last_path source_path modify_at two_paths change_at changes_within merges_within blob_at commit_at links_at tag_at reset_at command_at commands_within counted_block lines_before delimited first_line first_of read_upto items_of digits number_text revision_of imported_asked store_text store_of content_fault record_fault short_name
 store_refusals = record { lines_refused = refl; names_refused = refl; records_refused = refl; long_path = refl; too_long = refl; own_name = refl }

@@ -1,4 +1,5 @@
-use Rattle.gx_model.proofs.Stores.ReadStores.{one_store, only_stores, stores_read}
+use Rattle.gx_model.proofs.Stores.OneStore.{one_store}
+use Rattle.gx_model.proofs.Stores.ReadStores.{only_stores, stores_read}
 use Rattle.gx_model.proofs.store_laws.stores_are_read.Goals as goal
 
 pub returns : goal.returns

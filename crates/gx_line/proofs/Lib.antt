@@ -1,3 +1,4 @@
 pub mod Weaker
 pub mod MadeCommands
 pub mod NeededArguments
+pub mod Flags

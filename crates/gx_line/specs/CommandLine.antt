@@ -12,11 +12,11 @@ use Rattle.clap.specs.declared.builder.value_parser.ValueParser.TheVariants as p
 use Rattle.clap.specs.declared.error.kind.ErrorKind.{ErrorKind}
 use Rattle.clap.specs.declared.error.kind.ErrorKind.TheVariants.{DisplayHelp, DisplayVersion}
 use Rattle.gx_line.specs.declared.command_line.BatchForm.{BatchForm}
-use Rattle.gx_line.specs.declared.command_line.BatchForm.TheVariants.{Bytes, Check, Commands}
+use Rattle.gx_line.specs.declared.command_line.BatchForm.TheVariants as form
 use Rattle.gx_line.specs.declared.command_line.ExportForm.{ExportForm}
 use Rattle.gx_line.specs.declared.command_line.ExportForm.TheVariants.{Changes, FullTree}
 use Rattle.gx_line.specs.declared.command_line.Line.{Line}
-use Rattle.gx_line.specs.declared.command_line.Line.TheVariants.{Blobs, Try, Adapt, Where, WhereFault, Init, Import, Drop, Gc, Export, ExportRange, Show, Ls, Archive, Batch, Refs, Log, RevParse}
+use Rattle.gx_line.specs.declared.command_line.Line.TheVariants.{Blobs, Try, Check, Adapt, Where, WhereFault, Init, Import, Drop, Gc, Export, ExportRange, Show, Ls, Archive, Batch, Refs, Log, RevParse}
 use Rattle.gx_line.specs.declared.command_line.LineFault.{LineFault}
 use Rattle.gx_line.specs.declared.command_line.LineFault.TheVariants.{OutOfMemory, Status}
 use Rattle.gx_line.specs.declared.command_line.LogFormat.{LogFormat}
@@ -174,6 +174,9 @@ with_features a = with_rule (with_rule a done) force
 abbrev pub try_command : App
 try_command = with_rule (with_features (with_rule (new_app (codes "try")) revision)) explain
 
+abbrev pub check_command : App
+check_command = with_rule (with_features (new_app (codes "check"))) explain
+
 abbrev pub adapt_command : App
 adapt_command = with_rule (new_app (codes "adapt")) drop_signatures
 
@@ -233,7 +236,8 @@ AddsCommand made sub result = (a b : App) → Makes made a → Makes sub b → M
 
 -- the commands that read a stream and keep nothing
 abbrev pub with_stream_commands : App → App
-with_stream_commands a = under (under (under (under a (new_app (codes "blobs"))) try_command) adapt_command) where_command
+with_stream_commands a =
+    under (under (under (under (under a (new_app (codes "blobs"))) try_command) check_command) adapt_command) where_command
 
 -- the commands on a store as a whole
 abbrev pub with_store_commands : App → App
@@ -271,10 +275,10 @@ IsOption id rows text = first_of id rows ≡ option_map (λ s. s.now) text
 abbrev pub IsText : Text → List Row → Bor Text → Type 0
 IsText id rows text = first_of id rows ≡ Some text.now ⊎ ((first_of id rows ≡ None) × (text.now ≡ []))
 
--- clap has "true" for a flag that is given, and "false" for one that isn't
+-- a flag is set where clap has "true" for it, and nowhere else
 abbrev pub IsFlag : Text → List Row → Bool → Type 0
-IsFlag id rows set = (one_of id rows ≡ Some (codes "true") → set ≡ true)
-    × ((one_of id rows ≡ Some (codes "false") → set ≡ false) × (one_of id rows ≡ None → set ≡ false))
+IsFlag id rows true = one_of id rows ≡ Some (codes "true")
+IsFlag id rows false = one_of id rows ≡ Some (codes "true") → ⊥
 
 -- no number where none is given, and otherwise the one that is written
 abbrev pub IsNumber : Text → List Row → Option ℕ → Type 0
@@ -310,15 +314,16 @@ IsForm rows FullTree = IsFlag (codes "changes") rows false × IsFlag (codes "no-
 IsForm rows (Changes done) = IsFlag (codes "changes") rows true × IsFlag (codes "no-done") rows (not done)
 
 abbrev pub IsBatchForm : List Row → BatchForm → Type 0
-IsBatchForm rows Bytes = IsFlag (codes "check") rows false × IsFlag (codes "command") rows false
-IsBatchForm rows Check = IsFlag (codes "check") rows true × IsFlag (codes "command") rows false
-IsBatchForm rows Commands = IsFlag (codes "check") rows false × IsFlag (codes "command") rows true
+IsBatchForm rows form.Bytes = IsFlag (codes "check") rows false × IsFlag (codes "command") rows false
+IsBatchForm rows form.Check = IsFlag (codes "check") rows true × IsFlag (codes "command") rows false
+IsBatchForm rows form.Commands = IsFlag (codes "check") rows false × IsFlag (codes "command") rows true
 
 -- the line is the command `name` with the options and words that clap found for it
 unfoldable pub Says : Text → List Row → Line → Type 0
 Says name rows Blobs = name ≡ codes "blobs"
 Says name rows (Try revision done force explain) = (name ≡ codes "try") × (AreFeatures rows done force
     × (IsFlag (codes "explain") rows explain × IsWord (codes "rev") rows revision))
+Says name rows (Check done force explain) = (name ≡ codes "check") × (AreFeatures rows done force × IsFlag (codes "explain") rows explain)
 Says name rows (Adapt drop_signatures) = (name ≡ codes "adapt") × IsFlag (codes "drop-signatures") rows drop_signatures
 Says name rows (Where command) = (name ≡ codes "where") × (IsFlag (codes "fault") rows false × IsNumber (codes "number") rows (Some command))
 Says name rows (WhereFault done force) = (name ≡ codes "where") × (IsFlag (codes "fault") rows true × AreFeatures rows done force)

@@ -84,6 +84,12 @@ pub enum Line<'a> {
         force: bool,
         explain: bool,
     },
+    /// A stream is imported, exported, and imported again. `done`, `force` and `explain` are as in an import.
+    Check {
+        done: bool,
+        force: bool,
+        explain: bool,
+    },
     /// A stream's lines are mended that an import refuses. With `drop_signatures` those of signatures go.
     Adapt {
         drop_signatures: bool,
@@ -218,6 +224,11 @@ fn line_of<'a>(
         "blobs" => Ok(Line::Blobs),
         "try" => Ok(Line::Try {
             revision: word_of(alloc, matches, "rev")?,
+            done: is_set(matches, "done"),
+            force: is_set(matches, "force"),
+            explain: is_set(matches, "explain"),
+        }),
+        "check" => Ok(Line::Check {
             done: is_set(matches, "done"),
             force: is_set(matches, "force"),
             explain: is_set(matches, "explain"),

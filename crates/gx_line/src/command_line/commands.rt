@@ -42,8 +42,16 @@ fn with_stream_commands<'a>(
     let tried = with_argument(Ok(command(alloc, "try", streams::TRY)), revision(alloc));
     let try_command = with_argument(with_features(alloc, tried), explain(alloc));
     let gx = with_command(gx, try_command);
+    let gx = with_command(gx, check_command(alloc));
     let gx = with_command(gx, adapt_command(alloc));
     with_command(gx, where_command(alloc))
+}
+
+fn check_command<'a>(alloc: Global) -> Result<Command<'a>, AllocError>
+    ensures { say.Makes result say.check_command }
+{
+    let check = with_features(alloc, Ok(command(alloc, "check", streams::CHECK)));
+    with_argument(check, explain(alloc))
 }
 
 fn adapt_command<'a>(alloc: Global) -> Result<Command<'a>, AllocError>

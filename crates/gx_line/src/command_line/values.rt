@@ -126,7 +126,7 @@ fn no_format(alloc: Global) -> LineFault {
 pub(super) fn is_set(matches: &ArgMatches<'_>, id: &str) -> bool
     ensures { say.IsFlag id.now (rows_of (found_of matches.now)) result }
 {
-    matches.get_flag(id)
+    matches.get_one(id).unwrap_or(false)
 }
 
 /// The text of an option, which is empty where the option isn't given.

@@ -40,6 +40,29 @@ Refusals:
   gx: out of memory",
 };
 
+/// The page of `check`.
+pub(crate) const CHECK: Page = Page {
+    about: "Imports standard input, exports it, and imports it again",
+    description: "\
+Imports the stream on standard input into an empty store, exports that store,
+and imports the export into another empty one.
+
+It is accepted where each ref came back with its object's name, and with all
+that it reaches. Nothing is kept. Where the stream comes from a pipe, --done
+shows an end that came too early.",
+    details: "\
+Output:
+  The lines of the stream's progress commands, as they come, and then how many
+  commands, new objects and refs the first import had:
+    commands: N, objects: N, refs: N, and all names came back
+
+Refusals:
+  gx: command N: KIND      as gx import --help has it, also with --explain
+  gx: export: WriteFailed  the export has 2^63 bytes or more
+  gx: write failed
+  gx: out of memory",
+};
+
 /// The page of `adapt`.
 pub(crate) const ADAPT: Page = Page {
     about: "Mends lines of a stream that converters write and import refuses",

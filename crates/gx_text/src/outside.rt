@@ -1,6 +1,7 @@
 //! Devices over the readers and writers of the system, which tell no bytes.
 
 ghost use Rattle.std.specs.Prelude.{◌≡◌, ◌<◌, ◌≤◌, ◌↔◌, length, None, IfOk, IsErr, IsTrue, false};
+ghost use Rattle.std.specs.Io.KnownBytes.{ReadConsumes, WriteAppends};
 ghost use Rattle.gx_text.specs.Devices.{Pulls, Pushes};
 
 use crate::device::{Failed, Sink, Source};
@@ -36,6 +37,8 @@ impl<R: Read> Source for FromRead<R> {
         requires nonempty { 0 < length buffer.old }
         ensures bound { IfOk result (λ n. n ≤ length buffer.new) }
         ensures bytes { Pulls None None buffer.new result }
+        ensures read { ReadConsumes
+            (R.remaining self.old.reader) (R.remaining self.new.reader) result buffer.new }
         ensures fails { IsErr result ↔ IsTrue self.new.failed }
         ensures stays { IsTrue self.old.failed → IsTrue self.new.failed }
     {
@@ -76,6 +79,8 @@ impl<W: Write> Sink for IntoWrite<W> {
         ensures bound { IfOk result (λ n. n ≤ length bytes.now) }
         ensures some { IfOk result (λ n. 0 < n) }
         ensures bytes { Pushes None None bytes.now result }
+        ensures written { WriteAppends
+            (W.contents self.old.writer) (W.contents self.new.writer) result bytes.now }
         ensures fails { IsErr result ↔ IsTrue self.new.failed }
         ensures stays { IsTrue self.old.failed → IsTrue self.new.failed }
     {
@@ -91,6 +96,7 @@ impl<W: Write> Sink for IntoWrite<W> {
 /// Reads, in so many tries as that takes.
 fn read_tried<R: Read>(reader: &mut R, buffer: &mut [u8]) -> Result<usize, Failed>
     ensures bound { IfOk result (λ n. n ≤ length buffer.new) }
+    ensures read { ReadConsumes (R.remaining reader.old) (R.remaining reader.new) result buffer.new }
 {
     for _try in 0..MOST_TRIES {
         match reader.read(buffer) {
@@ -106,6 +112,7 @@ fn read_tried<R: Read>(reader: &mut R, buffer: &mut [u8]) -> Result<usize, Faile
 fn write_tried<W: Write>(writer: &mut W, bytes: &[u8]) -> Result<usize, Failed>
     ensures bound { IfOk result (λ n. n ≤ length bytes.now) }
     ensures some { IfOk result (λ n. 0 < n) }
+    ensures written { WriteAppends (W.contents writer.old) (W.contents writer.new) result bytes.now }
 {
     for _try in 0..MOST_TRIES {
         match writer.write(bytes) {

@@ -4,6 +4,7 @@ pub mod Firsts
 pub mod Comments
 pub mod Longer
 pub mod Scans
+pub mod Ends
 pub mod Views
 pub mod Arrivals
 pub mod FirstItems

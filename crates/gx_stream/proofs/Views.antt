@@ -6,9 +6,10 @@ use Rattle.gx_model.specs.Streams.Items.{Item, Line, Data, Stream, then_comes, i
 use Rattle.gx_text.specs.Devices.{Coming}
 use Rattle.gx_stream.specs.Heard.{heard_upto}
 use Rattle.gx_stream.specs.Places.{Skipped, ComesNext, NoneComes, bytes_at}
-use Rattle.gx_stream.specs.Reading.{Seen, AnswersAs, ReadsAs, FallsAs, RepeatsAs}
+use Rattle.gx_stream.specs.Reading.{Seen, AnswersAs, ReadsAs, FallsAs, RefusesAs, RepeatsAs}
 use Rattle.gx_stream.specs.Faults.{shown_end, ended}
 use Rattle.gx_stream.specs.Input.{shown_stream, shown_most, shown_over, answer_at, Looks, is_whole, Takes, Keeps, KeepsStream, KeepsOver}
+use Rattle.gx_stream.proofs.Ends.{none_refused}
 use Rattle.gx_stream.proofs.Longer.{nothing_more}
 use Rattle.gx_stream.specs.declared.fault.StreamFault.{StreamFault}
 use Rattle.gx_stream.specs.declared.fault.StreamFault.TheVariants as fault
@@ -35,7 +36,7 @@ Falls-kept old mid new (Err e) k f = omega (arith, k, f)
 Repeats-kept : (old mid new : Seen) (answer : Result (Option Item) StreamFault) → KeepsOver old.over old mid → RepeatsAs mid.over mid new answer → RepeatsAs old.over old new answer
 Repeats-kept old mid new answer k r = by old.over refl k where
   by : (o : Option (Option StreamFault)) → o ≡ old.over → KeepsOver o old mid → RepeatsAs o old new answer
-  by None e k = tt
+  by None e k = subst (λ o. RepeatsAs o mid new answer) k r
   by (Some last) e k = subst (λ o. RepeatsAs o old new answer) (sym e) (subst (λ (s : Seen). RepeatsAs s.over s new answer) k r)
 
 -- ---- one answer
@@ -52,59 +53,66 @@ shorter : (text : Bytes) (fails : Bool) (start at : ℕ) (i : Item) (p : Place) 
 shorter text fails start at i p s n = omega (arith, s.from, n.further, n.within.2, length-drop p.next text, length-drop start text)
 
 -- what is seen of the fields
-abbrev pub shown_at : State → ℕ → Option Coming → Bytes → Seen
-shown_at state room coming rest = record { stream = shown_stream state room coming rest; most = shown_most state room rest; over = shown_over state }
+abbrev pub shown_at : Bool → State → ℕ → Option Coming → Bytes → Seen
+shown_at full state room coming rest = record { stream = shown_stream state room coming rest; most = shown_most state room rest; over = shown_over state; full = full }
 
-item_open : (room : ℕ) (coming : Option Coming) (text : Bytes) (start at : ℕ) (i : Item) (p : Place) → Skipped text true start at → ComesNext text true at i p → AnswersAs (shown_at Open room coming (drop start text)) (shown_at Open room coming (drop p.next text)) (Ok (Some i))
-item_open room None text start at i p s n = (tt, omega (arith, shorter text true start at i p s n), refl, tt)
-item_open room (Some c) text start at i p s n =
+item_open : (full : Bool) (room : ℕ) (coming : Option Coming) (text : Bytes) (start at : ℕ) (i : Item) (p : Place) → Skipped text true start at → ComesNext text true at i p → AnswersAs (shown_at full Open room coming (drop start text)) (shown_at full Open room coming (drop p.next text)) (Ok (Some i))
+item_open full room None text start at i p s n = (tt, omega (arith, shorter text true start at i p s n), refl, tt)
+item_open full room (Some c) text start at i p s n =
     let h = heard_upto room c in
     ((items_of (drop p.next text ++ h.bytes) h.fails, s.same h.bytes h.fails tt ∙ n.next h.bytes h.fails tt, refl), omega (arith, shorter text true start at i p s n), refl, tt)
 
-item_ended : (room : ℕ) (coming : Option Coming) (text : Bytes) (fails : Bool) (start at : ℕ) (i : Item) (p : Place) → Skipped text fails start at → ComesNext text fails at i p → AnswersAs (shown_at (Ended fails) room coming (drop start text)) (shown_at (Ended fails) room coming (drop p.next text)) (Ok (Some i))
-item_ended room coming text fails start at i p s n =
+item_ended : (full : Bool) (room : ℕ) (coming : Option Coming) (text : Bytes) (fails : Bool) (start at : ℕ) (i : Item) (p : Place) → Skipped text fails start at → ComesNext text fails at i p → AnswersAs (shown_at full (Ended fails) room coming (drop start text)) (shown_at full (Ended fails) room coming (drop p.next text)) (Ok (Some i))
+item_ended full room coming text fails start at i p s n =
     ((items_of (drop p.next text) fails, Skipped-alone text fails start at s ∙ next_alone text fails at i p n, refl), shorter text fails start at i p s n, refl, tt)
 
-end_ended : (room : ℕ) (coming : Option Coming) (text rest : Bytes) (fails : Bool) (start at : ℕ) → Skipped text fails start at → NoneComes text fails at None → AnswersAs (shown_at (Ended fails) room coming (drop start text)) (shown_at (Over None) room coming rest) (Ok None)
-end_ended room coming text rest fails start at s n =
+end_ended : (full : Bool) (room : ℕ) (coming : Option Coming) (text rest : Bytes) (fails : Bool) (start at : ℕ) → Skipped text fails start at → NoneComes text fails at None → AnswersAs (shown_at full (Ended fails) room coming (drop start text)) (shown_at full (Over None) room coming rest) (Ok None)
+end_ended full room coming text rest fails start at s n =
     ((Skipped-alone text fails start at s ∙ n.end, refl), omega arith, refl, tt)
 
-fault_ended : (room : ℕ) (coming : Option Coming) (text rest : Bytes) (fails : Bool) (start at : ℕ) (f : StreamFault) → Skipped text fails start at → NoneComes text fails at (Some f) → AnswersAs (shown_at (Ended fails) room coming (drop start text)) (shown_at (Over (Some f)) room coming rest) (Err f)
-fault_ended room coming text rest fails start at f s n =
-    ((refl, inr (Skipped-alone text fails start at s ∙ n.end)), omega arith, refl, tt)
+-- it isn't for want of memory
+not_refused : (full : Bool) (text : Bytes) (fails : Bool) (at : ℕ) (f : StreamFault) → NoneComes text fails at (Some f) → RefusesAs full (Err f)
+not_refused full text fails at fault.OutOfMemory n = absurd (none_refused text fails at n)
+not_refused full text fails at fault.ReadFailed n = tt
+not_refused full text fails at fault.TruncatedData n = tt
+not_refused full text fails at fault.BadNumber n = tt
 
-number_open : (room : ℕ) (coming : Option Coming) (text rest : Bytes) (start at : ℕ) → Skipped text true start at → NoneComes text true at (Some fault.BadNumber) → AnswersAs (shown_at Open room coming (drop start text)) (shown_at (Over (Some fault.BadNumber)) room coming rest) (Err fault.BadNumber)
-number_open room None text rest start at s n = (refl, omega arith, refl, tt)
-number_open room (Some c) text rest start at s n =
+fault_ended : (full : Bool) (room : ℕ) (coming : Option Coming) (text rest : Bytes) (fails : Bool) (start at : ℕ) (f : StreamFault) → Skipped text fails start at → NoneComes text fails at (Some f) → AnswersAs (shown_at full (Ended fails) room coming (drop start text)) (shown_at full (Over (Some f)) room coming rest) (Err f)
+fault_ended full room coming text rest fails start at f s n =
+    ((refl, inr (Skipped-alone text fails start at s ∙ n.end)), omega arith, refl, not_refused full text fails at f n)
+
+number_open : (full : Bool) (room : ℕ) (coming : Option Coming) (text rest : Bytes) (start at : ℕ) → Skipped text true start at → NoneComes text true at (Some fault.BadNumber) → AnswersAs (shown_at full Open room coming (drop start text)) (shown_at full (Over (Some fault.BadNumber)) room coming rest) (Err fault.BadNumber)
+number_open full room None text rest start at s n = (refl, omega arith, refl, tt)
+number_open full room (Some c) text rest start at s n =
     let h = heard_upto room c in
     ((refl, inr (s.same h.bytes h.fails tt ∙ n.stays refl h.bytes h.fails tt)), omega arith, refl, tt)
 
-last_again : (room : ℕ) (coming : Option Coming) (bytes rest text : Bytes) (last : Option StreamFault) → AnswersAs (shown_at (Over last) room coming bytes) (shown_at (Over last) room coming rest) (answer_at text (found.End last))
-last_again room coming bytes rest text None = ((refl, refl), omega arith, refl, (refl, refl))
-last_again room coming bytes rest text (Some f) = ((refl, inr refl), omega arith, refl, (refl, refl))
+last_again : (full : Bool) (room : ℕ) (coming : Option Coming) (bytes rest text : Bytes) (last : Option StreamFault) → AnswersAs (shown_at full (Over last) room coming bytes) (shown_at full (Over last) room coming rest) (answer_at text (found.End last))
+last_again full room coming bytes rest text None = ((refl, refl), omega arith, refl, (refl, refl))
+last_again full room coming bytes rest text (Some f) = ((refl, inr refl), omega arith, refl, (refl, refl))
 
 -- what was found is answered, and the rest is left
-answers : (room : ℕ) (coming : Option Coming) (text : Bytes) (state new : State) (start at now : ℕ) (r : Found) → Looks text state start at r → is_whole state r ≡ true → Takes at state r now new → AnswersAs (shown_at state room coming (drop start text)) (shown_at new room coming (drop now text)) (answer_at text r)
-answers room coming text Open new start at now (found.Line p) l w t = rw (t.0, t.1) (item_open room coming text start at (Line (bytes_at text p)) p l.0 l.1)
-answers room coming text Open new start at now (found.Data p) l w t = rw (t.0, t.1) (item_open room coming text start at (Data (bytes_at text p)) p l.0 l.1)
-answers room coming text Open new start at now (found.End None) l w t = absurd cc
-answers room coming text Open new start at now (found.End (Some fault.OutOfMemory)) l w t = absurd cc
-answers room coming text Open new start at now (found.End (Some fault.ReadFailed)) l w t = absurd cc
-answers room coming text Open new start at now (found.End (Some fault.TruncatedData)) l w t = absurd cc
-answers room coming text Open new start at now (found.End (Some fault.BadNumber)) l w t = rw t.1 (number_open room coming text (drop now text) start at l.0 l.1)
-answers room coming text (Ended fails) new start at now (found.Line p) l w t = rw (t.0, t.1) (item_ended room coming text fails start at (Line (bytes_at text p)) p l.0 l.1)
-answers room coming text (Ended fails) new start at now (found.Data p) l w t = rw (t.0, t.1) (item_ended room coming text fails start at (Data (bytes_at text p)) p l.0 l.1)
-answers room coming text (Ended fails) new start at now (found.End None) l w t = rw t.1 (end_ended room coming text (drop now text) fails start at l.0 l.1)
-answers room coming text (Ended fails) new start at now (found.End (Some f)) l w t = rw t.1 (fault_ended room coming text (drop now text) fails start at f l.0 l.1)
-answers room coming text (Over last) new start at now r l w t =
+answers : (full : Bool) (room : ℕ) (coming : Option Coming) (text : Bytes) (state new : State) (start at now : ℕ) (r : Found) → Looks text state start at r → is_whole state r ≡ true → Takes at state r now new → AnswersAs (shown_at full state room coming (drop start text)) (shown_at full new room coming (drop now text)) (answer_at text r)
+answers full room coming text Open new start at now (found.Line p) l w t = rw (t.0, t.1) (item_open full room coming text start at (Line (bytes_at text p)) p l.0 l.1)
+answers full room coming text Open new start at now (found.Data p) l w t = rw (t.0, t.1) (item_open full room coming text start at (Data (bytes_at text p)) p l.0 l.1)
+answers full room coming text Open new start at now (found.End None) l w t = absurd cc
+answers full room coming text Open new start at now (found.End (Some fault.OutOfMemory)) l w t = absurd cc
+answers full room coming text Open new start at now (found.End (Some fault.ReadFailed)) l w t = absurd cc
+answers full room coming text Open new start at now (found.End (Some fault.TruncatedData)) l w t = absurd cc
+answers full room coming text Open new start at now (found.End (Some fault.BadNumber)) l w t = rw t.1 (number_open full room coming text (drop now text) start at l.0 l.1)
+answers full room coming text (Ended fails) new start at now (found.Line p) l w t = rw (t.0, t.1) (item_ended full room coming text fails start at (Line (bytes_at text p)) p l.0 l.1)
+answers full room coming text (Ended fails) new start at now (found.Data p) l w t = rw (t.0, t.1) (item_ended full room coming text fails start at (Data (bytes_at text p)) p l.0 l.1)
+answers full room coming text (Ended fails) new start at now (found.End None) l w t = rw t.1 (end_ended full room coming text (drop now text) fails start at l.0 l.1)
+answers full room coming text (Ended fails) new start at now (found.End (Some f)) l w t = rw t.1 (fault_ended full room coming text (drop now text) fails start at f l.0 l.1)
+answers full room coming text (Over last) new start at now r l w t =
     let taken : Takes at (Over last) (found.End last) now new = subst (λ r. Takes at (Over last) r now new) l.1 t in
-    subst (λ r. AnswersAs (shown_at (Over last) room coming (drop start text)) (shown_at new room coming (drop now text)) (answer_at text r)) (sym l.1) (rw taken.1 (last_again room coming (drop start text) (drop now text) text last))
+    subst (λ r. AnswersAs (shown_at full (Over last) room coming (drop start text)) (shown_at full new room coming (drop now text)) (answer_at text r)) (sym l.1) (rw taken.1 (last_again full room coming (drop start text) (drop now text) text last))
 
-pub Answers-found : (old : Seen) (room : ℕ) (coming : Option Coming) (text : Bytes) (state new : State) (start at now : ℕ) (r : Found) → Keeps old (shown_at state room coming (drop start text)) → Looks text state start at r → is_whole state r ≡ true → Takes at state r now new → AnswersAs old (shown_at new room coming (drop now text)) (answer_at text r)
-Answers-found old room coming text state new start at now r k l w t =
-    let mid = shown_at state room coming (drop start text) in
-    let last = shown_at new room coming (drop now text) in
-    let here = answers room coming text state new start at now r l w t in (
+pub Answers-found : (full : Bool) (old : Seen) (room : ℕ) (coming : Option Coming) (text : Bytes) (state new : State) (start at now : ℕ) (r : Found) → Keeps old (shown_at full state room coming (drop start text)) → Looks text state start at r → is_whole state r ≡ true → Takes at state r now new → AnswersAs old (shown_at full new room coming (drop now text)) (answer_at text r)
+Answers-found full old room coming text state new start at now r k l w t =
+    let mid = shown_at full state room coming (drop start text) in
+    let last = shown_at full new room coming (drop now text) in
+    let here = answers full room coming text state new start at now r l w t in (
       Reads-kept old.stream mid.stream last.stream (answer_at text r) k.0 here.0,
       Falls-kept old.most mid.most last.most (answer_at text r) k.1 here.1,
       here.2,
@@ -112,17 +120,17 @@ Answers-found old room coming text state new start at now r k l w t =
     )
 
 -- where there is no memory for more
-pub Answers-refused : (old : Seen) (room : ℕ) (coming : Option Coming) (text : Bytes) (state : State) (r : Found) → is_whole state r ≡ false → Keeps old (shown_at state room coming text) → AnswersAs old (shown_at (Over (Some fault.OutOfMemory)) room coming text) (Err fault.OutOfMemory)
-Answers-refused old room coming text Open r w k =
-    let mid = shown_at Open room coming text in
-    let last = shown_at (Over (Some fault.OutOfMemory)) room coming text in (
+pub Answers-refused : (was full : Bool) (old : Seen) (room : ℕ) (coming : Option Coming) (text : Bytes) (state : State) (r : Found) → full ≡ true → is_whole state r ≡ false → Keeps old (shown_at was state room coming text) → AnswersAs old (shown_at full (Over (Some fault.OutOfMemory)) room coming text) (Err fault.OutOfMemory)
+Answers-refused was full old room coming text Open r e w k =
+    let mid = shown_at was Open room coming text in
+    let last = shown_at full (Over (Some fault.OutOfMemory)) room coming text in (
       Reads-kept old.stream mid.stream last.stream (Err fault.OutOfMemory) k.0 (reads coming),
       omega arith,
       refl,
-      Repeats-kept old mid last (Err fault.OutOfMemory) k.2 tt,
+      Repeats-kept old mid last (Err fault.OutOfMemory) k.2 e,
     ) where
       reads : (o : Option Coming) → ReadsAs (shown_stream Open room o text) (Some (ended (shown_end (Some fault.OutOfMemory)))) (Err fault.OutOfMemory)
       reads None = refl
       reads (Some c) = (refl, inl refl)
-Answers-refused old room coming text (Ended fails) r w k = absurd cc
-Answers-refused old room coming text (Over last) r w k = absurd cc
+Answers-refused was full old room coming text (Ended fails) r e w k = absurd cc
+Answers-refused was full old room coming text (Over last) r e w k = absurd cc

@@ -1,5 +1,6 @@
 -- What the fields of a reader stand for, and what each of its steps does to them.
-use Rattle.std.specs.Prelude.{◌≡◌, ℕ, suc, ◌+◌, ◌-◌, ◌<◌, ◌≤◌, ◌^◌, Bool, true, false, ◌++◌, length, drop, Option, Some, None, Result, Ok, Err}
+use Rattle.std.specs.Prelude.{◌≡◌, ℕ, suc, ◌+◌, ◌-◌, ◌<◌, ◌≤◌, ◌^◌, Bool, true, false, ◌||◌, nat_eq, nat_lt, ◌++◌, length, drop, Option, Some, None, Result, Ok, Err}
+use Rattle.std.specs.Vec.{vec_len, vec_capacity}
 use Rattle.gx_model.specs.Texts.{Bytes}
 use Rattle.gx_model.specs.Streams.Items.{Stream, items_of}
 use Rattle.gx_model.specs.Streams.Items as model
@@ -38,11 +39,19 @@ shown_over Open = None
 shown_over (Ended fails) = None
 shown_over (Over last) = Some last
 
+-- whether another piece would find no room: in the buffer that it is pulled into, or behind the text that came
+abbrev pub has_no_room : ℕ → ℕ → ℕ → Bool
+has_no_room piece len capacity = nat_eq piece 0 || nat_lt capacity (len + piece)
+
+abbrev pub is_full : {R A : Type 0} → Input R A → Bool
+is_full i = has_no_room (length i.piece.items) (vec_len i.text) (vec_capacity i.text)
+
 abbrev pub shown_input : {R A : Type 0} → Input R A → Option Coming → Seen
 shown_input i coming = record {
   stream = shown_stream i.state i.room coming (drop i.at i.text.items);
   most = shown_most i.state i.room (drop i.at i.text.items);
   over = shown_over i.state;
+  full = is_full i;
 }
 
 -- what is known of the item that comes next counts where more of it may come
@@ -106,9 +115,9 @@ abbrev pub KeepsStream : Option Stream → Option Stream → Type 0
 KeepsStream None new = Unit {0}
 KeepsStream (Some s) new = new ≡ Some s
 
--- what is over stays as it is
+-- what is over stays as it is, and what isn't goes on
 abbrev pub KeepsOver : Option (Option StreamFault) → Seen → Seen → Type 0
-KeepsOver None old new = Unit {0}
+KeepsOver None old new = new.over ≡ None
 KeepsOver (Some last) old new = new ≡ old
 
 abbrev pub Keeps : Seen → Seen → Type 0

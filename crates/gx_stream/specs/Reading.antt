@@ -1,5 +1,5 @@
 -- What a reader of items is seen as, and what one call answers and leaves.
-use Rattle.std.specs.Prelude.{◌≡◌, ℕ, ◌<◌, ◌≤◌, ◌⊎◌, Option, Some, None, Result, Ok, Err}
+use Rattle.std.specs.Prelude.{◌≡◌, ℕ, ◌<◌, ◌≤◌, ◌⊎◌, Bool, true, Option, Some, None, Result, Ok, Err}
 use Rattle.gx_model.specs.Streams.Items.{Stream, Finished, Failed, then_comes}
 use Rattle.gx_model.specs.Streams.Items as model
 use Rattle.gx_stream.specs.Faults.{fault_of, ended}
@@ -9,11 +9,12 @@ use Rattle.gx_stream.specs.declared.item.Item.{Item}
 use Rattle.gx_stream.specs.declared.item.Item.TheVariants.{Line, Data}
 
 -- What a reader is seen as: the items still to come with their end, where the source tells its bytes, a bound on how
--- many may come, and where it is over, how: at the end, or at a fault.
+-- many may come, where it is over, how: at the end, or at a fault; and whether it has no room for another piece of the source.
 pub record Seen : Type 0 where
   pub stream : Option Stream
   pub most : ℕ
   pub over : Option (Option StreamFault)
+  pub full : Bool
 
 -- an item as one of the model
 abbrev pub item_of : Item → model.Item
@@ -56,9 +57,15 @@ abbrev pub last_answer : Option StreamFault → Result (Option model.Item) Strea
 last_answer None = Ok None
 last_answer (Some f) = Err f
 
+-- Memory is wanted only where there is no room for another piece of the source: never because a read failed.
+abbrev pub RefusesAs : Bool → Result (Option model.Item) StreamFault → Type 0
+RefusesAs full (Ok item) = Unit {0}
+RefusesAs full (Err OutOfMemory) = full ≡ true
+RefusesAs full (Err f) = Unit {0}
+
 -- A reader that is over gives the same answer again, and nothing changes.
 abbrev pub RepeatsAs : Option (Option StreamFault) → Seen → Seen → Result (Option model.Item) StreamFault → Type 0
-RepeatsAs None old new answer = Unit {0}
+RepeatsAs None old new answer = RefusesAs new.full answer
 RepeatsAs (Some last) old new answer = (answer ≡ last_answer last) × (new ≡ old)
 
 -- what one call answers and leaves

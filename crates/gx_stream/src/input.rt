@@ -1,7 +1,8 @@
 //! What came from a source, and the items in it.
 
-ghost use Rattle.std.specs.Prelude.{◌≡◌, ◌<◌, ◌≤◌, ◌+◌, length, drop, None, IfOk, IsTrue, OnOk};
-ghost use Rattle.gx_stream.specs.Input.{IsSound, FitsState, IsLonger, IsFoundWithin, Looks, is_whole, Takes, KeepsInput, KeepsStream, LeavesFewer, answer_at, shown_input, shown_over, shown_stream, pulls_left, state_of};
+ghost use Rattle.std.specs.Prelude.{◌≡◌, ◌<◌, ◌≤◌, ◌+◌, length, drop, true, None, IfOk, IsTrue, OnOk, OnErr};
+ghost use Rattle.std.specs.Vec.{vec_len, vec_capacity};
+ghost use Rattle.gx_stream.specs.Input.{IsSound, FitsState, IsLonger, IsFoundWithin, Looks, is_whole, Takes, KeepsInput, KeepsStream, LeavesFewer, answer_at, is_full, shown_input, shown_over, shown_stream, pulls_left, state_of};
 ghost use Rattle.gx_stream.specs.Reading.{AnswersAs};
 ghost use Rattle.gx_stream.specs.declared.input.State.TheVariants.{Open};
 
@@ -64,6 +65,7 @@ impl<R: Source, A: Allocator + Copy> Input<R, A> {
         ensures sound { IsSound self.new }
         ensures keeps { OnOk result (KeepsInput R.coming self.old self.new) }
         ensures fewer { OnOk result (LeavesFewer self.old self.new) }
+        ensures refused { OnErr result (is_full self.new ≡ true) }
     {
         self.pull()?;
         while is_open(self.state) && self.text.len() <= self.scan.wanted {
@@ -79,6 +81,8 @@ impl<R: Source, A: Allocator + Copy> Input<R, A> {
         ensures sound { IsSound self.new }
         ensures keeps { OnOk result (KeepsInput R.coming self.old self.new) }
         ensures fewer { OnOk result (LeavesFewer self.old self.new) }
+        ensures refused { OnErr result (is_full self.new ≡ true) }
+        ensures unpulled { OnErr result (self.new.source ≡ self.old.source) }
     {
         remove_front(&mut self.text, self.at);
         self.scan = self.scan.without(self.at);
@@ -143,7 +147,8 @@ fn take(at: &mut usize, state: &mut State, found: Found)
 
 /// Makes the buffer for a pull, where that wasn't done before.
 fn make_buffer<A: Allocator>(buffer: &mut Vec<u8, A>) -> Result<(), AllocError>
-    ensures { OnOk result (0 < length buffer.new.items) }
+    ensures made { OnOk result (0 < length buffer.new.items) }
+    ensures refused { OnErr result (length buffer.new.items ≡ 0) }
 {
     if buffer.is_empty() {
         buffer.resize(PIECE, 0)?;
@@ -164,6 +169,7 @@ fn remove_front<A: Allocator>(text: &mut Vec<u8, A>, count: usize)
 }
 
 /// Pulls a piece through a buffer and appends what is taken of it. Answers what is known of the text then.
+/// Room for the whole buffer is made first: where that is refused nothing is pulled, so no read that failed is taken for it.
 fn append_piece<R: Source, A: Allocator>(
     source: &mut R,
     buffer: &mut [u8],
@@ -178,7 +184,10 @@ fn append_piece<R: Source, A: Allocator>(
         (shown_stream state room.new (R.coming source.new) text.new.items)) }
     ensures goes_on { IfOk result (λ state. shown_over state ≡ None) }
     ensures fewer { IfOk result (λ state. pulls_left state room.new < pulls_left Open room.old) }
+    ensures refused { OnErr result (vec_capacity text.new < vec_len text.new + length buffer.new) }
+    ensures unpulled { OnErr result (source.new ≡ source.old) }
 {
+    text.reserve(buffer.len())?;
     let (state, count) = pull_piece(source, buffer, room);
     text.extend_from_slice(&buffer[..count])?;
     Ok(state_of(state))

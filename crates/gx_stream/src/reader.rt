@@ -57,13 +57,13 @@ impl<R: Source, A: Allocator + Copy> ItemReader<R, A> {
     /// The next item, lent from the reader's memory, or `None` at the end. Comments give no item.
     ///
     /// After a fault each call answers the same fault, and after the end each call answers `None`.
-    /// `OutOfMemory`: there was no memory for what came. `ReadFailed`: the source failed, or gave more than 2^63 - 1 bytes,
-    /// before the item was complete. `TruncatedData`: the text ends within a block. `BadNumber`: a `data` line has neither
-    /// a number nor `<<`.
+    /// `OutOfMemory`: there was no room for another piece of the source, so none was pulled; a failed read is never told so.
+    /// `ReadFailed`: the source failed, or gave more than 2^63 - 1 bytes, before the item was complete.
+    /// `TruncatedData`: the text ends within a block. `BadNumber`: a `data` line has neither a number nor `<<`.
     ///
-    /// The source is asked for more only where no whole item is left, and for at most 64 KiB at a time. Memory grows with
-    /// the longest item that came, never with a stated count. Cost: the bytes of the item and of the comments before it,
-    /// however they are cut.
+    /// The source is asked for more only where no whole item is left, and for at most 64 KiB at a time. Memory: the longest
+    /// item that came, whatever a count states, and two pieces of 64 KiB. Cost: the bytes of the item and of the comments
+    /// before it, however they are cut.
     /// Source: git-fast-import(1), "Comments" and "data".
     pub fn next(&mut self) -> Result<Option<Item<'_>>, StreamFault>
         ensures* reads { sem 𝓛 (Rests (the_row R.row A.row R.Source A.Allocator) self.entry (λ new. Answers self.old new result)) }

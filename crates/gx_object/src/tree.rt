@@ -1,10 +1,10 @@
 //! The bodies of trees. Source: Pro Git, "Git Objects".
 
-ghost use Rattle.std.specs.Prelude.{◌≡◌, ◌≤◌, List, length, map, true, IsTrue, IfOk, OnOk, ◌∷◌};
+ghost use Rattle.std.specs.Prelude.{◌≡◌, ◌≤◌, ℕ, List, length, map, take, true, IsTrue, IfOk, OnErr, OnOk, ◌∷◌};
 ghost use Rattle.std.specs.Result.{result_ok};
 ghost use Rattle.std.specs.Iterator.{item_count};
 ghost use Rattle.std.specs.Map.Iter.{TakesFirst};
-ghost use Rattle.gx_model.specs.Objects.{Entry as TreeEntry, IsTreeText, is_canonical};
+ghost use Rattle.gx_model.specs.Objects.{Entry as TreeEntry, IsTreeText, is_canonical, tree_text};
 ghost use Rattle.gx_object.specs.Order.{is_long_repeated, meets};
 ghost use Rattle.gx_object.specs.Trees.{AreEntries, entries_left, is_tree, tree_of};
 ghost use Rattle.gx_object.specs.Entries.{meets_from, shown};
@@ -31,8 +31,8 @@ pub fn encode_tree<A: Allocator + Copy>(
     Ok(body)
 }
 
-/// Makes a buffer the body of the tree with these entries, in place of what it held. Where a growth is refused, it holds a
-/// front of the body.
+/// Makes a buffer the body of the tree with these entries, in place of what it held. Where a growth is refused, it holds the
+/// texts of the first entries, each whole, and no byte more.
 ///
 /// Cost: the body's length. Takes memory only where the buffer has no room for the body, so one buffer serves many trees.
 pub fn encode_tree_into<A: Allocator + Copy>(
@@ -40,7 +40,8 @@ pub fn encode_tree_into<A: Allocator + Copy>(
     entries: &[Entry<'_>],
 ) -> Result<(), AllocError>
     requires { IsTrue (is_canonical (map shown entries.now)) }
-    ensures { OnOk result (IsTreeText (map shown entries.now) body.new.items) }
+    ensures text { OnOk result (IsTreeText (map shown entries.now) body.new.items) }
+    ensures front { OnErr result ((n : ℕ) × (body.new.items ≡ tree_text (map shown (take n entries.now)))) }
 {
     body.clear();
     for entry in entries {

@@ -9,7 +9,9 @@ pub mod HistoryLaws
 pub mod ObjectLaws
 pub mod PruningLaws
 pub mod RangeLaws
+pub mod RefusedReplays
 pub mod RepositoryLaws
+pub mod ShownRecords
 pub mod StoreLaws
 pub mod StreamLaws
 pub mod TextLaws

@@ -3,6 +3,7 @@ pub mod ChangesRows
 pub mod CommandShapeRows
 pub mod ExportRows
 pub mod FeatureRows
+pub mod HeadlineRows
 pub mod ImportRows
 pub mod PruningRows
 pub mod RefusalRows

@@ -28,10 +28,15 @@ use Rattle.gx_model.specs.Records.Walks.{place_in, place_of, walked}
 use Rattle.gx_model.specs.Records.Lookups.{first_named}
 use Rattle.gx_model.specs.Revisions.{Revision}
 use Rattle.gx_model.specs.Revisions.Denotation.{Shown, denoted, file_shown, files_in, first_ref, looked_up, object, of_file, ref_names, shown_value, submodule}
+use Rattle.gx_model.specs.Revisions.Ranges.{listed}
+use Rattle.gx_model.specs.Streams.Gitlinks.{HoldsNoNullGitlink}
+use Rattle.gx_model.specs.Streams.Grammar.{commands_of}
+use Rattle.gx_model.specs.Streams.Items.{items_of}
 use Rattle.gx_model.specs.Replay.{imported_asked}
 use Rattle.gx_model.specs.Laws.ChangesLaws.{RepositoriesComeBackByChanges}
 use Rattle.gx_model.specs.Laws.ExportLaws.{AnyReaches, IsAgain}
-use Rattle.gx_model.specs.Laws.Headline.{ComesBack, Headline, Shows, body_named, file_held, leaf_held, object_denoted, tree_in, tree_named}
+use Rattle.gx_model.specs.Laws.Headline.{ComesBack, HasRecordsOf, Headline, RefusedHeadline, Shows, ShowsAndComesBack, object_denoted}
+use Rattle.gx_model.specs.Laws.ShownRecords.{body_named, commit_held, file_held, leaf_held, listed_held, tree_in, tree_named}
 use Rattle.gx_model.proofs.Texts.PathTests.{same_is}
 use Rattle.gx_model.proofs.Histories.AddedValues.{in_left, in_right}
 use Rattle.gx_model.proofs.Records.LinkedValues.{parts_in, proper_in}
@@ -46,8 +51,15 @@ use Rattle.gx_model.proofs.Records.HeldNames.{value_found}
 use Rattle.gx_model.proofs.Records.HeldValues.{proper_text, text_is}
 use Rattle.gx_model.proofs.Revisions.ShownValues.{file_stands, files_stand, held_value}
 use Rattle.gx_model.proofs.Stores.RecordLines.{hex_unhex}
-use Rattle.gx_model.proofs.Replay.HistorySteps.{nothing_is, texts_give}
-use Rattle.gx_model.proofs.Headlines.ComingBack.{changes_back, texts_back}
+use Rattle.gx_model.proofs.Streams.ReadCommands.{all_proper}
+use Rattle.gx_model.proofs.Streams.ReadGitlinks.{none_brought}
+use Rattle.gx_model.proofs.Replay.GitlinkSteps.{none_from_text, none_reached, refusals_keep_none}
+use Rattle.gx_model.proofs.Replay.HistorySteps.{nothing_is, refusals_keep, texts_give}
+use Rattle.gx_model.proofs.Export.ReadableExports.{formed_readable}
+use Rattle.gx_model.proofs.Export.SpelledExports.{export_imported}
+use Rattle.gx_model.proofs.Headlines.ComingBack.{changes_back}
+use Rattle.gx_model.proofs.Headlines.KeptCheckpoints.{checkpoints_kept}
+use Rattle.gx_model.proofs.Headlines.ListedRanges.{ranges_shown}
 
 -- ---- refs
 
@@ -161,6 +173,8 @@ module _ (name : Kind → Bytes → Bytes) (namer : IsNamer name) (r : Records) 
         refs = λ word. ap (λ refs. first_named refs (ref_names word)) s.refs ∙ first_of (λ target. name_of name (value_at target)) h (ref_names word);
         files = λ revision path. subst (λ k. (object_denoted name k revision >>= λ called. file_held r.records called path) ≡ looked_up name k revision path) same (files_shown name namer r is_sound revision path);
         commits = λ made i. commit_told name namer r is_sound made (subst (λ k. IsIn k.values (commit_value made)) (sym same) i);
+        ranges = λ words. subst (λ k. listed_held r.records (λ revision. object_denoted name k revision >>= commit_held r.records) words ≡ listed name k words) same
+            (ranges_shown name namer r is_sound (λ made i. ap (λ q. q.parents) (commit_told name namer r is_sound made i)) words);
       }
 
 -- ---- what comes back
@@ -226,15 +240,30 @@ module _ (name : Kind → Bytes → Bytes) (namer : IsNamer name) where
         reached = again;
       }
 
-  pub headline : Headline name
+  -- a history without gitlinks of forty zeros is shown by each repository that has its records, and comes back
+  pub shows : (h : History) → IsHistory h → HoldsNoNullGitlink h → (r : Records) → HasRecordsOf name r h → ShowsAndComesBack name r h
   unfolding imported_asked
-  headline given fails h progress report r e has =
-      let is = texts_give name no_history h given fails progress report nothing_is e in
+  shows h is none r has =
       let s : StandsFor name r h = record { history = is; records = has.records; distinct = has.distinct; refs = has.refs } in (
         s,
         shown name namer r h s,
-        λ short. let q = texts_back name h given fails progress report e short in (q.0, of_history q.0, q.2, comes_back r h q.0 s q.1),
+        λ short.
+        let q = export_imported name h is (formed_readable h is (none_reached h none) short) in
+        (q.0, of_history q.0, q.2, comes_back r h q.0 s q.1),
       )
+
+  pub headline : Headline name
+  unfolding imported_asked
+  headline given fails h progress report r e has =
+      shows h (texts_give name no_history h given fails progress report nothing_is e) (none_from_text name no_history h given fails progress report nothing_is tt e) r has
+
+  pub refused_headline : RefusedHeadline name
+  unfolding imported_asked
+  refused_headline given fails number fault progress kept e =
+      let commands = commands_of (items_of given fails) in
+      let is = refusals_keep name no_history commands.list commands.fault 0 number fault progress kept nothing_is (all_proper (items_of given fails)) e in
+      let none = refusals_keep_none name no_history commands.list commands.fault 0 number fault progress kept nothing_is tt (none_brought (items_of given fails)) e in
+      (checkpoints_kept name no_history commands.list commands.fault number fault progress kept e, λ r has. shows kept.history is none r has)
 
   pub changes_come_back : RepositoriesComeBackByChanges name
   unfolding imported_asked

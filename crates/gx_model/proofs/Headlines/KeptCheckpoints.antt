@@ -40,7 +40,8 @@ before_last : (cs : List Command) → before_checkpoint (cs ++ Checkpoint ∷ []
 before_last [] = refl
 before_last (d ∷ ds) = ap (before_others d) (before_last ds)
 
-count_more : (cs : List Command) (c : Command) (b : Bool) → is_checkpoint c ≡ b → length (filter is_checkpoint (cs ++ c ∷ [])) ≡ length (filter is_checkpoint cs) + cond b 1 0
+count_more : (cs : List Command) (c : Command) (b : Bool) → is_checkpoint c ≡ b
+    → length (filter is_checkpoint (cs ++ c ∷ [])) ≡ length (filter is_checkpoint cs) + cond b 1 0
 count_more cs c b e =
     ap length (filter-append is_checkpoint cs (c ∷ [])) ∙ length-append (filter is_checkpoint cs) (filter is_checkpoint (c ∷ []))
     ∙ ap (λ n. length (filter is_checkpoint cs) + n) (ap (λ t. length (cond t (c ∷ []) [])) e ∙ one b)
@@ -152,6 +153,13 @@ module _ (name : Kind → Bytes → Bytes) where
 
   -- ---- the state after some commands
 
+  -- what comes next after a step, and at the end
+  abbrev by_step : ℕ → State → List Command → Option Fault → Result State Fault → Outcome
+  by_step n s cs end r = elim r [ Ok t ↦ replayed name (n + 1) t cs end | Err f ↦ refused (n + 1) f s.progress s.kept ]
+
+  abbrev by_test : ℕ → State → Bool → Outcome
+  by_test n s b = cond b (finished (final s) s.progress (report n s)) (refused (n + 1) fault.NotFastForward s.progress s.kept)
+
   module _ (h : History) where
     -- more commands go on from here, and this is kept
     record IsAfter (done : List Command) (s : State) : Type 0 where
@@ -166,11 +174,12 @@ module _ (name : Kind → Bytes → Bytes) where
     runs_on done s c t after e more end =
         ap (λ cs. replayed name 0 (start h) cs end) (append_assoc done (c ∷ []) more)
         ∙ after.runs (c ∷ more) end
-        ∙ ap (λ (r : Result State Fault). elim r as (λ _. Outcome) [ Ok u ↦ replayed name (length done + 1) u more end | Err f ↦ refused (length done + 1) f s.progress s.kept ]) e
+        ∙ ap (by_step (length done) s more end) e
         ∙ ap (λ n. replayed name n t more end) (sym (length-append done (c ∷ [])))
 
     -- a command that is no checkpoint
-    kept_on : (done : List Command) (s : State) (c : Command) (t : State) → IsKept name h done s.kept → is_checkpoint c ≡ false → KeepsAs s t → IsKept name h (done ++ c ∷ []) t.kept
+    kept_on : (done : List Command) (s : State) (c : Command) (t : State) → IsKept name h done s.kept → is_checkpoint c ≡ false → KeepsAs s t
+        → IsKept name h (done ++ c ∷ []) t.kept
     kept_on done s c t is plain same =
         let count = count_more done c false plain in
         subst (IsKept name h (done ++ c ∷ [])) (sym same) (record {
@@ -193,7 +202,7 @@ module _ (name : Kind → Bytes → Bytes) where
                 s.progress,
                 report (length done) s,
                 sym (ap (λ cs. replayed name 0 (start h) cs None) (append-nil done)) ∙ after.runs [] None
-                ∙ ap (λ b. cond b (finished (final s) s.progress (report (length done) s)) (refused (length done + 1) fault.NotFastForward s.progress s.kept)) forward,
+                ∙ ap (by_test (length done) s) forward,
               );
         }
       where
@@ -203,8 +212,11 @@ module _ (name : Kind → Bytes → Bytes) where
     step_after : (done : List Command) (s : State) (c : Command) (t : State) → IsAfter done s → step name s c ≡ Ok t → IsAfter (done ++ c ∷ []) t
     step_after done s c t after e = record { runs = runs_on done s c t after e; kept = by c e }
       where
-        at_checkpoint : (b : Bool) → is_fast_forward s ≡ b → cond b (Ok (checkpointed s)) (Err fault.NotFastForward) ≡ Ok t → IsKept name h (done ++ Checkpoint ∷ []) t.kept
-        at_checkpoint true f k = let same : checkpointed s ≡ t = cc in subst (λ u. IsKept name h (done ++ Checkpoint ∷ []) u.kept) same (kept_now done s after f)
+        at_checkpoint : (b : Bool) → is_fast_forward s ≡ b → cond b (Ok (checkpointed s)) (Err fault.NotFastForward) ≡ Ok t
+            → IsKept name h (done ++ Checkpoint ∷ []) t.kept
+        at_checkpoint true f k =
+            let same : checkpointed s ≡ t = cc in
+            subst (λ u. IsKept name h (done ++ Checkpoint ∷ []) u.kept) same (kept_now done s after f)
         at_checkpoint false f k = absurd cc
 
         other : (c : Command) → is_checkpoint c ≡ false → step name s c ≡ Ok t → IsKept name h (done ++ c ∷ []) t.kept
@@ -244,16 +256,17 @@ module _ (name : Kind → Bytes → Bytes) where
     kept_from done s [] (Some f) number g y kept after e = refused_here done [] s f g s.progress y number kept after.kept e
     kept_from done s [] None number g y kept after e = by (is_fast_forward s) e
       where
-        by : (b : Bool) → cond b (finished (final s) s.progress (report (length done) s)) (refused (length done + 1) fault.NotFastForward s.progress s.kept) ≡ refused number g y kept
-            → IsKept name h (take (number - 1) (done ++ [])) kept
+        by : (b : Bool) → by_test (length done) s b ≡ refused number g y kept → IsKept name h (take (number - 1) (done ++ [])) kept
         by true k = absurd cc
         by false k = refused_here done [] s fault.NotFastForward g s.progress y number kept after.kept k
     kept_from done s (c ∷ cs) end number g y kept after e =
-        by (step name s c) refl e (λ t q k. kept_from (done ++ c ∷ []) t cs end number g y kept (step_after done s c t after q) (ap (λ n. replayed name n t cs end) (length-append done (c ∷ [])) ∙ k))
+        (by (step name s c) refl e (λ t q k.
+        let go_on = ap (λ n. replayed name n t cs end) (length-append done (c ∷ [])) ∙ k in
+        kept_from (done ++ c ∷ []) t cs end number g y kept (step_after done s c t after q) go_on))
       where
-        by : (r : Result State Fault) → step name s c ≡ r
-            → elim r as (λ _. Outcome) [ Ok t ↦ replayed name (length done + 1) t cs end | Err f ↦ refused (length done + 1) f s.progress s.kept ] ≡ refused number g y kept
-            → ((t : State) → step name s c ≡ Ok t → replayed name (length done + 1) t cs end ≡ refused number g y kept → IsKept name h (take (number - 1) ((done ++ c ∷ []) ++ cs)) kept)
+        by : (r : Result State Fault) → step name s c ≡ r → by_step (length done) s cs end r ≡ refused number g y kept
+            → ((t : State) → step name s c ≡ Ok t → replayed name (length done + 1) t cs end ≡ refused number g y kept
+            → IsKept name h (take (number - 1) ((done ++ c ∷ []) ++ cs)) kept)
             → IsKept name h (take (number - 1) (done ++ c ∷ cs)) kept
         by (Err f) q k rest = refused_here done (c ∷ cs) s f g s.progress y number kept after.kept k
         by (Ok t) q k rest = subst (λ all. IsKept name h (take (number - 1) all) kept) (append_assoc done (c ∷ []) cs) (rest t q k)

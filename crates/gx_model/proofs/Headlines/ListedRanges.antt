@@ -55,14 +55,19 @@ module _ {X Y : Type 0} (f : X → Y) where
   reverse_mapped : (xs : List X) → reverse (map f xs) ≡ map f (reverse xs)
   reverse_mapped [] = refl
   reverse_mapped (x ∷ xs) =
-      reverse-append (f x ∷ []) (map f xs) ∙ ap (λ ys. ys ++ f x ∷ []) (reverse_mapped xs) ∙ sym (joined_mapped (reverse xs) (x ∷ [])) ∙ ap (map f) (sym (reverse-append (x ∷ []) xs))
+      reverse-append (f x ∷ []) (map f xs) ∙ ap (λ ys. ys ++ f x ∷ []) (reverse_mapped xs)
+      ∙ sym (joined_mapped (reverse xs) (x ∷ [])) ∙ ap (map f) (sym (reverse-append (x ∷ []) xs))
 
   -- tests that agree on all elements leave the same ones
-  filter_mapped : (P : X → Type 0) (p : Y → Bool) (q : X → Bool) → ((x : X) → P x → p (f x) ≡ q x) → (xs : List X) → AllByRecursion P xs → filter p (map f xs) ≡ map f (filter q xs)
+  filter_mapped : (P : X → Type 0) (p : Y → Bool) (q : X → Bool) → ((x : X) → P x → p (f x) ≡ q x) → (xs : List X) → AllByRecursion P xs
+      → filter p (map f xs) ≡ map f (filter q xs)
   filter_mapped P p q k [] h = refl
   filter_mapped P p q k (x ∷ xs) h =
       (λ i. cond (k x h.0 i) (f x ∷ filter_mapped P p q k xs h.1 i) (filter_mapped P p q k xs h.1 i))
-      ∙ elim (q x) as (λ b. cond b (f x ∷ map f (filter q xs)) (map f (filter q xs)) ≡ map f (cond b (x ∷ filter q xs) (filter q xs))) [ true ↦ refl | false ↦ refl ]
+      ∙ elim (q x) as (λ b. cond b (f x ∷ map f (filter q xs)) (map f (filter q xs)) ≡ map f (cond b (x ∷ filter q xs) (filter q xs))) [
+        | true ↦ refl
+        | false ↦ refl
+      ]
 
 -- ---- how many times a commit's ancestors can be gone up
 
@@ -117,7 +122,8 @@ value_widest n vs (tree_value f) h = tt
 value_widest n vs (commit_value c) h = widest n vs c h
 value_widest n vs (tag_value t) h = tt
 
-parents_within : (n : ℕ) (vs : List Value) → AllByRecursion (IsWithin n) vs → (cs : Commits) → AllByRecursion (IsIn vs) (map commit_value (list_of cs)) → AreWithin n cs
+parents_within : (n : ℕ) (vs : List Value) → AllByRecursion (IsWithin n) vs → (cs : Commits) → AllByRecursion (IsIn vs) (map commit_value (list_of cs))
+    → AreWithin n cs
 parents_within n vs h none k = tt
 parents_within n vs h (more c cs) k = (all_in (IsWithin n) vs (commit_value c) h k.0, parents_within n vs h cs k.1)
 
@@ -132,12 +138,18 @@ within : (n : ℕ) (before vs : List Value) → IsClosedAfter before vs → AllB
 within n before [] closed h = tt
 within n before (v ∷ vs) closed h =
     let one = one_within n before h v closed.1 in
-    (value_widest (suc n) vs v one, within (suc n) (before ++ v ∷ []) vs closed.2 (all_join (IsWithin (suc n)) before (v ∷ []) (all_each (IsWithin n) (IsWithin (suc n)) (value_wider n) before h) (one, tt)))
+    let more = all_join (IsWithin (suc n)) before (v ∷ []) (all_each (IsWithin n) (IsWithin (suc n)) (value_wider n) before h) (one, tt) in
+    (value_widest (suc n) vs v one, within (suc n) (before ++ v ∷ []) vs closed.2 more)
 
 -- ---- commits by their names
 
-module _ (name : Kind → Bytes → Bytes) (namer : IsNamer name) (r : Records) (is : IsSound name r)
-    (told : (c : Commit) → IsIn (history_of r).values (commit_value c) → parents_named r.records (name_of name (commit_value c)) ≡ names_of name (parents_of c)) where
+-- the bodies of a history's commits tell their parents
+abbrev TellParents : (Kind → Bytes → Bytes) → Records → Type 0
+TellParents name r =
+    (c : Commit) → IsIn (history_of r).values (commit_value c)
+    → parents_named r.records (name_of name (commit_value c)) ≡ names_of name (parents_of c)
+
+module _ (name : Kind → Bytes → Bytes) (namer : IsNamer name) (r : Records) (is : IsSound name r) (told : TellParents name r) where
   abbrev h : History
   h = history_of r
 
@@ -164,7 +176,8 @@ module _ (name : Kind → Bytes → Bytes) (namer : IsNamer name) (r : Records) 
       by true true e k = refl
       by false false e k = refl
       by true false e k =
-          let one : commit_value c ≡ commit_value d = told_by_name name namer h.values apart (commit_value c) (commit_value d) i j (same_is (called c) (called d) (passes _ e)) in
+          let called_one = same_is (called c) (called d) (passes _ e) in
+          let one : commit_value c ≡ commit_value d = told_by_name name namer h.values apart (commit_value c) (commit_value d) i j called_one in
           let same : c ≡ d = cc one in
           sym (is_true (same_commit c d) (subst (λ x. T (same_commit c x)) same (commit_same c))) ∙ k
       by false true e k = sym e ∙ is_true (same_bytes (called c) (called d)) (is_same (called c) (called d) (ap called (commit_is c d (passes _ k))))
@@ -172,7 +185,8 @@ module _ (name : Kind → Bytes → Bytes) (namer : IsNamer name) (r : Records) 
   -- ---- ancestors
 
   mutual
-    leads : (n : ℕ) (c d : Commit) → Stands (commit_value c) → Stands (commit_value d) → Within n c → leads_within n r.records (called c) (called d) ≡ reaches c d
+    leads : (n : ℕ) (c d : Commit) → Stands (commit_value c) → Stands (commit_value d) → Within n c
+        → leads_within n r.records (called c) (called d) ≡ reaches c d
     leads zero c d i j w = absurd w
     leads (suc n) (commit f ps t) d i j w =
         (λ k. same_called (commit f ps t) d i j k || list_any (λ parent. leads_within n r.records parent (called d)) (told (commit f ps t) i k))
@@ -185,13 +199,15 @@ module _ (name : Kind → Bytes → Bytes) (namer : IsNamer name) (r : Records) 
 
   all_within : AllByRecursion (IsWithin (length r.records)) h.values
   all_within =
-      let e : counted 0 h.values ≡ length r.records = omega (arith, counted_is 0 h.values, ap length (stands name namer r is).records, length-map h.values (record_of name)) in
+      let many = ap length (stands name namer r is).records ∙ length-map h.values (record_of name) in
+      let e : counted 0 h.values ≡ length r.records = omega (arith, counted_is 0 h.values, many) in
       subst (λ n. AllByRecursion (IsWithin n) h.values) e (within 0 [] h.values whole.closed tt)
 
   leads_same : (c d : Commit) → Stands (commit_value c) → Stands (commit_value d) → leads_to r.records (called c) (called d) ≡ reaches c d
   leads_same c d i j = leads (length r.records) c d i j (all_in (IsWithin (length r.records)) h.values (commit_value c) all_within i)
 
-  parent_leads_same : (c d : Commit) → Stands (commit_value c) → Stands (commit_value d) → parent_leads_to r.records (called c) (called d) ≡ some_reaches (parents_of c) d
+  parent_leads_same : (c d : Commit) → Stands (commit_value c) → Stands (commit_value d)
+      → parent_leads_to r.records (called c) (called d) ≡ some_reaches (parents_of c) d
   parent_leads_same c d i j =
       ap (list_any (λ parent. leads_to r.records parent (called d))) (told c i)
       ∙ some_lead (length r.records) (parents_of c) d (elders c i) j (parents_within (length r.records) h.values all_within (parents_of c) (elders c i))
@@ -209,7 +225,8 @@ module _ (name : Kind → Bytes → Bytes) (namer : IsNamer name) (r : Records) 
   given revision = object_denoted name h revision >>= commit_held r.records
 
   module _ {A B : Type 0} (P : A → B → Type 0) where
-    of_value : (f : Bytes → Given A) (g : Commit → Given B) → ((c : Commit) → Stands (commit_value c) → AreAlike P (f (called c)) (g c)) → (v : Value) → Stands v
+    of_value : (f : Bytes → Given A) (g : Commit → Given B) → ((c : Commit) → Stands (commit_value c) → AreAlike P (f (called c)) (g c)) → (v : Value)
+        → Stands v
         → AreAlike P (commit_held r.records (name_of name v) >>= f) (commit_in v >>= g)
     of_value f g k v i = subst (λ o. AreAlike P (ok_or o WrongKind >>= f) (commit_in v >>= g)) (sym (commits_found name namer r is v i)) (by v i)
       where
@@ -220,21 +237,27 @@ module _ (name : Kind → Bytes → Bytes) (namer : IsNamer name) (r : Records) 
         by (tag_value t) j = k t.target (parts_in h.values (tag_value t) whole j).0
 
     -- what a revision gives, and what comes next
-    of_revision : (a : Revision) (f : Bytes → Given A) (g : Commit → Given B) → ((c : Commit) → Stands (commit_value c) → AreAlike P (f (called c)) (g c)) → AreAlike P (given a >>= f) (commit_denoted name h a >>= g)
+    of_revision : (a : Revision) (f : Bytes → Given A) (g : Commit → Given B) → ((c : Commit) → Stands (commit_value c) → AreAlike P (f (called c)) (g c))
+        → AreAlike P (given a >>= f) (commit_denoted name h a >>= g)
     of_revision a f g k = by (denoted name h a) refl
       where
-        by : (o : Given Shown) → denoted name h a ≡ o → AreAlike P ((((o >>= shown_value) >>= λ v. Ok (name_of name v)) >>= commit_held r.records) >>= f) (((o >>= shown_value) >>= commit_in) >>= g)
+        by : (o : Given Shown) → denoted name h a ≡ o
+            → AreAlike P ((((o >>= shown_value) >>= λ v. Ok (name_of name v)) >>= commit_held r.records) >>= f) (((o >>= shown_value) >>= commit_in) >>= g)
         by (Ok (object v)) e = of_value f g k v (held_value name namer r is a v e)
         by (Ok (submodule x)) e = refl
         by (Err x) e = refl
 
     -- a parent by its number, and what comes next
-    of_parent : (n : ℕ) (c : Commit) → Stands (commit_value c) → (f : Bytes → Given A) (g : Commit → Given B) → ((d : Commit) → Stands (commit_value d) → AreAlike P (f (called d)) (g d))
+    of_parent : (n : ℕ) (c : Commit) → Stands (commit_value c) → (f : Bytes → Given A) (g : Commit → Given B)
+        → ((d : Commit) → Stands (commit_value d) → AreAlike P (f (called d)) (g d))
         → AreAlike P (parent_held r.records n (called c) >>= f) (nth_parent n c >>= g)
     of_parent zero c i f g k = k c i
-    of_parent (suc n) c i f g k = subst (λ ns. AreAlike P (ok_or (slice_get ns n) NoParent >>= f) (nth_parent (suc n) c >>= g)) (sym (told c i)) (by (parents_of c) n (elders c i))
+    of_parent (suc n) c i f g k =
+        subst (λ ns. AreAlike P (ok_or (slice_get ns n) NoParent >>= f) (nth_parent (suc n) c >>= g)) (sym (told c i))
+        (by (parents_of c) n (elders c i))
       where
-        by : (cs : Commits) (n : ℕ) → AllByRecursion Stands (map commit_value (list_of cs)) → AreAlike P (ok_or (slice_get (names_of name cs) n) NoParent >>= f) (ok_or (slice_get (list_of cs) n) NoParent >>= g)
+        by : (cs : Commits) (n : ℕ) → AllByRecursion Stands (map commit_value (list_of cs))
+            → AreAlike P (ok_or (slice_get (names_of name cs) n) NoParent >>= f) (ok_or (slice_get (list_of cs) n) NoParent >>= g)
         by none n j = refl
         by (more c cs) zero j = k c j.0
         by (more c cs) (suc n) j = by cs n j.1
@@ -259,7 +282,10 @@ module _ (name : Kind → Bytes → Bytes) (namer : IsNamer name) (r : Records) 
   word_alike (AllParents a) = of_revision IsSpan a _ _ (λ c i. record { included = λ d j. parent_leads_same c d i j; excluded = λ d j. refl })
   word_alike (Alone a) = of_revision IsSpan a _ _ (λ c i. record { included = λ d j. leads_same c d i j; excluded = λ d j. parent_leads_same c d i j })
   word_alike (WithoutOne a n) =
-      of_revision IsSpan a _ _ (λ c i. of_parent IsSpan n c i _ _ (λ e k. record { included = λ d j. leads_same c d i j; excluded = λ d j. leads_same e d k j }))
+      of_revision IsSpan a _ _ (λ c i. of_parent IsSpan n c i _ _ (λ e k. record {
+        included = λ d j. leads_same c d i j;
+        excluded = λ d j. leads_same e d k j;
+      }))
 
   abbrev AreSpans : List NameSpan → List Word → Type 0
   AreSpans [] [] = ⊤
@@ -276,9 +302,11 @@ module _ (name : Kind → Bytes → Bytes) (namer : IsNamer name) (r : Records) 
   all_alike : (n : ℕ) (words : List RangeWord) → AllAlike (each_from n (span_held r.records given) words) (each_from n (word_denoted name h) words)
   all_alike n [] = tt
   all_alike n (word ∷ words) =
-      by (span_held r.records given word) (word_denoted name h word) (word_alike word) (each_from (n + 1) (span_held r.records given) words) (each_from (n + 1) (word_denoted name h) words) (all_alike (n + 1) words)
+      by (span_held r.records given word) (word_denoted name h word) (word_alike word)
+      (each_from (n + 1) (span_held r.records given) words) (each_from (n + 1) (word_denoted name h) words) (all_alike (n + 1) words)
     where
-      by : (s : Given NameSpan) (w : Given Word) → AreAlike IsSpan s w → (ss : Result (List NameSpan) WordFault) (ws : Result (List Word) WordFault) → AllAlike ss ws
+      by : (s : Given NameSpan) (w : Given Word) → AreAlike IsSpan s w → (ss : Result (List NameSpan) WordFault) (ws : Result (List Word) WordFault)
+          → AllAlike ss ws
           → AllAlike (at_word n s >>= λ y. ss >>= λ ys. Ok (y ∷ ys)) (at_word n w >>= λ y. ws >>= λ ys. Ok (y ∷ ys))
       by (Ok s) (Ok w) k (Ok ss) (Ok ws) l = (k, l)
       by (Ok s) (Ok w) k (Ok ss) (Err f) l = absurd l
@@ -290,13 +318,15 @@ module _ (name : Kind → Bytes → Bytes) (namer : IsNamer name) (r : Records) 
 
   -- ---- what is listed
 
-  some_include : (ss : List NameSpan) (ws : List Word) → AreSpans ss ws → (d : Commit) → Stands (commit_value d) → list_any (λ s. s.included (called d)) ss ≡ list_any (λ w. (span w).included d) ws
+  some_include : (ss : List NameSpan) (ws : List Word) → AreSpans ss ws → (d : Commit) → Stands (commit_value d)
+      → list_any (λ s. s.included (called d)) ss ≡ list_any (λ w. (span w).included d) ws
   some_include [] [] k d j = refl
   some_include [] (w ∷ ws) k d j = absurd k
   some_include (s ∷ ss) [] k d j = absurd k
   some_include (s ∷ ss) (w ∷ ws) k d j = λ i. k.0.included d j i || some_include ss ws k.1 d j i
 
-  some_exclude : (ss : List NameSpan) (ws : List Word) → AreSpans ss ws → (d : Commit) → Stands (commit_value d) → list_any (λ s. s.excluded (called d)) ss ≡ list_any (λ w. (span w).excluded d) ws
+  some_exclude : (ss : List NameSpan) (ws : List Word) → AreSpans ss ws → (d : Commit) → Stands (commit_value d)
+      → list_any (λ s. s.excluded (called d)) ss ≡ list_any (λ w. (span w).excluded d) ws
   some_exclude [] [] k d j = refl
   some_exclude [] (w ∷ ws) k d j = absurd k
   some_exclude (s ∷ ss) [] k d j = absurd k
@@ -320,10 +350,13 @@ module _ (name : Kind → Bytes → Bytes) (namer : IsNamer name) (r : Records) 
   listed_alike ss ws k =
       let made : List Commit = filter_map commit_of h.values in
       let test : Commit → Bool = λ c. list_any (λ w. (span w).included c) ws && not (list_any (λ w. (span w).excluded c) ws) in
+      let agree : (d : Commit) → Stands (commit_value d) → is_listed ss (called d) ≡ test d
+            = λ d j. λ i. some_include ss ws k d j i && not (some_exclude ss ws k d j i) in
+      let stand : AllByRecursion (λ c. Stands (commit_value c)) made = commits_stand h.values (each_in Stands h.values (λ u i. i)) in
       ap (λ rs. filter (is_listed ss) (reverse (commits_held rs))) (stands name namer r is).records
       ∙ ap (λ ns. filter (is_listed ss) (reverse ns)) (commits_are h.values)
       ∙ filter_reversed (is_listed ss) (map called made)
-      ∙ ap reverse (filter_mapped called (λ c. Stands (commit_value c)) (is_listed ss) test (λ d j. λ i. some_include ss ws k d j i && not (some_exclude ss ws k d j i)) made (commits_stand h.values (each_in Stands h.values (λ u i. i))))
+      ∙ ap reverse (filter_mapped called (λ c. Stands (commit_value c)) (is_listed ss) test agree made stand)
       ∙ reverse_mapped called (filter test made)
       ∙ ap (map called) (sym (filter_reversed test made))
 
@@ -332,7 +365,9 @@ module _ (name : Kind → Bytes → Bytes) (namer : IsNamer name) (r : Records) 
   ranges_shown words = by (each_from 1 (span_held r.records given) words) (words_denoted name h words) (all_alike 1 words)
     where
       by : (ss : Result (List NameSpan) WordFault) (ws : Result (List Word) WordFault) → AllAlike ss ws
-          → ◌≡◌ {A = Result (List Bytes) WordFault} (ss >>= λ spans. Ok (filter (is_listed spans) (reverse (commits_held r.records)))) (ws >>= λ xs. Ok (map called (listing h xs)))
+          → ◌≡◌ {A = Result (List Bytes) WordFault}
+              (ss >>= λ spans. Ok (filter (is_listed spans) (reverse (commits_held r.records))))
+              (ws >>= λ xs. Ok (map called (listing h xs)))
       by (Ok ss) (Ok ws) k = ap Ok (listed_alike ss ws k)
       by (Ok ss) (Err f) k = absurd k
       by (Err e) (Ok ws) k = absurd k

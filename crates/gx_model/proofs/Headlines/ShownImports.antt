@@ -173,7 +173,8 @@ module _ (name : Kind → Bytes → Bytes) (namer : IsNamer name) (r : Records) 
         refs = λ word. ap (λ refs. first_named refs (ref_names word)) s.refs ∙ first_of (λ target. name_of name (value_at target)) h (ref_names word);
         files = λ revision path. subst (λ k. (object_denoted name k revision >>= λ called. file_held r.records called path) ≡ looked_up name k revision path) same (files_shown name namer r is_sound revision path);
         commits = λ made i. commit_told name namer r is_sound made (subst (λ k. IsIn k.values (commit_value made)) (sym same) i);
-        ranges = λ words. subst (λ k. listed_held r.records (λ revision. object_denoted name k revision >>= commit_held r.records) words ≡ listed name k words) same
+        ranges = λ words.
+            subst (λ k. listed_held r.records (λ revision. object_denoted name k revision >>= commit_held r.records) words ≡ listed name k words) same
             (ranges_shown name namer r is_sound (λ made i. ap (λ q. q.parents) (commit_told name namer r is_sound made i)) words);
       }
 
@@ -255,14 +256,17 @@ module _ (name : Kind → Bytes → Bytes) (namer : IsNamer name) where
   pub headline : Headline name
   unfolding imported_asked
   headline given fails h progress report r e has =
-      shows h (texts_give name no_history h given fails progress report nothing_is e) (none_from_text name no_history h given fails progress report nothing_is tt e) r has
+      let is = texts_give name no_history h given fails progress report nothing_is e in
+      shows h is (none_from_text name no_history h given fails progress report nothing_is tt e) r has
 
   pub refused_headline : RefusedHeadline name
   unfolding imported_asked
   refused_headline given fails number fault progress kept e =
       let commands = commands_of (items_of given fails) in
-      let is = refusals_keep name no_history commands.list commands.fault 0 number fault progress kept nothing_is (all_proper (items_of given fails)) e in
-      let none = refusals_keep_none name no_history commands.list commands.fault 0 number fault progress kept nothing_is tt (none_brought (items_of given fails)) e in
+      let proper = all_proper (items_of given fails) in
+      let brings = none_brought (items_of given fails) in
+      let is = refusals_keep name no_history commands.list commands.fault 0 number fault progress kept nothing_is proper e in
+      let none = refusals_keep_none name no_history commands.list commands.fault 0 number fault progress kept nothing_is tt brings e in
       (checkpoints_kept name no_history commands.list commands.fault number fault progress kept e, λ r has. shows kept.history is none r has)
 
   pub changes_come_back : RepositoriesComeBackByChanges name

@@ -1,27 +1,25 @@
 -- A refused replay keeps what the commands before its last checkpoint give.
-use Rattle.std.proofs.Common.{◌≡◌, ℕ, suc, ◌+◌, ◌-◌, Bool, true, false, cond, refl, sym, ap, subst, ◌∙◌, arith, List, [], ◌∷◌, ◌++◌, length, append_assoc, append-nil, Option, None, Some, Result, Ok, Err}
+use Rattle.std.proofs.Common.{◌≡◌, ℕ, ◌+◌, ◌-◌, Bool, true, false, cond, refl, sym, ap, subst, ◌∙◌, arith, List, [], ◌∷◌, ◌++◌, length, append_assoc, append-nil, Option, None, Some, Result, Ok, Err}
 use Rattle.std.proofs.lemmas.List.{length-append}
 use Rattle.std.proofs.lemmas.List.Elements.{filter-append}
 use Rattle.std.specs.Prelude.{IfOk, take, ⊤}
 use Rattle.std.specs.List.{filter}
-use Rattle.std.specs.FinMap.Entries.{put}
 use Rattle.gx_model.specs.declared.faults.Fault.{Fault}
 use Rattle.gx_model.specs.declared.faults.Fault.TheVariants as fault
 use Rattle.gx_model.specs.declared.features.Feature.TheVariants as features
 use Rattle.gx_model.specs.declared.objects.Kind.{Kind}
 use Rattle.gx_model.specs.declared.objects.Mode.{Mode}
 use Rattle.gx_model.specs.declared.objects.Mode.TheVariants.{File, Exec, Link, Gitlink, Dir}
-use Rattle.gx_model.specs.Texts.{Bytes, byte_cmp}
-use Rattle.gx_model.specs.Texts.RefNames.{tag_ref}
+use Rattle.gx_model.specs.Texts.{Bytes}
 use Rattle.gx_model.specs.Faults.{◌>>=◌}
 use Rattle.gx_model.specs.Histories.Files.{FileMap}
 use Rattle.gx_model.specs.Histories.Edits.{copied, modified, renamed}
-use Rattle.gx_model.specs.Histories.Values.{Commit, Tag, Value, blob_value, commit, commit_value, commits_of, tag_value, tree_value}
+use Rattle.gx_model.specs.Histories.Values.{Tag, Value, blob_value, commit, commit_value, commits_of, tag_value, tree_value}
 use Rattle.gx_model.specs.Histories.{History}
 use Rattle.gx_model.specs.Revisions.Denotation.{base_value}
 use Rattle.gx_model.specs.Streams.Commands as command
 use Rattle.gx_model.specs.Streams.Commands.{Asks, Blob, Change, Checkpoint, Clear, Command, CommitIsh, CommitParts, Copy, DataRef, Done, Inline, Mark, Modify, Object, OptionLine, Progress, Remove, Rename, Reset, TagParts}
-use Rattle.gx_model.specs.Replay.{Kept, Outcome, State, added, all_changed, all_committed, at, blob_bytes, changed, checkpointed, commit_alone, committed, committed_for, content, ended, final, finished, first_parent, is_fast_forward, marked, on_branch, refused, replayed, report, start, starting_files, step, step_checkpoint, step_commit, step_reset, step_tag, text_made, with_first_parent}
+use Rattle.gx_model.specs.Replay.{Kept, Outcome, State, added, all_changed, all_committed, at, blob_bytes, changed, checkpointed, commit_alone, committed, committed_for, content, final, finished, first_parent, is_fast_forward, marked, refused, replayed, report, start, starting_files, step, step_commit, step_reset, step_tag, text_made, with_first_parent}
 use Rattle.gx_model.specs.Laws.RefusedReplays.{Gives, IsKept, RefusalsKeepCheckpoints, before_checkpoint, before_others, is_checkpoint}
 use Rattle.gx_model.proofs.Replay.NullGitlinks.{then_if}
 
@@ -202,7 +200,7 @@ module _ (name : Kind → Bytes → Bytes) where
                 s.progress,
                 report (length done) s,
                 sym (ap (λ cs. replayed name 0 (start h) cs None) (append-nil done)) ∙ after.runs [] None
-                ∙ ap (by_test (length done) s) forward,
+                    ∙ ap (by_test (length done) s) forward,
               );
         }
       where

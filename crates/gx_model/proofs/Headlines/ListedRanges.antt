@@ -1,20 +1,19 @@
 -- Range words list among records, by the parents that bodies tell, what they list in the history.
-use Rattle.std.proofs.Common.{◌≡◌, ℕ, zero, suc, ◌+◌, Bool, true, false, cond, refl, sym, ap, subst, ◌∙◌, arith, List, [], ◌∷◌, ◌++◌, map, length, append-nil, Option, None, Some, Result, Ok, Err}
+use Rattle.std.proofs.Common.{◌≡◌, ℕ, zero, suc, ◌+◌, Bool, true, false, cond, refl, sym, ap, subst, ◌∙◌, arith, List, [], ◌∷◌, ◌++◌, map, length, append-nil, Result, Ok, Err}
 use Rattle.std.proofs.lemmas.List.{length-map, reverse-append}
 use Rattle.std.proofs.lemmas.List.Elements.{filter-append}
 use Rattle.std.specs.Prelude.{◌&&◌, ◌||◌, T, ⊤, not, reverse}
 use Rattle.std.specs.Bool.{passes}
 use Rattle.std.specs.List.{AllByRecursion, filter, filter_map, list_any, slice_get}
 use Rattle.std.specs.Option.{ok_or}
-use Rattle.gx_model.specs.declared.faults.Fault.{Fault}
 use Rattle.gx_model.specs.declared.faults.Fault.TheVariants.{NoParent, WrongKind}
 use Rattle.gx_model.specs.declared.objects.Kind.{Kind}
 use Rattle.gx_model.specs.Texts.{Bytes, same_bytes}
 use Rattle.gx_model.specs.Faults.{Given, ◌>>=◌}
-use Rattle.gx_model.specs.Histories.Values.{Commit, Commits, Tag, Value, blob_value, commit, commit_of, commit_value, list_of, more, none, parents_of, parts, same_commit, tag_value, tree_value}
+use Rattle.gx_model.specs.Histories.Values.{Commit, Commits, Value, blob_value, commit, commit_of, commit_value, list_of, more, none, parents_of, parts, same_commit, tag_value, tree_value}
 use Rattle.gx_model.specs.Objects.{IsNamer}
 use Rattle.gx_model.specs.Records.{name_of, names_of}
-use Rattle.gx_model.specs.Histories.{AreDistinct, History, IsClosedAfter, IsIn, IsWhole, Record, Records, record_of}
+use Rattle.gx_model.specs.Histories.{AreDistinct, History, IsClosedAfter, IsIn, IsWhole, Records, record_of}
 use Rattle.gx_model.specs.Records.HistoryOf.{history_of}
 use Rattle.gx_model.specs.Records.Sound.{IsSound}
 use Rattle.gx_model.specs.Records.Lookups.{commit_name_of}
@@ -351,7 +350,7 @@ module _ (name : Kind → Bytes → Bytes) (namer : IsNamer name) (r : Records) 
       let made : List Commit = filter_map commit_of h.values in
       let test : Commit → Bool = λ c. list_any (λ w. (span w).included c) ws && not (list_any (λ w. (span w).excluded c) ws) in
       let agree : (d : Commit) → Stands (commit_value d) → is_listed ss (called d) ≡ test d
-            = λ d j. λ i. some_include ss ws k d j i && not (some_exclude ss ws k d j i) in
+      = λ d j. λ i. some_include ss ws k d j i && not (some_exclude ss ws k d j i) in
       let stand : AllByRecursion (λ c. Stands (commit_value c)) made = commits_stand h.values (each_in Stands h.values (λ u i. i)) in
       ap (λ rs. filter (is_listed ss) (reverse (commits_held rs))) (stands name namer r is).records
       ∙ ap (λ ns. filter (is_listed ss) (reverse ns)) (commits_are h.values)
@@ -366,8 +365,8 @@ module _ (name : Kind → Bytes → Bytes) (namer : IsNamer name) (r : Records) 
     where
       by : (ss : Result (List NameSpan) WordFault) (ws : Result (List Word) WordFault) → AllAlike ss ws
           → ◌≡◌ {A = Result (List Bytes) WordFault}
-              (ss >>= λ spans. Ok (filter (is_listed spans) (reverse (commits_held r.records))))
-              (ws >>= λ xs. Ok (map called (listing h xs)))
+          (ss >>= λ spans. Ok (filter (is_listed spans) (reverse (commits_held r.records))))
+          (ws >>= λ xs. Ok (map called (listing h xs)))
       by (Ok ss) (Ok ws) k = ap Ok (listed_alike ss ws k)
       by (Ok ss) (Err f) k = absurd k
       by (Err e) (Ok ws) k = absurd k

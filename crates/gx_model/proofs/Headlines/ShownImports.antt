@@ -249,8 +249,8 @@ module _ (name : Kind → Bytes → Bytes) (namer : IsNamer name) where
         s,
         shown name namer r h s,
         λ short.
-        let q = export_imported name h is (formed_readable h is (none_reached h none) short) in
-        (q.0, of_history q.0, q.2, comes_back r h q.0 s q.1),
+            let q = export_imported name h is (formed_readable h is (none_reached h none) short) in
+            (q.0, of_history q.0, q.2, comes_back r h q.0 s q.1),
       )
 
   pub headline : Headline name

@@ -1,7 +1,7 @@
 -- What records show, object by object: files at paths, and the commits that range words list, by their names and by the parents
 -- that bodies tell.
 -- Source: gitrevisions(7), and Pro Git, "Git Objects".
-use Rattle.std.specs.Prelude.{ℕ, zero, suc, Bool, false, not, ◌&&◌, ◌||◌, List, [], ◌∷◌, length, map, reverse, Option, None, Some, Ok, Err}
+use Rattle.std.specs.Prelude.{ℕ, zero, suc, Bool, false, not, ◌&&◌, ◌||◌, List, [], length, map, reverse, Option, None, Some, Ok, Err}
 use Rattle.std.specs.List.{filter, list_any, slice_get}
 use Rattle.std.specs.Option.{ok_or}
 use Rattle.std.specs.declared.result.Result.{Result}

@@ -1,5 +1,5 @@
 -- Worked rows on what records list for range words, and on the commands before the last checkpoint.
-use Rattle.std.specs.Prelude.{◌≡◌, ℕ, List, [], ◌∷◌, ◌++◌, map, replicate, codes, Option, None, Some, Ok, Err, refl}
+use Rattle.std.specs.Prelude.{◌≡◌, ℕ, List, [], ◌∷◌, ◌++◌, map, replicate, codes, None, Some, Ok, Err, refl}
 use Rattle.std.specs.declared.result.Result.{Result}
 use Rattle.std.specs.Map.{lookup}
 use Rattle.std.specs.Option.{ok_or}

@@ -20,7 +20,7 @@ use Rattle.gx_model.specs.Revisions.Denotation.{base_value}
 use Rattle.gx_model.specs.Streams.Commands as command
 use Rattle.gx_model.specs.Streams.Commands.{Asks, Blob, Change, Checkpoint, Clear, Command, CommitIsh, CommitParts, Copy, DataRef, Done, Inline, Mark, Modify, Object, OptionLine, Progress, Remove, Rename, Reset, TagParts}
 use Rattle.gx_model.specs.Replay.{Kept, Outcome, State, added, all_changed, all_committed, at, blob_bytes, changed, checkpointed, commit_alone, committed, committed_for, content, final, finished, first_parent, is_fast_forward, marked, refused, replayed, report, start, starting_files, step, step_commit, step_reset, step_tag, text_made, with_first_parent}
-use Rattle.gx_model.specs.Laws.RefusedReplays.{Gives, IsKept, RefusalsKeepCheckpoints, before_checkpoint, before_others, is_checkpoint}
+use Rattle.gx_model.specs.Laws.RefusedReplays.{GiveAlone, KeepsCheckpoint, RefusalsKeepCheckpoints, before_checkpoint, before_others, is_checkpoint}
 use Rattle.gx_model.proofs.Replay.NullGitlinks.{then_if}
 
 -- ---- lists
@@ -162,7 +162,7 @@ module _ (name : Kind → Bytes → Bytes) where
     -- more commands go on from here, and this is kept
     record IsAfter (done : List Command) (s : State) : Type 0 where
       pub runs : (more : List Command) (end : Option Fault) → replayed name 0 (start h) (done ++ more) end ≡ replayed name (length done) s more end
-      pub kept : IsKept name h done s.kept
+      pub kept : KeepsCheckpoint name h done s.kept
 
     none_done : IsAfter [] (start h)
     none_done = record { runs = λ more end. refl; kept = record { checkpoints = refl; start = λ e. refl; last = λ front e. absurd cc } }
@@ -176,18 +176,19 @@ module _ (name : Kind → Bytes → Bytes) where
         ∙ ap (λ n. replayed name n t more end) (sym (length-append done (c ∷ [])))
 
     -- a command that is no checkpoint
-    kept_on : (done : List Command) (s : State) (c : Command) (t : State) → IsKept name h done s.kept → is_checkpoint c ≡ false → KeepsAs s t
-        → IsKept name h (done ++ c ∷ []) t.kept
+    kept_on : (done : List Command) (s : State) (c : Command) (t : State) → KeepsCheckpoint name h done s.kept → is_checkpoint c ≡ false → KeepsAs s t
+        → KeepsCheckpoint name h (done ++ c ∷ []) t.kept
     kept_on done s c t is plain same =
         let count = count_more done c false plain in
-        subst (IsKept name h (done ++ c ∷ [])) (sym same) (record {
+        subst (KeepsCheckpoint name h (done ++ c ∷ [])) (sym same) (record {
           checkpoints = is.checkpoints ∙ omega (arith, count);
           start = λ e. is.start (sym (before_more done c plain) ∙ e);
           last = λ front e. is.last front (sym (before_more done c plain) ∙ e);
         })
 
     -- a checkpoint keeps what the commands so far give
-    kept_now : (done : List Command) (s : State) → IsAfter done s → is_fast_forward s ≡ true → IsKept name h (done ++ Checkpoint ∷ []) (checkpointed s).kept
+    kept_now : (done : List Command) (s : State) → IsAfter done s → is_fast_forward s ≡ true
+        → KeepsCheckpoint name h (done ++ Checkpoint ∷ []) (checkpointed s).kept
     kept_now done s after forward =
         let count = count_more done Checkpoint true refl in
         let many = after.kept.checkpoints in
@@ -196,7 +197,7 @@ module _ (name : Kind → Bytes → Bytes) where
           start = λ e. let none : Some done ≡ None = sym (before_last done) ∙ e in absurd cc;
           last = λ front e.
               let same : done ≡ front = some_is done front (sym (before_last done) ∙ e) in
-              subst (λ cs. Gives name h cs (final s)) same (
+              subst (λ cs. GiveAlone name h cs (final s)) same (
                 s.progress,
                 report (length done) s,
                 sym (ap (λ cs. replayed name 0 (start h) cs None) (append-nil done)) ∙ after.runs [] None
@@ -211,16 +212,16 @@ module _ (name : Kind → Bytes → Bytes) where
     step_after done s c t after e = record { runs = runs_on done s c t after e; kept = by c e }
       where
         at_checkpoint : (b : Bool) → is_fast_forward s ≡ b → cond b (Ok (checkpointed s)) (Err fault.NotFastForward) ≡ Ok t
-            → IsKept name h (done ++ Checkpoint ∷ []) t.kept
+            → KeepsCheckpoint name h (done ++ Checkpoint ∷ []) t.kept
         at_checkpoint true f k =
             let same : checkpointed s ≡ t = cc in
-            subst (λ u. IsKept name h (done ++ Checkpoint ∷ []) u.kept) same (kept_now done s after f)
+            subst (λ u. KeepsCheckpoint name h (done ++ Checkpoint ∷ []) u.kept) same (kept_now done s after f)
         at_checkpoint false f k = absurd cc
 
-        other : (c : Command) → is_checkpoint c ≡ false → step name s c ≡ Ok t → IsKept name h (done ++ c ∷ []) t.kept
+        other : (c : Command) → is_checkpoint c ≡ false → step name s c ≡ Ok t → KeepsCheckpoint name h (done ++ c ∷ []) t.kept
         other c plain k = kept_on done s c t after.kept plain (subst (λ r. IfOk r (KeepsAs s)) k (step_keeps s c plain))
 
-        by : (c : Command) → step name s c ≡ Ok t → IsKept name h (done ++ c ∷ []) t.kept
+        by : (c : Command) → step name s c ≡ Ok t → KeepsCheckpoint name h (done ++ c ∷ []) t.kept
         by Checkpoint k = at_checkpoint (is_fast_forward s) refl k
         by (Blob b) k = other (Blob b) refl k
         by (command.Commit p) k = other (command.Commit p) refl k
@@ -241,20 +242,20 @@ module _ (name : Kind → Bytes → Bytes) where
     kept_of (finished k x r) = record { history = k; checkpoints = 0 }
     kept_of (refused n f x k) = k
 
-    refused_here : (done more : List Command) (s : State) (f g : Fault) (x y : Bytes) (number : ℕ) (kept : Kept) → IsKept name h done s.kept
-        → refused (length done + 1) f x s.kept ≡ refused number g y kept → IsKept name h (take (number - 1) (done ++ more)) kept
+    refused_here : (done more : List Command) (s : State) (f g : Fault) (x y : Bytes) (number : ℕ) (kept : Kept) → KeepsCheckpoint name h done s.kept
+        → refused (length done + 1) f x s.kept ≡ refused number g y kept → KeepsCheckpoint name h (take (number - 1) (done ++ more)) kept
     refused_here done more s f g x y number kept is e =
         let count = ap number_of e in
         let front : number - 1 ≡ length done = omega (arith, count) in
         let applied : take (number - 1) (done ++ more) ≡ done = ap (λ n. take n (done ++ more)) front ∙ taken_front done more in
-        subst (λ cs. IsKept name h cs kept) (sym applied) (subst (IsKept name h done) (ap kept_of e) is)
+        subst (λ cs. KeepsCheckpoint name h cs kept) (sym applied) (subst (KeepsCheckpoint name h done) (ap kept_of e) is)
 
     kept_from : (done : List Command) (s : State) (cs : List Command) (end : Option Fault) (number : ℕ) (g : Fault) (y : Bytes) (kept : Kept) → IsAfter done s
-        → replayed name (length done) s cs end ≡ refused number g y kept → IsKept name h (take (number - 1) (done ++ cs)) kept
+        → replayed name (length done) s cs end ≡ refused number g y kept → KeepsCheckpoint name h (take (number - 1) (done ++ cs)) kept
     kept_from done s [] (Some f) number g y kept after e = refused_here done [] s f g s.progress y number kept after.kept e
     kept_from done s [] None number g y kept after e = by (is_fast_forward s) e
       where
-        by : (b : Bool) → by_test (length done) s b ≡ refused number g y kept → IsKept name h (take (number - 1) (done ++ [])) kept
+        by : (b : Bool) → by_test (length done) s b ≡ refused number g y kept → KeepsCheckpoint name h (take (number - 1) (done ++ [])) kept
         by true k = absurd cc
         by false k = refused_here done [] s fault.NotFastForward g s.progress y number kept after.kept k
     kept_from done s (c ∷ cs) end number g y kept after e =
@@ -264,10 +265,10 @@ module _ (name : Kind → Bytes → Bytes) where
       where
         by : (r : Result State Fault) → step name s c ≡ r → by_step (length done) s cs end r ≡ refused number g y kept
             → ((t : State) → step name s c ≡ Ok t → replayed name (length done + 1) t cs end ≡ refused number g y kept
-            → IsKept name h (take (number - 1) ((done ++ c ∷ []) ++ cs)) kept)
-            → IsKept name h (take (number - 1) (done ++ c ∷ cs)) kept
+            → KeepsCheckpoint name h (take (number - 1) ((done ++ c ∷ []) ++ cs)) kept)
+            → KeepsCheckpoint name h (take (number - 1) (done ++ c ∷ cs)) kept
         by (Err f) q k rest = refused_here done (c ∷ cs) s f g s.progress y number kept after.kept k
-        by (Ok t) q k rest = subst (λ all. IsKept name h (take (number - 1) all) kept) (append_assoc done (c ∷ []) cs) (rest t q k)
+        by (Ok t) q k rest = subst (λ all. KeepsCheckpoint name h (take (number - 1) all) kept) (append_assoc done (c ∷ []) cs) (rest t q k)
 
 pub checkpoints_kept : RefusalsKeepCheckpoints
 checkpoints_kept name h commands end number g y kept e = kept_from name h [] (start h) commands end number g y kept (none_done name h) e

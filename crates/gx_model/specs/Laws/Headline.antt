@@ -23,7 +23,7 @@ use Rattle.gx_model.specs.Streams.Items.{items_of}
 use Rattle.gx_model.specs.Export.{export_text}
 use Rattle.gx_model.specs.Replay.{Kept, Report, finished, imported, refused}
 use Rattle.gx_model.specs.Laws.ExportLaws.{IsAgain, exported_report}
-use Rattle.gx_model.specs.Laws.RefusedReplays.{IsKept}
+use Rattle.gx_model.specs.Laws.RefusedReplays.{KeepsCheckpoint}
 use Rattle.gx_model.specs.Laws.ShownRecords.{body_named, commit_held, file_held, listed_held}
 
 module _ (name : Kind → Bytes → Bytes) where
@@ -79,5 +79,5 @@ module _ (name : Kind → Bytes → Bytes) where
   RefusedHeadline =
       (given : Bytes) (fails : Bool) (number : ℕ) (fault : Fault) (progress : Bytes) (kept : Kept)
       → imported name no_history given fails ≡ refused number fault progress kept
-      → IsKept name no_history (take (number - 1) (commands_of (items_of given fails)).list) kept
+      → KeepsCheckpoint name no_history (take (number - 1) (commands_of (items_of given fails)).list) kept
       × ((repository : Records) → HasRecordsOf repository kept.history → ShowsAndComesBack repository kept.history)

@@ -14,6 +14,10 @@ abbrev pub is_checkpoint : Command → Bool
 is_checkpoint Checkpoint = true
 is_checkpoint _ = false
 
+-- how many of these commands are checkpoints
+abbrev pub checkpoints_in : List Command → ℕ
+checkpoints_in commands = length (filter is_checkpoint commands)
+
 -- a command before what the others tell; alone it may be the last checkpoint
 abbrev pub before_others : Command → Option (List Command) → Option (List Command)
 before_others c (Some front) = Some (c ∷ front)
@@ -26,20 +30,20 @@ before_checkpoint (c ∷ cs) = before_others c (before_checkpoint cs)
 
 module _ (name : Kind → Bytes → Bytes) where
   -- these commands, replayed from a history to their end, meet no fault and give the other
-  abbrev pub Gives : History → List Command → History → Type 0
-  Gives h commands k =
+  abbrev pub GiveAlone : History → List Command → History → Type 0
+  GiveAlone h commands k =
       (text : Bytes) × (report : Report)
       × (replayed_commands name h (record { list = commands; fault = None }) ≡ finished k text report)
 
   -- what is kept after these commands: what those before the last checkpoint give, or the history of the start
-  pub record IsKept (h : History) (commands : List Command) (kept : Kept) : Type 0 where
-    pub checkpoints : kept.checkpoints ≡ length (filter is_checkpoint commands)
+  pub record KeepsCheckpoint (h : History) (commands : List Command) (kept : Kept) : Type 0 where
+    pub checkpoints : kept.checkpoints ≡ checkpoints_in commands
     pub start : before_checkpoint commands ≡ None → kept.history ≡ h
-    pub last : (front : List Command) → before_checkpoint commands ≡ Some front → Gives h front kept.history
+    pub last : (front : List Command) → before_checkpoint commands ≡ Some front → GiveAlone h front kept.history
 
 -- a replay that is refused at a command keeps what is kept after those before it
 abbrev pub RefusalsKeepCheckpoints : Type 0
 RefusalsKeepCheckpoints =
     (name : Kind → Bytes → Bytes) (h : History) (commands : List Command) (end : Option Fault)
     (number : ℕ) (fault : Fault) (text : Bytes) (kept : Kept)
-    → replayed name 0 (start h) commands end ≡ refused number fault text kept → IsKept name h (take (number - 1) commands) kept
+    → replayed name 0 (start h) commands end ≡ refused number fault text kept → KeepsCheckpoint name h (take (number - 1) commands) kept

@@ -88,13 +88,13 @@ pub record NameSpan : Type 0 where
   pub excluded : Bytes → Bool
 
 -- no name
-abbrev pub no_name : Bytes → Bool
-no_name called = false
+abbrev pub no_commit_name : Bytes → Bool
+no_commit_name called = false
 
 -- what a word includes and excludes, by the commits that its revisions give
 abbrev pub span_held : List Record → (Revision → Given Bytes) → RangeWord → Given NameSpan
-span_held records given (WithAncestors r) = given r >>= λ c. Ok (record { included = leads_to records c; excluded = no_name })
-span_held records given (WithoutAncestors r) = given r >>= λ c. Ok (record { included = no_name; excluded = leads_to records c })
+span_held records given (WithAncestors r) = given r >>= λ c. Ok (record { included = leads_to records c; excluded = no_commit_name })
+span_held records given (WithoutAncestors r) = given r >>= λ c. Ok (record { included = no_commit_name; excluded = leads_to records c })
 span_held records given (Between a b) =
     given a >>= λ c. given b >>= λ d. Ok (record { included = leads_to records d; excluded = leads_to records c })
 span_held records given (Apart a b) =
@@ -103,7 +103,7 @@ span_held records given (Apart a b) =
       included = λ n. leads_to records c n || leads_to records d n;
       excluded = λ n. leads_to records c n && leads_to records d n;
     }))
-span_held records given (AllParents r) = given r >>= λ c. Ok (record { included = parent_leads_to records c; excluded = no_name })
+span_held records given (AllParents r) = given r >>= λ c. Ok (record { included = parent_leads_to records c; excluded = no_commit_name })
 span_held records given (Alone r) =
     given r >>= λ c. Ok (record { included = leads_to records c; excluded = parent_leads_to records c })
 span_held records given (WithoutOne r n) =

@@ -9,13 +9,16 @@ use Rattle.gx_model.specs.declared.objects.Kind.TheVariants as kind
 use Rattle.gx_model.specs.Texts.{Bytes, same_bytes}
 use Rattle.gx_model.specs.Faults.{Given, ◌>>=◌}
 use Rattle.gx_model.specs.Histories.Values.{CommitText}
-use Rattle.gx_model.specs.Histories.{Record}
+use Rattle.gx_model.specs.Histories.{Record, no_history}
 use Rattle.gx_model.specs.Objects.{commit_text, tag_text}
+use Rattle.gx_model.specs.Objects.Naming.{short_name}
 use Rattle.gx_model.specs.Revisions.{AllParents, Alone, Apart, Between, RangeWord, Revision, WithAncestors, WithoutAncestors, WithoutOne}
 use Rattle.gx_model.specs.Revisions.Ranges.{WordFault}
-use Rattle.gx_model.specs.Streams.Commands.{Checkpoint, Command, Done, Progress}
+use Rattle.gx_model.specs.Streams.Commands.{Checkpoint, Command, Commit, Done, Marked, Progress, Reset, Tag}
+use Rattle.gx_model.specs.Replay.{Outcome, replayed_commands}
 use Rattle.gx_model.specs.Laws.RefusedReplays.{before_checkpoint}
 use Rattle.gx_model.specs.Laws.ShownRecords.{commit_held, listed_held}
+use Rattle.gx_model.specs.Rows.RowTexts.{history_after, kept_after, refusal}
 
 -- ---- what range words list
 
@@ -104,11 +107,42 @@ range_rows = record {
 abbrev says : Bytes → Command
 says x = Progress x
 
+abbrev root : Bytes → ℕ → Command
+root ref mark =
+    Commit (record {
+      ref = ref;
+      mark = Some mark;
+      author = None;
+      committer = codes "A <a@x> 1 +0000";
+      encoding = None;
+      message = ref;
+      parent = None;
+      merges = [];
+      changes = [];
+    })
+
+-- two roots, a tag on the first, and the second on a branch of the tag's ref
+abbrev tag_over_branch : List Command
+tag_over_branch =
+    root (codes "refs/heads/a") 1
+    ∷ root (codes "refs/heads/b") 2
+    ∷ Tag (record { name = codes "v"; mark = None; target = Marked 1; tagger = None; message = [] })
+    ∷ Reset (record { ref = codes "refs/tags/v"; parent = Some (Marked 2) })
+    ∷ []
+
+abbrev replay : List Command → Outcome
+replay commands = replayed_commands short_name no_history (record { list = commands; fault = None })
+
 pub record CheckpointRows : Type 0 where
   pub none : before_checkpoint (says (codes "a") ∷ Done ∷ []) ≡ None
   pub first : before_checkpoint (Checkpoint ∷ says (codes "a") ∷ []) ≡ Some []
   pub last : before_checkpoint (says (codes "a") ∷ Checkpoint ∷ says (codes "b") ∷ Checkpoint ∷ says (codes "c") ∷ [])
       ≡ Some (says (codes "a") ∷ Checkpoint ∷ says (codes "b") ∷ [])
+  -- the tag is set last, so that the branch isn't forward behind the checkpoint: the commands before it alone are accepted
+  pub accepted : refusal (replay tag_over_branch) ≡ None
+  pub behind : refusal (replay (tag_over_branch ++ Checkpoint ∷ [])) ≡ Some (6, fault.NotFastForward)
+  pub kept : kept_after (replay (tag_over_branch ++ Checkpoint ∷ [])) ≡ Some (record { history = history_after (replay tag_over_branch); checkpoints = 1 })
 
 pub checkpoint_rows : CheckpointRows
-checkpoint_rows = record { none = refl; first = refl; last = refl }
+unfolding short_name
+checkpoint_rows = record { none = refl; first = refl; last = refl; accepted = refl; behind = refl; kept = refl }

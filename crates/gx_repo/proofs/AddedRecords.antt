@@ -1,5 +1,5 @@
 -- What comes of a record of which nothing is known.
-use Rattle.std.proofs.Common.{◌≡◌, ◌⊎◌, inl, inr, true, List, Option, None, Some, is_some, Result, Ok, Err, IsErrAnd, refl, sym, ap, ◌∙◌}
+use Rattle.std.proofs.Common.{◌≡◌, inr, true, List, Option, None, Some, is_some, Result, Ok, Err, IsErrAnd, refl, sym, ap, subst}
 use Rattle.gx_model.specs.declared.store_faults.FileFault.{FileFault}
 use Rattle.gx_model.specs.declared.store_faults.FileFault.TheVariants as model
 use Rattle.gx_model.specs.Histories.{Record}
@@ -8,7 +8,8 @@ use Rattle.gx_model.specs.Records.RecordFaults.{content_fault, or_duplicate, rec
 use Rattle.gx_object.specs.declared.name.Name.{Name}
 use Rattle.gx_repo.specs.declared.fault.AddFault.{AddFault}
 use Rattle.gx_repo.specs.declared.fault.AddFault.TheVariants.{OutOfMemory, BadObject, Dangling, DuplicateObject}
-use Rattle.gx_repo.specs.Records.{AddsRecord, add_fault}
+use Rattle.gx_repo.specs.Checking.{MayRefuse}
+use Rattle.gx_repo.specs.Records.{AddsRecord, HidesNoFaultOf}
 
 -- what is against a body is against its record
 against_record : (old : List Record) (r : Record) (f : FileFault) → content_fault old r.kind r.body ≡ Some f → record_fault old r ≡ Some f
@@ -25,22 +26,18 @@ pub acceptable : (old : List Record) (r : Record) → content_fault old r.kind r
 unfolding record_fault
 acceptable old r h k = λ i. or_duplicate (h i) (is_some (k i))
 
--- a refusal for what is against the body
-pub refused : (old : List Record) (r : Record) (answer : Result Name AddFault) (f : AddFault) → IsErrAnd answer (λ y. y ≡ f) → content_fault old r.kind r.body ≡ Some (add_fault f) → AddsRecord old old r answer
-refused old r (Ok n) f e h = absurd e
-refused old r (Err OutOfMemory) f e h = refl
-refused old r (Err BadObject) f e h = (against_record old r (add_fault f) h ∙ ap (λ z. Some (add_fault z)) (sym e), refl)
-refused old r (Err Dangling) f e h = (against_record old r (add_fault f) h ∙ ap (λ z. Some (add_fault z)) (sym e), refl)
-refused old r (Err DuplicateObject) f e h = (against_record old r (add_fault f) h ∙ ap (λ z. Some (add_fault z)) (sym e), refl)
+-- a refusal for what is against the body, or for want of memory
+refused_for : (old : List Record) (r : Record) (f : AddFault) → MayRefuse old r.kind r.body f → AddsRecord old old r (Err f) × HidesNoFaultOf old r (Err f)
+refused_for old r OutOfMemory h = (refl, inr h)
+refused_for old r BadObject h = ((against_record old r model.BadObject h, refl), tt)
+refused_for old r Dangling h = ((against_record old r model.Dangling h, refl), tt)
+refused_for old r DuplicateObject h = ((against_record old r model.DuplicateObject h, refl), tt)
 
--- and one for want of memory
-pub room_refused : (old : List Record) (r : Record) (answer : Result Name AddFault) (f : AddFault) → IsErrAnd answer (λ y. y ≡ f) → (f ≡ OutOfMemory) ⊎ (content_fault old r.kind r.body ≡ Some (add_fault f)) → AddsRecord old old r answer
-room_refused old r answer f e (inr h) = refused old r answer f e h
-room_refused old r (Ok n) f e (inl o) = absurd e
-room_refused old r (Err OutOfMemory) f e (inl o) = refl
-room_refused old r (Err BadObject) f e (inl o) = let k : BadObject ≡ OutOfMemory = e ∙ o in absurd (cc)
-room_refused old r (Err Dangling) f e (inl o) = let k : Dangling ≡ OutOfMemory = e ∙ o in absurd (cc)
-room_refused old r (Err DuplicateObject) f e (inl o) = let k : DuplicateObject ≡ OutOfMemory = e ∙ o in absurd (cc)
+-- the same, passed on
+pub room_refused : (old : List Record) (r : Record) (answer : Result Name AddFault) (f : AddFault) → IsErrAnd answer (λ y. y ≡ f) → MayRefuse old r.kind r.body f
+    → AddsRecord old old r answer × HidesNoFaultOf old r answer
+room_refused old r (Ok n) f e h = absurd e
+room_refused old r (Err y) f e h = refused_for old r y (subst (MayRefuse old r.kind r.body) (sym e) h)
 
 -- a put that is refused finds the name held
 pub put_refused : (old : List Record) (r : Record) → put old r ≡ None → is_some (record_named old r.name) ≡ true

@@ -1,5 +1,5 @@
 -- What is against a body, by its parts.
-use Rattle.std.proofs.Common.{◌≡◌, Bool, true, false, not, ◌&&◌, ◌||◌, ◌<◌, ◌≤◌, ℕ, max, if◌then◌else◌, List, [], ◌∷◌, Option, Some, None, Result, Ok, Err, IsErrAnd, IfErr, suc, ◌+◌, drop, slice_get, inr, refl, sym, ap, subst, ◌∙◌, add-one, arith}
+use Rattle.std.proofs.Common.{◌≡◌, Bool, true, false, not, ◌&&◌, ◌||◌, ◌<◌, ◌≤◌, ℕ, max, if◌then◌else◌, List, [], ◌∷◌, Option, Some, None, Result, Ok, Err, IsErrAnd, IfErr, suc, ◌+◌, drop, slice_get, refl, sym, ap, subst, ◌∙◌, add-one, arith}
 use Rattle.std.specs.List.{list_all, list_any}
 use Rattle.std.proofs.Math.Seq.{drop-cons}
 use Rattle.std.proofs.lemmas.Bool.{false_from_ne_true, le-leb, lt-leb}
@@ -15,9 +15,9 @@ use Rattle.gx_model.specs.Records.Growth.{record_named}
 use Rattle.gx_model.specs.Records.RecordFaults.{are_links_held, content_fault, has_empty_directory, has_long_path, is_bad_below, is_body, is_entry_held, is_held, is_without_entries}
 use Rattle.gx_model.specs.Laws.StoreLaws.{BodiesAreRead, IsBody}
 use Rattle.gx_repo.specs.declared.fault.AddFault.{AddFault}
-use Rattle.gx_repo.specs.declared.fault.AddFault.TheVariants.{Dangling}
+use Rattle.gx_repo.specs.declared.fault.AddFault.TheVariants.{OutOfMemory, BadObject, Dangling, DuplicateObject}
 use Rattle.gx_repo.specs.Checking.{IsAgainst, MayRefuse, entry_room, wider, widest}
-use Rattle.gx_repo.specs.Records.{add_fault}
+use Rattle.gx_repo.specs.Records.{IsLinkedTree, add_fault}
 use Rattle.gx_repo.specs.Rooms.{room}
 use Rattle.gx_repo.proofs.EntryRooms.{room_of_entries}
 use Rattle.gx_repo.proofs.PathRooms.{short_by_room}
@@ -75,10 +75,36 @@ pub dangling_passed : {X : Type 0} (rs : List Record) (k : Kind) (body : Bytes) 
 dangling_passed rs k body (Ok x) f e is against = tt
 dangling_passed rs k body (Err y) f e is against = against ∙ ap (λ z. Some (add_fault z)) (sym (e ∙ is))
 
+-- want of memory is against no body
+never_memory : (rs : List Record) (k : Kind) (body : Bytes) → content_fault rs k body ≡ Some model.OutOfMemory → ⊥
+unfolding content_fault
+never_memory rs k body e = by (is_body k body) (are_links_held rs k body) (is_bad_below rs k body) e
+  where
+    by : (canonical held bad : Bool)
+        → (if not canonical then Some model.BadObject else (if not held then Some model.Dangling else (if bad then Some model.BadObject else None))) ≡ Some model.OutOfMemory → ⊥
+    by false held bad e = absurd (cc)
+    by true false bad e = absurd (cc)
+    by true true true e = absurd (cc)
+    by true true false e = absurd (cc)
+
 -- what is against a body may refuse it
 pub may_refuse : {X : Type 0} (rs : List Record) (k : Kind) (body : Bytes) (answer : Result X AddFault) → IfErr answer (IsAgainst rs k body) → IfErr answer (MayRefuse rs k body)
 may_refuse rs k body (Ok x) h = tt
-may_refuse rs k body (Err f) h = inr h
+may_refuse rs k body (Err OutOfMemory) h = absurd (never_memory rs k body h)
+may_refuse rs k body (Err BadObject) h = h
+may_refuse rs k body (Err Dangling) h = h
+may_refuse rs k body (Err DuplicateObject) h = h
+
+-- a tree with nothing against it is canonical, and its links are held
+pub linked_tree : (rs : List Record) (k : Kind) (body : Bytes) → k ≡ kinds.Tree → content_fault rs k body ≡ None → IsLinkedTree rs k body
+unfolding content_fault
+linked_tree rs k body tree e = let good = by (is_body k body) (are_links_held rs k body) (is_bad_below rs k body) e in (tree, good.0, good.1)
+  where
+    by : (canonical held bad : Bool)
+        → (if not canonical then Some model.BadObject else (if not held then Some model.Dangling else (if bad then Some model.BadObject else None))) ≡ None → (canonical ≡ true) × (held ≡ true)
+    by true true bad e = (refl, refl)
+    by false held bad e = absurd (cc)
+    by true false bad e = absurd (cc)
 
 -- what refuses it, passed on
 pub refused_by : {X : Type 0} (rs : List Record) (k : Kind) (body : Bytes) (answer : Result X AddFault) (f : AddFault) → IsErrAnd answer (λ y. y ≡ f) → MayRefuse rs k body f → IfErr answer (MayRefuse rs k body)

@@ -3,6 +3,7 @@ pub mod PublishedRefs
 pub mod DroppedRefs
 pub mod NamedRefs
 pub mod RefMaps
+pub mod RefPlaces
 pub mod HeldRecords
 pub mod PathRooms
 pub mod Places

@@ -20,7 +20,8 @@ use Rattle.gx_repo.specs.declared.refs.Ref.{Ref}
 use Rattle.gx_repo.specs.declared.publishing.RefChange.{RefChange}
 
 module _ {A : Type 0} (n : Bytes) (refs : List (Ref A)) (sorted : AreInOrder refs) where
-  same_cmp : (x : Bytes) → x ≡ n → byte_cmp x n ≡ Equal
+  -- a name stands to itself as equal
+  pub same_cmp : (x : Bytes) → x ≡ n → byte_cmp x n ≡ Equal
   same_cmp x e = tied_cmp (byte_cmp x n) (is_eq-slice_cmp x n ∙ is_true _ (is_same x n e))
     where
       tied_cmp : (o : Ordering) → is_eq o ≡ true → o ≡ Equal

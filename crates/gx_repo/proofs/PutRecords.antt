@@ -18,7 +18,7 @@ use Rattle.gx_tree.specs.declared.fault.TreeFault.{TreeFault}
 use Rattle.gx_tree.specs.StoreFaults.{tree_fault}
 use Rattle.gx_tree.specs.Writes.{PutsAll, map_name}
 use Rattle.gx_model.proofs.Records.Puts.{front_put}
-use Rattle.gx_repo.specs.Additions.{Adds, AddsAll, HasValues}
+use Rattle.gx_repo.specs.Additions.{Adds, AddsAll, HasValues, HidesNone}
 use Rattle.gx_repo.specs.Rooms.{IsFront}
 use Rattle.gx_repo.proofs.RecordRooms.{front_kept}
 
@@ -31,6 +31,15 @@ adds_by_put old new r (Err NameHeld) p = p
 pub adds_refused : (old new : List Record) (r : Record) (fault : StoreFault) (answer : Result Name StoreFault) → IsErrAnd answer (λ y. y ≡ fault) → Puts old new r (Err fault) → Adds old new r answer
 adds_refused old new r fault (Ok n) e p = absurd e
 adds_refused old new r fault (Err y) e p = subst (λ z. Adds old new r (Err z)) (sym e) (adds_by_put old new r (Err fault) p)
+
+-- and with what it says of the name
+pub name_refused : (old new : List Record) (r : Record) (fault : StoreFault) (answer : Result Name StoreFault) → IsErrAnd answer (λ y. y ≡ fault) → Puts old new r (Err fault) → HidesNone old r.name answer
+name_refused old new r fault (Ok n) e p = absurd e
+name_refused old new r fault (Err y) e p = of y (subst (λ z. Puts old new r (Err z)) (sym e) p)
+  where
+    of : (y : StoreFault) → Puts old new r (Err y) → HidesNone old r.name (Err y)
+    of OutOfMemory q = q.0
+    of NameHeld q = tt
 
 -- a fault of a write of trees, passed on where the records are those of before
 pub writes_refused : (old now wrote rs : List Record) (called : Bytes) (fault : StoreFault) (given : TreeFault) → tree_fault fault ≡ given → PutsAll {Y = Name} rs old wrote (Err given) → now ≡ old → AddsAll old now rs called (Err fault)

@@ -25,7 +25,8 @@ less Equal h = absurd h
 less Greater h = absurd h
 
 module _ {X : Type 0} (see : X → Bytes × Bytes) where
-  below_at : (k : Bytes) (xs : List X) (i : ℕ) (d : X) → T (below_all byte_cmp k (map see xs)) → i < length xs → byte_cmp k (see (get_or xs i d)).0 ≡ Less
+  -- what is sorted behind a name comes after it
+  pub below_at : (k : Bytes) (xs : List X) (i : ℕ) (d : X) → T (below_all byte_cmp k (map see xs)) → i < length xs → byte_cmp k (see (get_or xs i d)).0 ≡ Less
   below_at k [] i d h lt = absurd (omega arith)
   below_at k (x ∷ xs) zero d h lt = less _ (first _ _ h)
   below_at k (x ∷ xs) (suc i) d h lt = below_at k xs i d (second (is_lt (byte_cmp k (see x).0)) _ h) (omega arith)

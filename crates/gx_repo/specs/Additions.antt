@@ -8,7 +8,7 @@ use Rattle.gx_model.specs.Histories.Values.{Value, commit_value, tag_value}
 use Rattle.gx_model.specs.Histories.Files.{FileMap}
 use Rattle.gx_model.specs.Histories.{Record, Records, record_for}
 use Rattle.gx_model.specs.Records.HistoryOf.{commit_of_parts, contents_of, history_of, named_values, tag_of_parts, value_in}
-use Rattle.gx_model.specs.Records.Growth.{put, put_all}
+use Rattle.gx_model.specs.Records.Growth.{put, put_all, record_named}
 use Rattle.gx_object.specs.declared.name.Name.{Name}
 use Rattle.gx_store.specs.declared.fault.StoreFault.{StoreFault}
 use Rattle.gx_store.specs.declared.fault.StoreFault.TheVariants.{OutOfMemory, NameHeld}
@@ -43,6 +43,11 @@ abbrev pub Adds : List Record → List Record → Record → Result Name StoreFa
 Adds old new added (Ok name) = (name.bytes ≡ added.name) × (put old added ≡ Some new)
 Adds old new added (Err NameHeld) = (put old added ≡ None) × (new ≡ old)
 Adds old new added (Err OutOfMemory) = new ≡ old
+
+-- want of memory hides no record of this name
+abbrev pub HidesNone : List Record → Bytes → Result Name StoreFault → Type 0
+HidesNone records name (Err OutOfMemory) = record_named records name ≡ None
+HidesNone records name answer = ⊤
 
 -- the records with all of these put, or unchanged, and this name
 abbrev pub AddsAll : List Record → List Record → List Record → Bytes → Result Name StoreFault → Type 0

@@ -16,8 +16,8 @@ use Rattle.gx_store.specs.declared.fault.StoreFault.{StoreFault}
 use Rattle.gx_tree.specs.Named.{IsAtHome, NamedTree}
 use Rattle.gx_tree.specs.Writes.{map_name}
 use Rattle.gx_repo.specs.declared.fault.AddFault.{AddFault}
-use Rattle.gx_repo.specs.Additions.{Adds, AddsAll, HasValues, commit_among, files_among, tag_among, value_among}
-use Rattle.gx_repo.specs.Records.{AddsRecord}
+use Rattle.gx_repo.specs.Additions.{Adds, AddsAll, HasValues, HidesNone, commit_among, files_among, tag_among, value_among}
+use Rattle.gx_repo.specs.Records.{AddsRecord, HidesNoFaultOf}
 use Rattle.gx_repo.specs.Repositories.{Repository}
 
 -- ---- the history
@@ -59,6 +59,10 @@ module _ {N : Type 0} (names : N → Kind → Bytes → Bytes) where
   abbrev pub AddsObject : Repository N → Repository N → Kind → Bytes → Result Name StoreFault → Type 0
   AddsObject old new of_kind body answer = Adds old.1.records new.1.records (record_for (names old.0) of_kind body) answer
 
+  -- want of memory hides no object that has the name of this one
+  abbrev pub HidesNoObject : Repository N → Kind → Bytes → Result Name StoreFault → Type 0
+  HidesNoObject repository of_kind body answer = HidesNone repository.1.records (names repository.0 of_kind body) answer
+
   -- the records with this tree and those below it put, or unchanged, and its name
   abbrev pub AddsTree : Repository N → Repository N → NamedTree → Result Name StoreFault → Type 0
   AddsTree old new tree answer =
@@ -68,6 +72,10 @@ module _ {N : Type 0} (names : N → Kind → Bytes → Bytes) where
   abbrev pub AddsAnew : Repository N → Repository N → Kind → Bytes → Result Name AddFault → Type 0
   AddsAnew old new of_kind body answer =
       AddsRecord old.1.records new.1.records (record_for (names old.0) of_kind body) answer
+
+  -- want of memory hides nothing that is against a record of this kind and body, but of a tree what is told of its links alone
+  abbrev pub HidesNoFault : Repository N → Kind → Bytes → Result Name AddFault → Type 0
+  HidesNoFault repository of_kind body answer = HidesNoFaultOf repository.1.records (record_for (names repository.0) of_kind body) answer
 
   -- no path below an object of this kind and body is too long
   abbrev pub HasShortPathsBelow : Repository N → Kind → Bytes → Type 0

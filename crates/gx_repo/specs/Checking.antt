@@ -1,5 +1,5 @@
 -- What a record of which nothing is known has against it, and how much room the entries of a tree take. Source: this project's own limit of 4,095 bytes for a path.
-use Rattle.std.specs.Prelude.{◌≡◌, ◌⊎◌, ℕ, max, ◌&&◌, if◌then◌else◌, List, [], ◌∷◌, Option, Some, None}
+use Rattle.std.specs.Prelude.{◌≡◌, ℕ, max, ◌&&◌, if◌then◌else◌, List, [], ◌∷◌, Option, Some, None}
 use Rattle.gx_model.specs.declared.objects.Kind.{Kind}
 use Rattle.gx_model.specs.Texts.{Bytes}
 use Rattle.gx_model.specs.Objects.{Entry, is_dir}
@@ -8,7 +8,7 @@ use Rattle.gx_model.specs.Records.Growth.{record_named}
 use Rattle.gx_model.specs.Records.RecordFaults.{content_fault, is_without_entries}
 use Rattle.gx_repo.specs.declared.fault.AddFault.{AddFault}
 use Rattle.gx_repo.specs.declared.fault.AddFault.TheVariants.{OutOfMemory}
-use Rattle.gx_repo.specs.Records.{add_fault}
+use Rattle.gx_repo.specs.Records.{IsLinkedTree, add_fault}
 use Rattle.gx_repo.specs.Rooms.{room_at}
 
 -- the greater of two rooms; none where one is missing
@@ -32,6 +32,7 @@ widest records (e ∷ es) = wider (entry_room records e) (widest records es)
 abbrev pub IsAgainst : List Record → Kind → Bytes → AddFault → Type 0
 IsAgainst records of_kind body fault = content_fault records of_kind body ≡ Some (add_fault fault)
 
--- memory ran out, or this is against a body of this kind
+-- this is against a body of this kind, or memory ran out: for a canonical tree alone whose links are held
 abbrev pub MayRefuse : List Record → Kind → Bytes → AddFault → Type 0
-MayRefuse records of_kind body fault = (fault ≡ OutOfMemory) ⊎ IsAgainst records of_kind body fault
+MayRefuse records of_kind body OutOfMemory = IsLinkedTree records of_kind body
+MayRefuse records of_kind body fault = IsAgainst records of_kind body fault

@@ -3,6 +3,8 @@ use Rattle.std.specs.Prelude.{◌≡◌, ℕ, ◌+◌, Bool, not, ◌&&◌, if�
 use Rattle.std.specs.Borrow.{Bor}
 use Rattle.std.specs.BTreeSet.{BTreeSet, contains_by}
 use Rattle.std.specs.List.{filter, list_any}
+use Rattle.gx_model.specs.declared.faults.Fault.{Fault}
+use Rattle.gx_model.specs.declared.faults.Fault.TheVariants as model
 use Rattle.gx_model.specs.Records.Publishing.{Ref}
 use Rattle.gx_model.specs.Texts.{Bytes, byte_cmp, same_bytes}
 use Rattle.gx_repo.specs.Refs.{is_ref_held}
@@ -34,6 +36,11 @@ unfoldable pub dropped : List Bytes → List Ref → Result (List Ref) ℕ
 dropped names refs = unless_unknown (unknown_behind refs [] names) (without names refs)
 
 -- ---- calls
+
+-- a refusal to drop refs, as a fault of the model
+abbrev pub drop_fault : DropFault → Fault
+drop_fault OutOfMemory = model.OutOfMemory
+drop_fault (UnknownRef number) = model.UnknownRef
 
 -- the refs are those that are left, or this is the first name that is unknown
 abbrev pub Drops : List Ref → List Ref → List Bytes → Result (Unit {0}) DropFault → Type 0

@@ -2,6 +2,7 @@ pub mod Repositories
 pub mod Additions
 pub mod Calls
 pub mod Objects
+pub mod Offered
 pub mod Publishing
 pub mod Dropping
 pub mod Refs

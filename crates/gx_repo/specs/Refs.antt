@@ -1,8 +1,9 @@
 -- Refs and their changes without where their names lie in memory.
-use Rattle.std.specs.Prelude.{◌≡◌, ℕ, Bool, List, map, Option, IsTrue, is_some}
+use Rattle.std.specs.Prelude.{◌≡◌, ℕ, Bool, List, length, map, Option, IsTrue, is_some}
 use Rattle.std.specs.FinMap.Entries.{is_sorted}
 use Rattle.std.specs.Borrow.{Bor}
-use Rattle.std.specs.List.{list_all}
+use Rattle.std.specs.List.{filter, list_all}
+use Rattle.std.specs.Ordering.{is_le}
 use Rattle.std.specs.Map.{lookup}
 use Rattle.std.specs.declared.vec.Vec.{Vec}
 use Rattle.gx_model.specs.declared.objects.Kind.{Kind}
@@ -47,6 +48,10 @@ FindsObject refs name found = bytes_if found ≡ object_named refs name
 -- what is found is the object of the first of these names that is a ref's
 abbrev pub FindsFirst : List (Bytes × Bytes) → List Bytes → Option Name → Type 0
 FindsFirst refs names found = bytes_if found ≡ first_named refs names
+
+-- how many refs have this name or an earlier one, which is the place behind its own
+abbrev pub place_behind : List (Bytes × Bytes) → Bytes → ℕ
+place_behind refs name = length (filter (λ ref. is_le (byte_cmp ref.0 name)) refs)
 
 -- a ref of this name is held
 abbrev pub is_ref_held : List (Bytes × Bytes) → Bytes → Bool

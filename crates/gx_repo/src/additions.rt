@@ -1,5 +1,5 @@
 //! Objects that are added to a repository. Source: gitglossary(7), "object database".
-ghost use Rattle.std.specs.Prelude.{◌≡◌, map, None, IsTrue, IfOk, IfErr};
+ghost use Rattle.std.specs.Prelude.{◌≡◌, map, None, IsTrue, IfOk, IfErr, OnErr};
 ghost use Rattle.gx_model.specs.declared.objects.Kind.TheVariants as kinds;
 ghost use Rattle.gx_model.specs.Records.RecordFaults.{content_fault};
 ghost use Rattle.gx_model.specs.Texts.RefNames.{is_tag_name};
@@ -11,12 +11,14 @@ ghost use Rattle.gx_tree.specs.Named.{IsAtHome};
 ghost use Rattle.gx_tree.specs.StoreFaults.{tree_fault};
 ghost use Rattle.gx_repo.specs.Additions.{Adds, IsWriteFault, commit_record, tag_record, value_among};
 ghost use Rattle.gx_repo.specs.Rooms.{room_below};
-ghost use Rattle.gx_repo.specs.Calls.{AddsAnew, AddsObject, AddsTree, GainsObject, GainsTree, GainsValue, HasShortPathsBelow, NamesValue, commit_given, tag_given, tree_given};
+ghost use Rattle.gx_repo.specs.Calls.{AddsAnew, AddsObject, AddsTree, GainsObject, GainsTree, GainsValue, HasShortPathsBelow, HidesNoFault, HidesNoObject, NamesValue, commit_given, tag_given, tree_given};
+ghost use Rattle.gx_repo.specs.Offered.{bytes_offered};
 ghost use Rattle.gx_repo.specs.Objects.{HoldsEach};
 ghost use Rattle.gx_repo.specs.Checking.{MayRefuse};
 
-use crate::checking::entered_room;
+use crate::checking::checked_room;
 use crate::fault::AddFault;
+use crate::offered::Offered;
 use crate::repo::Repo;
 use crate::rooms::enter_room;
 use gx_model::repository_laws::{
@@ -26,13 +28,14 @@ use gx_model::store_laws::records_are_taken;
 use gx_object::{CommitParts, Kind, Name, Namer, TagParts, encode_commit, encode_tag};
 use gx_store::{Body, StoreFault};
 use gx_tree::{PathTree, TreeFault};
-use std::alloc::{AllocError, Allocator};
+use std::alloc::Allocator;
 
 impl<N: Namer, A: Allocator + Copy> Repo<N, A> {
     /// Adds a blob, and answers its name. One that is held already is not added again.
     ///
-    /// NameHeld comes only where the name is held for another object; after a fault the repository is as it was.
-    /// Cost: that of `add_blob_owned`, and a copy of the bytes. Source: gitglossary(7), "blob object".
+    /// NameHeld comes where the name is held for another object, OutOfMemory only for one whose name isn't held; after a
+    /// fault the repository is as it was.
+    /// Cost: that of `Store::put`, which copies the bytes of a blob that isn't held. Source: gitglossary(7), "blob object".
     pub fn add_blob(&mut self, body: &[u8]) -> Result<Name, StoreFault>
         ensures namer { self.new.0 ≡ self.old.0 }
         ensures adds { AddsObject N.name_of self.old self.new kinds.Blob body.now result }
@@ -41,11 +44,9 @@ impl<N: Namer, A: Allocator + Copy> Repo<N, A> {
         ensures value { NamesValue N.name_of self.old (blob_value body.now) result }
         ensures held { IfOk result (λ name. Holds self.new.1.records kinds.Blob name.bytes) }
         ensures keeps { Keeps self.old.1.records self.new.1.records }
+        ensures unhidden { HidesNoObject N.name_of self.old kinds.Blob body.now result }
     {
-        let Ok(copy) = Vec::from_slice(self.alloc, body) else {
-            return Err(StoreFault::OutOfMemory);
-        };
-        self.add_blob_owned(copy)
+        self.add(Kind::Blob, Offered::Lent(body), 0)
     }
 
     /// Does what `add_blob` does, but takes no copy of the bytes: the repository keeps these, or drops them where the blob
@@ -60,14 +61,16 @@ impl<N: Namer, A: Allocator + Copy> Repo<N, A> {
         ensures value { NamesValue N.name_of self.old (blob_value body.items) result }
         ensures held { IfOk result (λ name. Holds self.new.1.records kinds.Blob name.bytes) }
         ensures keeps { Keeps self.old.1.records self.new.1.records }
+        ensures unhidden { HidesNoObject N.name_of self.old kinds.Blob body.items result }
     {
-        self.add(Kind::Blob, Body::Own(body), 0)
+        self.add(Kind::Blob, Offered::Own(Body::Own(body)), 0)
     }
 
     /// Adds the canonical trees of a tree's files, those below first, and answers the name of the root's.
     /// The files that are no gitlinks are held as blobs. What is held already is not added again.
     ///
-    /// NameHeld comes only where one of these trees has the name of another object; after a fault the repository is as it was.
+    /// NameHeld comes only where one of these trees has the name of another object; after a fault the repository and the
+    /// tree are as they were.
     /// Cost: that of `PathTree::write`, and a look-up for each entry of the new trees. Source: gitglossary(7), "tree object".
     pub fn add_tree(&mut self, tree: &mut PathTree<A>) -> Result<Name, StoreFault>
         requires named { IsNamedMap self.now.1.records tree.now.files }
@@ -80,6 +83,7 @@ impl<N: Namer, A: Allocator + Copy> Repo<N, A> {
         ensures keeps { Keeps self.old.1.records self.new.1.records }
         ensures map { tree.new.files ≡ tree.old.files }
         ensures home { IfOk result (λ _. IsAtHome (N.name_of self.old.0) self.new.1.records tree.new) }
+        ensures unchanged { OnErr result (tree.new ≡ tree.old) }
     {
         trees_add_file_maps();
         puts_add_values();
@@ -97,8 +101,8 @@ impl<N: Namer, A: Allocator + Copy> Repo<N, A> {
     /// Does what `add_tree` does, for a tree that is at home here: each name that it remembers is that of a tree which is
     /// held with all trees below it. So it doesn't look below a remembered name.
     ///
-    /// The errors are those of `add_tree`; after a fault the repository and the tree's files are as they were, and what the
-    /// tree remembers may be held no longer: it is added by `add_tree` then, or dropped.
+    /// The errors are those of `add_tree`; after a fault the repository and the tree are as they were, and after any answer
+    /// the tree is at home here.
     /// Cost: the bodies of the trees without a remembered name, and for each of them the number of records. Source:
     /// gitglossary(7), "tree object".
     pub fn add_tree_shared(&mut self, tree: &mut PathTree<A>) -> Result<Name, StoreFault>
@@ -112,7 +116,8 @@ impl<N: Namer, A: Allocator + Copy> Repo<N, A> {
         ensures held { IfOk result (λ name. Holds self.new.1.records kinds.Tree name.bytes) }
         ensures keeps { Keeps self.old.1.records self.new.1.records }
         ensures map { tree.new.files ≡ tree.old.files }
-        ensures home { IfOk result (λ _. IsAtHome (N.name_of self.old.0) self.new.1.records tree.new) }
+        ensures home { IsAtHome (N.name_of self.old.0) self.new.1.records tree.new }
+        ensures unchanged { OnErr result (tree.new ≡ tree.old) }
     {
         trees_add_file_maps();
         puts_add_values();
@@ -129,8 +134,10 @@ impl<N: Namer, A: Allocator + Copy> Repo<N, A> {
 
     /// Adds a commit whose tree and parents are held, and answers its name. One that is held already is not added again.
     ///
-    /// NameHeld comes only where the name is held for another object; after a fault the repository is as it was.
-    /// Cost: that of `Store::put_body`, and a copy of the body, which has no spare room; it is dropped where it is held already.
+    /// NameHeld comes only where the name is held for another object. OutOfMemory may come in place of any answer, since the
+    /// body is made before its name is known; behind that nothing grows for an object that is held. After a fault the
+    /// repository is as it was.
+    /// Cost: that of making the body, and that of `Store::put`, which copies one that isn't held, without spare room.
     /// Source: gitglossary(7), "commit object".
     pub fn add_commit(&mut self, parts: &CommitParts<'_>) -> Result<Name, StoreFault>
         requires encoding { IsTrue (is_optional_encoding (commit_parts parts.now).text.encoding) }
@@ -148,16 +155,15 @@ impl<N: Namer, A: Allocator + Copy> Repo<N, A> {
         let Ok(body) = encode_commit(self.alloc, parts) else {
             return Err(StoreFault::OutOfMemory);
         };
-        let Ok(copy) = copied(self.alloc, &body) else {
-            return Err(StoreFault::OutOfMemory);
-        };
-        self.add(Kind::Commit, copy, 0)
+        self.add(Kind::Commit, Offered::Lent(&body), 0)
     }
 
     /// Adds a tag whose commit is held, and answers its name. One that is held already is not added again.
     ///
-    /// NameHeld comes only where the name is held for another object; after a fault the repository is as it was.
-    /// Cost: that of `Store::put_body`, and a copy of the body, which has no spare room; it is dropped where it is held already.
+    /// NameHeld comes only where the name is held for another object. OutOfMemory may come in place of any answer, since the
+    /// body is made before its name is known; behind that nothing grows for an object that is held. After a fault the
+    /// repository is as it was.
+    /// Cost: that of making the body, and that of `Store::put`, which copies one that isn't held, without spare room.
     /// Source: gitglossary(7), "tag object".
     pub fn add_tag(&mut self, parts: &TagParts<'_>) -> Result<Name, StoreFault>
         requires name { IsTrue (is_tag_name (tag_parts parts.now).name) }
@@ -174,25 +180,21 @@ impl<N: Namer, A: Allocator + Copy> Repo<N, A> {
         let Ok(body) = encode_tag(self.alloc, parts) else {
             return Err(StoreFault::OutOfMemory);
         };
-        let Ok(copy) = copied(self.alloc, &body) else {
-            return Err(StoreFault::OutOfMemory);
-        };
-        self.add(Kind::Tag, copy, 0)
+        self.add(Kind::Tag, Offered::Lent(&body), 0)
     }
 
     /// Adds a record of which nothing is known, and answers its name.
     ///
-    /// The errors are those of `add_body`. Cost: that of it, and a copy of the bytes. Source: Pro Git, "Git Objects".
+    /// The errors are those of `add_body`. Cost: that of it, and a copy of the bytes of a record that is added. Source: Pro
+    /// Git, "Git Objects".
     pub fn add_record(&mut self, kind: Kind, body: &[u8]) -> Result<Name, AddFault>
         ensures namer { self.new.0 ≡ self.old.0 }
         ensures adds { AddsAnew N.name_of self.old self.new kind body.now result }
         ensures refs { self.new.1.refs ≡ self.old.1.refs }
         ensures history { GainsObject self.old self.new kind body.now result }
+        ensures unhidden { HidesNoFault N.name_of self.old kind body.now result }
     {
-        let Ok(copy) = Vec::from_slice(self.alloc, body) else {
-            return Err(AddFault::OutOfMemory);
-        };
-        self.add_body(kind, Body::Own(copy))
+        self.add_anew(kind, Offered::Lent(body))
     }
 
     /// Adds a record of which nothing is known, and answers its name. The repository keeps the body, and no copy of it; or
@@ -201,16 +203,30 @@ impl<N: Namer, A: Allocator + Copy> Repo<N, A> {
     /// What it has against it is answered in this order. `BadObject`: the body isn't a canonical one of its kind.
     /// `Dangling`: a link isn't held, or is held as another kind. `BadObject`: an entry names a tree without entries, or
     /// a path below the tree has more than 4,095 bytes. `DuplicateObject`: the name is held, whatever its bytes.
-    /// `OutOfMemory`: a growth was refused. After a fault the repository is as it was.
+    /// `OutOfMemory`: a growth was refused. It hides none of these but of a tree, whose body is canonical and whose links
+    /// are held by then, what is below it and whether its name is held. After a fault the repository is as it was.
     /// Cost: that of `Store::put_body`, and a look-up for each link, but for a file's that stands alike in the tree
     /// beside which a new one is looked at: one that was added here, with the same first or the same last entry, and not
     /// much over twice as long. Each entry of both is looked at once, and so are those of the trees that were added since
-    /// the last such call. Source: Pro Git, "Git Objects".
+    /// the last such call; where there are such, those of the new tree are looked at once more. Source: Pro Git, "Git
+    /// Objects".
     pub fn add_body(&mut self, kind: Kind, body: Body<A>) -> Result<Name, AddFault>
         ensures namer { self.new.0 ≡ self.old.0 }
         ensures adds { AddsAnew N.name_of self.old self.new kind (bytes_of body) result }
         ensures refs { self.new.1.refs ≡ self.old.1.refs }
         ensures history { GainsObject self.old self.new kind (bytes_of body) result }
+        ensures unhidden { HidesNoFault N.name_of self.old kind (bytes_of body) result }
+    {
+        self.add_anew(kind, Offered::Own(body))
+    }
+
+    /// Adds a record of which nothing is known.
+    fn add_anew(&mut self, kind: Kind, body: Offered<'_, A>) -> Result<Name, AddFault>
+        ensures namer { self.new.0 ≡ self.old.0 }
+        ensures adds { AddsAnew N.name_of self.old self.new kind (bytes_offered body.entry) result }
+        ensures refs { self.new.1.refs ≡ self.old.1.refs }
+        ensures history { GainsObject self.old self.new kind (bytes_offered body.entry) result }
+        ensures unhidden { HidesNoFault N.name_of self.old kind (bytes_offered body.entry) result }
     {
         records_are_taken();
         let room = self.room_of(kind, body.as_slice())?;
@@ -226,8 +242,8 @@ impl<N: Namer, A: Allocator + Copy> Repo<N, A> {
         Ok(name)
     }
 
-    /// The room of what is below an object, or what its body has against it. The rooms of all records are entered before,
-    /// and the place at which a tree is to stand behind.
+    /// The room of what is below an object, or what its body has against it. The rooms of all records are entered before a
+    /// tree's is told, and the place at which it is to stand behind.
     fn room_of(&mut self, kind: Kind, body: &[u8]) -> Result<usize, AddFault>
         ensures same { self.new ≡ self.old }
         ensures ok { IfOk result (λ _. content_fault self.old.1.records kind body.now ≡ None) }
@@ -235,46 +251,39 @@ impl<N: Namer, A: Allocator + Copy> Repo<N, A> {
         ensures fault { IfErr result (MayRefuse self.old.1.records kind body.now) }
     {
         parts_change();
-        if self.hints.make_room(kind).is_err() {
+        let room = checked_room(&self.store, &mut self.rooms, &self.hints, kind, body)?;
+        let Ok(()) = self.hints.make_room(kind) else {
             return Err(AddFault::OutOfMemory);
-        }
-        let room = entered_room(&self.store, &mut self.rooms, &self.hints, kind, body)?;
+        };
         self.hints.enter(kind, body, self.store.len());
         Ok(room)
     }
 
     /// Puts an object whose links are held, with the room of what is below it where all before it have theirs.
-    fn add(&mut self, kind: Kind, body: Body<A>, room: usize) -> Result<Name, StoreFault>
-        requires linked { IsLinked self.now.1.records kind (bytes_of body) }
-        requires short { HasShortPathsBelow N.name_of self.now kind (bytes_of body) }
-        requires room { room ≡ room_below self.now.1.records kind (bytes_of body) }
+    fn add(&mut self, kind: Kind, body: Offered<'_, A>, room: usize) -> Result<Name, StoreFault>
+        requires linked { IsLinked self.now.1.records kind (bytes_offered body) }
+        requires short { HasShortPathsBelow N.name_of self.now kind (bytes_offered body) }
+        requires room { room ≡ room_below self.now.1.records kind (bytes_offered body) }
         ensures namer { self.new.0 ≡ self.old.0 }
-        ensures adds { AddsObject N.name_of self.old self.new kind (bytes_of body) result }
+        ensures adds { AddsObject N.name_of self.old self.new kind (bytes_offered body.entry) result }
         ensures refs { self.new.1.refs ≡ self.old.1.refs }
-        ensures history { GainsObject self.old self.new kind (bytes_of body) result }
+        ensures history { GainsObject self.old self.new kind (bytes_offered body.entry) result }
         ensures value { NamesValue N.name_of self.old
-            (value_among self.old.1.records kind (bytes_of body)) result }
+            (value_among self.old.1.records kind (bytes_offered body.entry)) result }
         ensures held { IfOk result (λ name. Holds self.new.1.records kind name.bytes) }
         ensures keeps { Keeps self.old.1.records self.new.1.records }
+        ensures unhidden { HidesNoObject N.name_of self.old kind (bytes_offered body.entry) result }
     {
         links_tell_values();
         puts_add_values();
         let held = self.store.len();
-        let name = self.store.put_body(kind, body)?;
+        let name = body.put_into(&mut self.store, kind)?;
         let Ok(()) = enter_room(&self.store, &mut self.rooms, held, room) else {
             self.store.truncate(held);
             return Err(StoreFault::OutOfMemory);
         };
         Ok(name)
     }
-}
-
-/// A body of a copy of these bytes, which has no room behind them.
-fn copied<A: Allocator + Copy>(alloc: A, bytes: &[u8]) -> Result<Body<A>, AllocError>
-    ensures { IfOk result (λ body. bytes_of body ≡ bytes.now) }
-{
-    let copy = Vec::from_slice(alloc, bytes)?;
-    Ok(Body::Own(copy))
 }
 
 /// A tree is written with no other fault than those of the store.

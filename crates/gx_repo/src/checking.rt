@@ -4,8 +4,9 @@ ghost use Rattle.gx_model.specs.declared.objects.Kind.TheVariants as kinds;
 ghost use Rattle.gx_model.specs.Records.RecordFaults.{content_fault, is_entry_held, is_held, is_of_kind};
 ghost use Rattle.gx_object.specs.Entries.{shown};
 ghost use Rattle.gx_store.specs.Stores.{place_named};
-ghost use Rattle.gx_repo.specs.declared.fault.AddFault.TheVariants.{Dangling};
+ghost use Rattle.gx_repo.specs.declared.fault.AddFault.TheVariants.{Dangling, OutOfMemory};
 ghost use Rattle.gx_repo.specs.Checking.{IsAgainst, MayRefuse, entry_room, wider};
+ghost use Rattle.gx_repo.specs.Records.{IsLinkedTree};
 ghost use Rattle.gx_repo.specs.Rooms.{IsFront, room_below, rooms_of};
 ghost use Rattle.gx_repo.specs.Earlier.{IsThere};
 ghost use Rattle.gx_repo.specs.Repositories.{IsSoundStore};
@@ -21,9 +22,11 @@ use std::alloc::Allocator;
 /// The room of the longest path, of 4,095 bytes.
 const MOST_ROOM: usize = 4096;
 
-/// Does what `checked_room` does, once the rooms of all records are entered. Where a growth is refused for these, rooms are
-/// left as they were.
-pub(crate) fn entered_room<N: Namer, A: Allocator + Copy>(
+/// The room of what is below an object, or what its body has against it.
+///
+/// Cost: the body's length, and a look-up for each link, but for those of files that stand in the tree to which the hints
+/// lead; each entry is looked at once, and once more where rooms of records are missing. Takes memory for these alone.
+pub(crate) fn checked_room<N: Namer, A: Allocator + Copy>(
     store: &Store<N, A>,
     rooms: &mut Vec<usize, A>,
     hints: &Hints<A>,
@@ -37,37 +40,91 @@ pub(crate) fn entered_room<N: Namer, A: Allocator + Copy>(
     ensures room { IfOk result (λ room. room ≡ room_below store.now.1 kind body.now) }
     ensures fault { IfErr result (MayRefuse store.now.1 kind body.now) }
 {
+    match kind {
+        Kind::Blob => Ok(0),
+        Kind::Tree => entered_room(store, rooms, hints, body),
+        Kind::Commit => check_commit(store, body),
+        Kind::Tag => check_tag(store, body),
+    }
+}
+
+/// Does what `tree_room` does, once the rooms of all records are entered. Before these grow, the body and its links are
+/// looked at. Where the growth is refused, rooms are left as they were.
+fn entered_room<N: Namer, A: Allocator + Copy>(
+    store: &Store<N, A>,
+    rooms: &mut Vec<usize, A>,
+    hints: &Hints<A>,
+    body: &[u8],
+) -> Result<usize, AddFault>
+    requires sound { IsSoundStore N.name_of store.now }
+    requires front { IsFront rooms.old.items store.now.1 }
+    ensures front { IsFront rooms.new.items store.now.1 }
+    ensures ok { IfOk result (λ _. content_fault store.now.1 kinds.Tree body.now ≡ None) }
+    ensures room { IfOk result (λ room. room ≡ room_below store.now.1 kinds.Tree body.now) }
+    ensures fault { IfErr result (MayRefuse store.now.1 kinds.Tree body.now) }
+{
+    if rooms.len() < store.len() {
+        check_links(store, body)?;
+        enter_all(store, rooms)?;
+    }
+    tree_room(store, rooms.as_slice(), hints, body)
+}
+
+/// Enters the rooms of all records. Where a growth is refused, rooms are left as they were.
+fn enter_all<N: Namer, A: Allocator + Copy>(
+    store: &Store<N, A>,
+    rooms: &mut Vec<usize, A>,
+) -> Result<(), AddFault>
+    requires sound { IsSoundStore N.name_of store.now }
+    requires front { IsFront rooms.old.items store.now.1 }
+    ensures ok { OnOk result (rooms.new.items ≡ rooms_of store.now.1) }
+    ensures err { OnErr result (rooms.new.items ≡ rooms.old.items) }
+    ensures fault { IfErr result (λ fault. fault ≡ OutOfMemory) }
+{
     let entered = rooms.len();
     let Ok(()) = enter_rooms(store, rooms) else {
         rooms.truncate(entered);
         return Err(AddFault::OutOfMemory);
     };
-    checked_room(store, rooms.as_slice(), hints, kind, body)
+    Ok(())
 }
 
-/// The room of what is below an object, or what its body has against it.
-///
-/// Cost: the body's length, and a look-up for each link, but for those of files that stand in the tree to which the hints
-/// lead; each entry is looked at once. Takes no memory.
-fn checked_room<N: Namer, A: Allocator + Copy>(
+/// What is against a tree's body or its links. Takes no memory.
+fn check_links<N: Namer, A: Allocator + Copy>(
     store: &Store<N, A>,
-    rooms: &[usize],
-    hints: &Hints<A>,
-    kind: Kind,
     body: &[u8],
-) -> Result<usize, AddFault>
-    requires sound { IsSoundStore N.name_of store.now }
-    requires rooms { rooms.now ≡ rooms_of store.now.1 }
-    ensures ok { IfOk result (λ _. content_fault store.now.1 kind body.now ≡ None) }
-    ensures room { IfOk result (λ room. room ≡ room_below store.now.1 kind body.now) }
-    ensures fault { IfErr result (IsAgainst store.now.1 kind body.now) }
+) -> Result<(), AddFault>
+    ensures ok { OnOk result (IsLinkedTree store.now.1 kinds.Tree body.now) }
+    ensures fault { IfErr result (IsAgainst store.now.1 kinds.Tree body.now) }
 {
-    match kind {
-        Kind::Blob => Ok(0),
-        Kind::Tree => tree_room(store, rooms, hints, body),
-        Kind::Commit => check_commit(store, body),
-        Kind::Tag => check_tag(store, body),
+    bodies_are_read();
+    let Ok(entries) = decode_tree(body) else {
+        return Err(AddFault::BadObject);
+    };
+    for entry in entries {
+        if !is_entry_held(store, &entry) {
+            return Err(AddFault::Dangling);
+        }
     }
+    Ok(())
+}
+
+/// Whether what an entry names is held. A gitlink is no link.
+fn is_entry_held<N: Namer, A: Allocator + Copy>(store: &Store<N, A>, entry: &Entry<'_>) -> bool
+    ensures { result ≡ is_entry_held store.now.1 (shown entry.now).mode (shown entry.now).name }
+{
+    match entry.mode {
+        Mode::Gitlink => true,
+        Mode::Dir => is_held(store, Kind::Tree, &entry.name),
+        Mode::File | Mode::Exec | Mode::Link => is_held(store, Kind::Blob, &entry.name),
+    }
+}
+
+/// Whether an object of this kind and name is held.
+fn is_held<N: Namer, A: Allocator + Copy>(store: &Store<N, A>, kind: Kind, name: &Name) -> bool
+    ensures { result ≡ is_held store.now.1 kind name.now.bytes }
+{
+    place_of(store, kind, name).is_ok()
 }
 
 /// The room of what is below a tree. A link that isn't held is answered before what is below the tree.

@@ -1,5 +1,6 @@
 //! A new tree beside an earlier one: an entry that stands in a tree that is held is held, too, and needs no look-up.
-ghost use Rattle.std.specs.Prelude.{◌<◌, IsTrue};
+ghost use Rattle.std.specs.Prelude.{◌≡◌, ◌<◌, IsTrue, OnErr};
+ghost use Rattle.gx_model.specs.declared.objects.Kind.TheVariants as kinds;
 ghost use Rattle.gx_repo.specs.Earlier.{AreLeftHeld, IsHeldTree, IsHeldWithBoth, IsThereWithLeft, KeepsLeftHeld};
 ghost use Rattle.gx_repo.specs.Repositories.{IsSoundStore};
 
@@ -34,7 +35,9 @@ impl<A: Allocator + Copy> Hints<A> {
     }
 
     /// Takes the room for the hints, before the first tree is entered.
-    pub(crate) fn make_room(&mut self, kind: Kind) -> Result<(), AllocError> {
+    pub(crate) fn make_room(&mut self, kind: Kind) -> Result<(), AllocError>
+        ensures { OnErr result (kind ≡ kinds.Tree) }
+    {
         if kind == Kind::Tree && self.places.is_empty() {
             self.places.resize(2 * SLOTS, NOWHERE)?;
         }

@@ -1,6 +1,12 @@
 //! Why a repository refuses a call.
-ghost use Rattle.gx_repo.specs.declared.fault.PublishFault.TheVariants as fault;
+ghost use Rattle.std.specs.Prelude.{◌≡◌, Some};
+ghost use Rattle.gx_model.specs.Faults.FaultWords.{word_of};
+ghost use Rattle.gx_model.specs.Faults.StoreFaults.{word};
+ghost use Rattle.gx_repo.specs.Dropping.{drop_fault};
+ghost use Rattle.gx_repo.specs.Publishing.{fault_of};
+ghost use Rattle.gx_repo.specs.Records.{add_fault};
 
+use gx_model::{Fault, FileFault};
 use std::alloc::{AllocError, AllocFailed};
 use std::fmt;
 use thiserror::Error;
@@ -23,13 +29,23 @@ pub enum AddFault {
 }
 
 impl fmt::Display for AddFault {
+    ghost output = { λ fault. Some (word (add_fault fault)) };
+
     fn fmt<W: fmt::Write>(&self, f: &mut fmt::Formatter<W>) -> fmt::Result {
-        f.write_str(match self {
-            AddFault::OutOfMemory => "OutOfMemory",
-            AddFault::BadObject => "BadObject",
-            AddFault::Dangling => "Dangling",
-            AddFault::DuplicateObject => "DuplicateObject",
-        })
+        f.write_str(FileFault::from(*self).word())
+    }
+}
+
+impl From<AddFault> for FileFault {
+    ghost from_gives = { λ from fault. fault ≡ add_fault from };
+
+    fn from(fault: AddFault) -> FileFault {
+        match fault {
+            AddFault::OutOfMemory => FileFault::OutOfMemory,
+            AddFault::BadObject => FileFault::BadObject,
+            AddFault::Dangling => FileFault::Dangling,
+            AddFault::DuplicateObject => FileFault::DuplicateObject,
+        }
     }
 }
 
@@ -47,13 +63,23 @@ pub enum PublishFault {
 }
 
 impl fmt::Display for PublishFault {
+    ghost output = { λ fault. Some (word_of (fault_of fault)) };
+
     fn fmt<W: fmt::Write>(&self, f: &mut fmt::Formatter<W>) -> fmt::Result {
-        f.write_str(match self {
-            PublishFault::OutOfMemory => "OutOfMemory",
-            PublishFault::BadRefName => "BadRefName",
-            PublishFault::UnknownObject => "UnknownObject",
-            PublishFault::WrongKind => "WrongKind",
-        })
+        f.write_str(Fault::from(*self).word())
+    }
+}
+
+impl From<PublishFault> for Fault {
+    ghost from_gives = { λ from fault. fault ≡ fault_of from };
+
+    fn from(fault: PublishFault) -> Fault {
+        match fault {
+            PublishFault::OutOfMemory => Fault::OutOfMemory,
+            PublishFault::BadRefName => Fault::BadRefName,
+            PublishFault::UnknownObject => Fault::UnknownObject,
+            PublishFault::WrongKind => Fault::WrongKind,
+        }
     }
 }
 
@@ -72,11 +98,28 @@ impl From<AllocError> for PublishFault {
 #[derive(Clone, Copy, Debug, Error, PartialEq, Eq)]
 pub enum DropFault {
     /// A growth was refused.
-    #[error("OutOfMemory")]
     OutOfMemory,
     /// No ref has the name with this number, counted from 1, or it is given before.
-    #[error("UnknownRef")]
     UnknownRef { number: u64 },
+}
+
+impl fmt::Display for DropFault {
+    ghost output = { λ fault. Some (word_of (drop_fault fault)) };
+
+    fn fmt<W: fmt::Write>(&self, f: &mut fmt::Formatter<W>) -> fmt::Result {
+        f.write_str(Fault::from(*self).word())
+    }
+}
+
+impl From<DropFault> for Fault {
+    ghost from_gives = { λ from fault. fault ≡ drop_fault from };
+
+    fn from(fault: DropFault) -> Fault {
+        match fault {
+            DropFault::OutOfMemory => Fault::OutOfMemory,
+            DropFault::UnknownRef { number: _ } => Fault::UnknownRef,
+        }
+    }
 }
 
 impl<T: Drop> From<AllocFailed<T>> for DropFault {

@@ -7,6 +7,7 @@ mod checking;
 mod dropping;
 mod earlier;
 mod fault;
+mod offered;
 mod pruning;
 mod publishing;
 mod ref_list;

@@ -1,9 +1,9 @@
 //! Changes of refs. Source: git-check-ref-format(1).
-ghost use Rattle.std.specs.Prelude.{◌≡◌, [], map, IsTrue, IfOk, OnErr, OnOk, None, IfErr};
+ghost use Rattle.std.specs.Prelude.{◌≡◌, [], false, map, IsTrue, IfOk, OnErr, OnOk, None, IfErr};
 ghost use Rattle.std.specs.FinMap.Entries.{is_sorted};
 ghost use Rattle.gx_model.specs.Texts.{byte_cmp};
 ghost use Rattle.gx_repo.specs.Refs.{are_held, shown_update, shown_ref, ref_of, HasTagParts, TellsOwnRef};
-ghost use Rattle.gx_repo.specs.Publishing.{Enters, IsAgainstChange, IsAgainstFirst, fault_of};
+ghost use Rattle.gx_repo.specs.Publishing.{Enters, HidesNoRefusal, IsAgainstChange, IsAgainstFirst, fault_of};
 ghost use Rattle.gx_model.specs.Records.Publishing.{with_changes, change_fault, changes_fault, published};
 ghost use Rattle.gx_model.specs.Faults.{Gives};
 ghost use Rattle.gx_model.specs.Stores.StoreReading.{is_target_of_kind};
@@ -30,7 +30,8 @@ impl<N: Namer, A: Allocator + Copy> Repo<N, A> {
     ///
     /// The first change that is refused is answered: `BadRefName`: the name isn't that of a ref. `UnknownObject`: the
     /// object isn't held. `WrongKind`: it is neither a commit nor a tag whose own name makes the ref's.
-    /// `OutOfMemory`: a growth was refused. After a fault the repository is as it was.
+    /// `OutOfMemory`: a growth was refused; that is only where no change is refused and one names a ref that isn't held. After
+    /// a fault the repository is as it was.
     /// Cost: for each change a look-up of its object, and two binary searches among the refs. Where a change names a ref that
     /// isn't held, in proportion to the refs and changes, times the logarithm of their number. No growth is needed otherwise.
     /// Source: git-check-ref-format(1), and gitglossary(7), "ref".
@@ -41,6 +42,7 @@ impl<N: Namer, A: Allocator + Copy> Repo<N, A> {
         ensures refs { Gives fault_of (λ _. self.new.1.refs) result
             (published self.old.1 (map shown_update changes.now)) }
         ensures unchanged { OnErr result (self.new ≡ self.old) }
+        ensures unhidden { HidesNoRefusal self.old.1 (map shown_update changes.now) result }
     {
         parts_change();
         self.check_all(changes)?;
@@ -107,6 +109,7 @@ impl<A: Allocator + Copy> RefList<A> {
     pub(crate) fn change(&mut self, alloc: A, changes: &[RefChange<'_>]) -> Result<(), AllocError>
         ensures set { OnOk result (self.new ≡ with_changes self.old (map shown_update changes.now)) }
         ensures unchanged { OnErr result (self.new ≡ self.old) }
+        ensures missing { OnErr result (are_held self.old (map shown_update changes.now) ≡ false) }
     {
         if self.are_held(changes) {
             self.set_objects(changes);

@@ -4,7 +4,7 @@ ghost use Rattle.std.specs.FinMap.Entries.{is_sorted, put};
 ghost use Rattle.std.specs.List.Sorted.{IsBinarySearchResult, IsSearchInRange};
 ghost use Rattle.gx_model.specs.Revisions.Denotation.{ref_names};
 ghost use Rattle.gx_model.specs.Texts.{byte_cmp};
-ghost use Rattle.gx_repo.specs.Refs.{FindsFirst, FindsObject, is_ref_held, shown_ref};
+ghost use Rattle.gx_repo.specs.Refs.{FindsFirst, FindsObject, is_ref_held, place_behind, shown_ref};
 
 use crate::fault::OutOfMemory;
 use crate::refs::{Ref, Refs};
@@ -104,9 +104,11 @@ impl<A: Allocator + Copy> RefList<A> {
         }
     }
 
-    /// The object of the ref of this name, and the place behind the ref's own. It is looked for at a place first.
+    /// The object of the ref of this name, and the place behind the ref's own, or the one that it would have. It is looked for
+    /// at a place first.
     pub(crate) fn find_near(&self, place: usize, name: &[u8]) -> (usize, Option<Name>)
-        ensures { FindsObject self.now name.now result.1 }
+        ensures object { FindsObject self.now name.now result.1 }
+        ensures place { result.0 ≡ place_behind self.now name.now }
     {
         let refs = self.refs.as_slice();
         if let Some(held) = refs.get(place) {

@@ -8,7 +8,7 @@ ghost use Rattle.gx_model.specs.Records.Lookups.{commit_named};
 ghost use Rattle.gx_model.specs.Laws.RepositoryLaws.{with_records};
 ghost use Rattle.gx_model.specs.Records.Sound.{IsSound};
 ghost use Rattle.gx_object.specs.Parts.{bytes_if};
-ghost use Rattle.gx_repo.specs.Refs.{FindsFirst, FindsObject};
+ghost use Rattle.gx_repo.specs.Refs.{FindsFirst, FindsObject, place_behind};
 ghost use Rattle.gx_repo.specs.Objects.{AreTargets};
 
 use crate::earlier::Hints;
@@ -28,7 +28,7 @@ use std::marker::Model;
 #[derive(Drop)]
 pub struct Repo<N: Namer, A: Allocator> {
     pub(crate) store: Store<N, A>,
-    /// Of each record, by its place.
+    /// Of the first records, by their places; those of the records behind them are entered later.
     pub(crate) rooms: Vec<usize, A>,
     pub(crate) hints: Hints<A>,
     pub(crate) refs: RefList<A>,
@@ -110,13 +110,15 @@ impl<N: Namer, A: Allocator + Copy> Repo<N, A> {
         Ok(self.refs.find_by_names(name))
     }
 
-    /// The object of the ref of this name, and the place behind the ref's own among all refs.
+    /// The object of the ref of this name, and the place behind the ref's own among all refs, which is the number of the refs
+    /// that have this name or an earlier one, be it held or not.
     ///
     /// Cost: one comparison where the ref stands at the place that is passed, as each does when refs are asked for in the
     /// byte order of their names, each at the place that the answer before gave; otherwise a binary search. Takes no memory.
     /// Source: gitglossary(7), "ref".
     pub fn ref_near(&self, place: usize, name: &[u8]) -> (usize, Option<Name>)
-        ensures { FindsObject self.now.1.refs name.now result.1 }
+        ensures object { FindsObject self.now.1.refs name.now result.1 }
+        ensures place { result.0 ≡ place_behind self.now.1.refs name.now }
     {
         self.refs.find_near(place, name)
     }

@@ -1,5 +1,5 @@
 //! How much room the paths below each held tree take, so that the limit of a path is checked by one look at each entry.
-ghost use Rattle.std.specs.Prelude.{◌≡◌, ◌<◌, length, take, OnOk, OnErr};
+ghost use Rattle.std.specs.Prelude.{◌≡◌, ◌≢◌, ◌<◌, length, take, OnOk, OnErr};
 ghost use Rattle.gx_model.specs.declared.objects.Kind.TheVariants as kinds;
 ghost use Rattle.gx_model.specs.declared.objects.Mode.TheVariants as modes;
 ghost use Rattle.gx_model.specs.Records.Sound.{IsHeldAs, IsLinked, IsTree};
@@ -42,6 +42,7 @@ pub(crate) fn enter_room<N: Namer, A: Allocator + Copy>(
     requires room { IsRoomBehind store.now.1 held room }
     ensures ok { OnOk result (IsFront rooms.new.items store.now.1) }
     ensures err { OnErr result (rooms.new.items ≡ rooms.old.items) }
+    ensures grown { OnErr result (length store.now.1 ≢ held) }
 {
     if store.len() == held {
         return Ok(());

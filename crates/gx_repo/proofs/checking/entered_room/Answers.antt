@@ -1,20 +1,22 @@
-use Rattle.std.proofs.Common.{◌≡◌, length, take, sym, subst, ap, ◌∙◌, arith}
-use Rattle.gx_repo.specs.Rooms.{IsFront}
-use Rattle.gx_repo.proofs.ContentFaults.{may_refuse}
-use Rattle.gx_repo.proofs.RecordRooms.{front_whole}
+use Rattle.std.proofs.Common.{Err, ap, ◌∙◌, arith}
+use Rattle.gx_model.specs.declared.objects.Kind.TheVariants as kinds
+use Rattle.gx_repo.proofs.ContentFaults.{may_refuse, refused_by}
+use Rattle.gx_repo.proofs.RecordRooms.{front_all}
+use Rattle.gx_repo.proofs.checking.entered_room.Goals.{then-len+in_ok-check_links+in_ok-enter_all, else-len}
 use Rattle.gx_repo.proofs.checking.entered_room.Goals as goal
 
-pub checked_room-requires-clause-rooms : goal.checked_room-requires-clause-rooms
-checked_room-requires-clause-rooms g c = c.as_slice.ensures.value ∙ c.in-Ok.ensures.ok
+pub returns-in_err-check_links-clause-fault : goal.returns-in_err-check_links-clause-fault
+returns-in_err-check_links-clause-fault g c =
+    let rs = c.args.store.now.1 in
+    let body = c.args.body.now in
+    let fault = c.in_err-check_links.field-0.0 in
+    refused_by rs kinds.Tree body c.from_residual.result fault c.from_residual.ensures.1 (may_refuse {X = Unit {0}} rs kinds.Tree body (Err fault) c.in_err-check_links.ensures.fault)
 
-pub returns-clause-front : goal.returns-clause-front
-returns-clause-front g c = front_whole c.args.store.now.1 c.enter_rooms.new.rooms.items c.in-Ok.ensures.ok
+pub tree_room-requires-clause-rooms : goal.tree_room-requires-clause-rooms
+tree_room-requires-clause-rooms g c = c.as_slice.ensures.value ∙ elim c.if-len.branch [
+  | then-len+in_ok-check_links+in_ok-enter_all w ↦ ap (λ v. v.items) w.rooms-is ∙ w.in_ok-enter_all.ensures.ok
+  | else-len w ↦ ap (λ v. v.items) w.rooms-is ∙ front_all c.args.store.now.1 c.args.rooms.now.items c.requires.front (omega (arith, w.if-len.false, c.len.ensures, c.len-2.ensures.count, c.args.rooms.now.ok.0))
+]
 
 pub returns-clause-fault : goal.returns-clause-fault
-returns-clause-fault g c = may_refuse c.args.store.now.1 c.args.kind c.args.body.now c.checked_room.result c.checked_room.ensures.fault
-
-pub returns-in_default-clause-front : goal.returns-in_default-clause-front
-returns-in_default-clause-front g c =
-    let many : c.len-entered.result ≡ length c.args.rooms.now.items = omega (arith, c.len-entered.ensures, c.args.rooms.now.ok.0) in
-    let same = c.truncate.ensures.items ∙ ap (λ n. take n c.enter_rooms.new.rooms.items) many ∙ c.in_default.ensures.err in
-    subst (λ xs. IsFront xs c.args.store.now.1) (sym same) c.requires.front
+returns-clause-fault g c = may_refuse c.args.store.now.1 kinds.Tree c.args.body.now c.tree_room.result c.tree_room.ensures.fault

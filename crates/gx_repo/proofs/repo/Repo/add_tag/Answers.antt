@@ -1,4 +1,4 @@
-use Rattle.std.proofs.Common.{◌≡◌, sym, subst, ◌∙◌}
+use Rattle.std.proofs.Common.{◌≡◌, sym, subst}
 use Rattle.std.specs.Prelude.{IfOk}
 use Rattle.gx_model.specs.declared.objects.Kind.TheVariants as kinds
 use Rattle.gx_model.specs.Histories.{record_for, with_one}
@@ -9,31 +9,30 @@ use Rattle.gx_model.specs.Laws.RepositoryLaws.{values_of}
 use Rattle.gx_model.specs.Histories.Values.{tag_value}
 use Rattle.gx_model.proofs.ObjectTexts.BodiesReadBack.{tag_read}
 use Rattle.gx_object.specs.Parts.{tag_parts}
-use Rattle.gx_store.specs.Bodies.{bytes_of}
 use Rattle.gx_repo.specs.Additions.{Adds, HasValues}
 use Rattle.gx_repo.proofs.repo.Repo.add_tag.Goals as goal
 
 pub add-requires-clause-linked : goal.add-requires-clause-linked
-add-requires-clause-linked g c = (tag_parts c.args.parts.now, subst (IsTagText (tag_parts c.args.parts.now)) (sym (c.in-Ok-copied.ensures ∙ c.deref.ensures.value)) c.in-Ok.ensures, c.requires.object)
+add-requires-clause-linked g c = (tag_parts c.args.parts.now, subst (IsTagText (tag_parts c.args.parts.now)) (sym c.deref.ensures.value) c.in-Ok.ensures, c.requires.object)
 
 pub returns-clause-adds : goal.returns-clause-adds
 returns-clause-adds g c =
-    let text = subst (IsTagText (tag_parts c.args.parts.now)) (sym (c.in-Ok-copied.ensures ∙ c.deref.ensures.value)) c.in-Ok.ensures in
+    let text = subst (IsTagText (tag_parts c.args.parts.now)) (sym c.deref.ensures.value) c.in-Ok.ensures in
     subst (λ body. Adds c.args.self.now.1.records c.add.new.self.1.records (record_for (g.N.Namer.name_of c.args.self.now.0) kinds.Tag body) c.add.result) text.0 c.add.ensures.adds
 
 pub returns-clause-history : goal.returns-clause-history
 returns-clause-history g c =
     let rs = c.args.self.now.1.records in
-    let text = subst (IsTagText (tag_parts c.args.parts.now)) (sym (c.in-Ok-copied.ensures ∙ c.deref.ensures.value)) c.in-Ok.ensures in
+    let text = subst (IsTagText (tag_parts c.args.parts.now)) (sym c.deref.ensures.value) c.in-Ok.ensures in
     subst (λ p. IfOk c.add.result (λ _. HasValues c.args.self.now.1 c.add.new.self.1 (with_one (values_of c.args.self.now.1) (tag_value (tag_of_parts (named_values rs) p)))))
-    (tag_read (tag_parts c.args.parts.now) (bytes_of c.in-Ok-copied.copy) text) c.add.ensures.history
+    (tag_read (tag_parts c.args.parts.now) c.deref.result.now text) c.add.ensures.history
 
 pub returns-clause-value : goal.returns-clause-value
 returns-clause-value g c =
     let rs = c.args.self.now.1.records in
-    let text = subst (IsTagText (tag_parts c.args.parts.now)) (sym (c.in-Ok-copied.ensures ∙ c.deref.ensures.value)) c.in-Ok.ensures in
+    let text = subst (IsTagText (tag_parts c.args.parts.now)) (sym c.deref.ensures.value) c.in-Ok.ensures in
     subst (λ p. IfOk c.add.result (λ name. name.bytes ≡ name_of (g.N.Namer.name_of c.args.self.now.0) (tag_value (tag_of_parts (named_values rs) p))))
-    (tag_read (tag_parts c.args.parts.now) (bytes_of c.in-Ok-copied.copy) text) c.add.ensures.value
+    (tag_read (tag_parts c.args.parts.now) c.deref.result.now text) c.add.ensures.value
 
 pub returns-clause-namer : goal.returns-clause-namer
 returns-clause-namer g c = c.add.ensures.namer

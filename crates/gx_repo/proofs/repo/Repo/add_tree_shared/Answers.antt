@@ -85,3 +85,9 @@ returns-clause-refs g c = ap (λ v. v.1.refs) c.self.view_is
 
 pub returns-clause-home : goal.returns-clause-home
 returns-clause-home g c = subst (λ v. IsAtHome (g.N.Namer.name_of v.0) c.write_shared.new.store.1 c.write_shared.new.self) c.self.view_is c.in-Ok.ensures.home
+
+pub returns-in-Err-clause-home : goal.returns-in-Err-clause-home
+returns-in-Err-clause-home g c =
+    let old = ap (λ v. v.1) c.truncate.ensures ∙ ap (λ k. take k c.write_shared.new.store.1) c.len-held.ensures.count ∙ c.write_shared.ensures.front ∙ ap (λ v. v.1.records) c.self.view_is in
+    subst (λ rs. IsAtHome (g.N.Namer.name_of c.args.self.now.0) rs c.write_shared.new.self) (sym old)
+    (subst (IsAtHome (g.N.Namer.name_of c.args.self.now.0) c.args.self.now.1.records) (sym c.in-Err.ensures.unchanged) c.requires.home)

@@ -2,12 +2,13 @@ use Rattle.std.proofs.Common.{◌≡◌, None, IfErr, [], refl, subst}
 use Rattle.gx_model.specs.Histories.{Records}
 use Rattle.gx_model.specs.Records.RecordFaults.{content_fault}
 use Rattle.gx_repo.specs.Checking.{MayRefuse}
+use Rattle.gx_repo.specs.Records.{IsLinkedTree}
 use Rattle.gx_repo.specs.Rooms.{room_below}
-use Rattle.gx_repo.proofs.ContentFaults.{refused_by}
+use Rattle.gx_repo.proofs.ContentFaults.{linked_tree, refused_by}
 use Rattle.gx_repo.proofs.repo.Repo.room_of.Goals as goal
 
-pub entered_room-requires-clause-sound : goal.entered_room-requires-clause-sound
-entered_room-requires-clause-sound g c =
+pub checked_room-requires-clause-sound : goal.checked_room-requires-clause-sound
+checked_room-requires-clause-sound g c =
     let names = g.N.Namer.name_of c.self.inside.store.0 in
     let r : Records = record { records = c.self.inside.store.1; refs = c.self.inside.refs } in
     ((c.parts_change.ensures names (g.met.N.Namer.is_namer c.self.inside.store.0)).refs r c.self.invariant.0 [] refl refl tt).0
@@ -30,7 +31,15 @@ pub returns-clause-room : goal.returns-clause-room
 returns-clause-room g c = subst (λ v. c.in_ok-room.room ≡ room_below v.1.records c.args.kind c.args.body.now) c.self.view_is c.in_ok-room.ensures.room
 
 pub invariant_of-self : goal.invariant_of-self
-invariant_of-self g c = c.self.invariant
+invariant_of-self g c = (c.self.invariant.0, c.checked_room.ensures.front)
+
+pub returns-in_default-clause-same : goal.returns-in_default-clause-same
+returns-in_default-clause-same g c = c.self.view_is
+
+pub returns-in_default-clause-fault : goal.returns-in_default-clause-fault
+returns-in_default-clause-fault g c =
+    subst (λ v. IsLinkedTree v.1.records c.args.kind c.args.body.now) c.self.view_is
+    (linked_tree c.self.inside.store.1 c.args.kind c.args.body.now c.in_default.ensures c.in_ok-room.ensures.ok)
 
 pub invariant_of-self-2 : goal.invariant_of-self-2
-invariant_of-self-2 g c = (c.self.invariant.0, c.entered_room.ensures.front)
+invariant_of-self-2 g c = (c.self.invariant.0, c.checked_room.ensures.front)

@@ -1,25 +1,36 @@
-use Rattle.std.proofs.Common.{length, sym, ap, ◌∙◌, subst}
+use Rattle.std.proofs.Common.{inl, length, sym, ap, ◌∙◌, subst}
 use Rattle.gx_model.specs.Histories.{record_for}
 use Rattle.gx_model.specs.Records.Sound.{IsLinked, IsSound}
-use Rattle.gx_store.specs.Bodies.{bytes_of}
+use Rattle.gx_repo.specs.Offered.{bytes_offered}
 use Rattle.gx_repo.specs.Calls.{HasShortPathsBelow}
 use Rattle.gx_repo.specs.Records.{AddsRecord}
 use Rattle.gx_repo.specs.Rooms.{room_below}
 use Rattle.gx_repo.proofs.AddedRecords.{acceptable, duplicate, put_refused, room_refused}
 use Rattle.gx_repo.proofs.HeldRecords.{put_held, put_last}
-use Rattle.gx_repo.proofs.repo.Repo.add_body.Goals as goal
+use Rattle.gx_repo.proofs.repo.Repo.add_anew.Goals as goal
 
 pub returns-in_err-room-clause-adds : goal.returns-in_err-room-clause-adds
 returns-in_err-room-clause-adds g c =
     let old = c.args.self.now.1.records in
-    let r = record_for (g.N.Namer.name_of c.args.self.now.0) c.args.kind (bytes_of c.args.body) in
+    let r = record_for (g.N.Namer.name_of c.args.self.now.0) c.args.kind (bytes_offered c.args.body) in
     subst (λ v. AddsRecord old v.1.records r c.from_residual.result) (sym c.room_of.ensures.same)
-    (room_refused old r c.from_residual.result c.in_err-room.field-0.0 c.from_residual.ensures.1 (rw c.as_slice.ensures at c.in_err-room.ensures.fault))
+    (room_refused old r c.from_residual.result c.in_err-room.field-0.0 c.from_residual.ensures.1 (rw c.as_slice.ensures at c.in_err-room.ensures.fault)).0
+
+pub returns-in_err-room-clause-unhidden : goal.returns-in_err-room-clause-unhidden
+returns-in_err-room-clause-unhidden g c =
+    let r = record_for (g.N.Namer.name_of c.args.self.now.0) c.args.kind (bytes_offered c.args.body) in
+    (room_refused c.args.self.now.1.records r c.from_residual.result c.in_err-room.field-0.0 c.from_residual.ensures.1 (rw c.as_slice.ensures at c.in_err-room.ensures.fault)).1
+
+pub returns-in-Err-OutOfMemory-clause-unhidden : goal.returns-in-Err-OutOfMemory-clause-unhidden
+returns-in-Err-OutOfMemory-clause-unhidden g c =
+    let r = record_for (g.N.Namer.name_of c.args.self.now.0) c.args.kind (bytes_offered c.args.body) in
+    let free = rw c.in-Err-OutOfMemory.field-0-is at c.in-Err-OutOfMemory.ensures.unhidden in
+    inl (acceptable c.args.self.now.1.records r (rw c.as_slice.ensures at c.in_ok-room.ensures.ok) (rw c.room_of.ensures.same at free))
 
 pub returns-in-Err-NameHeld-clause-adds : goal.returns-in-Err-NameHeld-clause-adds
 returns-in-Err-NameHeld-clause-adds g c =
     let old = c.args.self.now.1.records in
-    let r = record_for (g.N.Namer.name_of c.args.self.now.0) c.args.kind (bytes_of c.args.body) in
+    let r = record_for (g.N.Namer.name_of c.args.self.now.0) c.args.kind (bytes_offered c.args.body) in
     let refused = rw c.in-Err-NameHeld.field-0-is at c.in-Err-NameHeld.ensures.adds in
     let adds = rw c.room_of.ensures.same at refused in
     (duplicate old r (rw c.as_slice.ensures at c.in_ok-room.ensures.ok) (put_refused old r adds.0), adds.1)
@@ -28,7 +39,7 @@ pub returns-then-len-held-clause-adds : goal.returns-then-len-held-clause-adds
 returns-then-len-held-clause-adds g c =
     let old = c.args.self.now.1.records in
     let new = c.add.new.self.1.records in
-    let r = record_for (g.N.Namer.name_of c.args.self.now.0) c.args.kind (bytes_of c.args.body) in
+    let r = record_for (g.N.Namer.name_of c.args.self.now.0) c.args.kind (bytes_offered c.args.body) in
     let before = c.len-held.ensures.count ∙ ap (λ v. length v.1.records) (c.self.view_is ∙ c.room_of.ensures.same) in
     let after = c.len.ensures.count ∙ ap (λ v. length v.1.records) c.self-2.view_is in
     let adds = rw c.room_of.ensures.same at c.in-Ok.ensures.adds in
@@ -39,7 +50,7 @@ pub returns-clause-adds : goal.returns-clause-adds
 returns-clause-adds g c =
     let old = c.args.self.now.1.records in
     let new = c.add.new.self.1.records in
-    let r = record_for (g.N.Namer.name_of c.args.self.now.0) c.args.kind (bytes_of c.args.body) in
+    let r = record_for (g.N.Namer.name_of c.args.self.now.0) c.args.kind (bytes_offered c.args.body) in
     let before = c.len-held.ensures.count ∙ ap (λ v. length v.1.records) (c.self.view_is ∙ c.room_of.ensures.same) in
     let after = c.len.ensures.count ∙ ap (λ v. length v.1.records) c.self-2.view_is in
     let adds = rw c.room_of.ensures.same at c.in-Ok.ensures.adds in
@@ -58,7 +69,7 @@ returns-in_err-room-clause-refs g c = ap (λ v. v.1.refs) c.room_of.ensures.same
 pub add-requires-clause-linked : goal.add-requires-clause-linked
 add-requires-clause-linked g c =
     let names = g.N.Namer.name_of c.args.self.now.0 in
-    let body = bytes_of c.args.body in
+    let body = bytes_offered c.args.body in
     let sound = subst (λ v. IsSound (g.N.Namer.name_of v.0) v.1) (c.self.view_is ∙ c.room_of.ensures.same) c.self.invariant.0 in
     let law = c.records_are_taken.ensures names (g.met.N.Namer.is_namer c.args.self.now.0) in
     subst (λ v. IsLinked v.1.records c.args.kind body) (sym c.room_of.ensures.same)
@@ -67,7 +78,7 @@ add-requires-clause-linked g c =
 pub add-requires-clause-short : goal.add-requires-clause-short
 add-requires-clause-short g c =
     let names = g.N.Namer.name_of c.args.self.now.0 in
-    let body = bytes_of c.args.body in
+    let body = bytes_offered c.args.body in
     let sound = subst (λ v. IsSound (g.N.Namer.name_of v.0) v.1) (c.self.view_is ∙ c.room_of.ensures.same) c.self.invariant.0 in
     let law = c.records_are_taken.ensures names (g.met.N.Namer.is_namer c.args.self.now.0) in
     subst (λ v. HasShortPathsBelow g.N.Namer.name_of v c.args.kind body) (sym c.room_of.ensures.same)
@@ -76,7 +87,7 @@ add-requires-clause-short g c =
 pub add-requires-clause-room : goal.add-requires-clause-room
 add-requires-clause-room g c =
     let below = rw c.as_slice.ensures at c.in_ok-room.ensures.room in
-    below ∙ ap (λ v. room_below v.1.records c.args.kind (bytes_of c.args.body)) (sym c.room_of.ensures.same)
+    below ∙ ap (λ v. room_below v.1.records c.args.kind (bytes_offered c.args.body)) (sym c.room_of.ensures.same)
 
 pub returns-in-Err-NameHeld-clause-namer : goal.returns-in-Err-NameHeld-clause-namer
 returns-in-Err-NameHeld-clause-namer g c = c.in-Err-NameHeld.ensures.namer ∙ ap (λ v. v.0) c.room_of.ensures.same

@@ -2,7 +2,6 @@
 use Rattle.std.proofs.Common.{◌≡◌, ◌≢◌, ℕ, ◌+◌, ◌<◌, zero, suc, true, false, not, [], ◌∷◌, length, get_or, take, refl, sym, ap, ◌∙◌, subst, arith}
 use Rattle.std.specs.Prelude.{Ok, Err, IfOk, IsErr, IsErrAnd, Result, List, map}
 use Rattle.std.proofs.lemmas.List.{get_or-map, length-map}
-use Rattle.std.specs.List.{AllByRecursion}
 use Rattle.std.specs.declared.cmp.Ordering.TheVariants.{Less, Greater}
 use Rattle.std.specs.Ordering.{is_lt, ordering_reverse}
 use Rattle.std.specs.FinMap.Entries.{below_all, is_sorted, put}
@@ -10,7 +9,7 @@ use Rattle.std.proofs.lemmas.Bool.{and_parts, false≢true, not-true}
 use Rattle.gx_model.specs.Faults.{IsFaultOf}
 use Rattle.gx_model.specs.Texts.{Bytes}
 use Rattle.gx_model.specs.Texts.Paths.{Path, are_in_line, begins, is_file_path, path_cmp}
-use Rattle.gx_model.specs.Histories.Files.{FileMap, Leaf, are_apart, are_file_paths, is_file_map}
+use Rattle.gx_model.specs.Histories.Files.{FileMap, Leaf, are_apart, is_file_map}
 use Rattle.gx_model.specs.Histories.Edits.{modified, without_line}
 use Rattle.gx_model.proofs.Histories.FileMapEdits.{path_order}
 use Rattle.gx_model.proofs.Texts.PathTests.{or_comm}

@@ -1,5 +1,5 @@
 -- Writing a directory's trees, entry by entry.
-use Rattle.std.proofs.Common.{◌≡◌, ℕ, ◌+◌, ◌<◌, ◌≤◌, List, [], ◌∷◌, ◌++◌, map, length, get_or, drop, take, Some, None, refl, sym, ap, ◌∙◌, subst}
+use Rattle.std.proofs.Common.{append_assoc, ◌≡◌, ℕ, ◌+◌, ◌<◌, ◌≤◌, List, [], ◌∷◌, ◌++◌, map, length, get_or, drop, take, Some, None, refl, sym, ap, ◌∙◌, subst}
 use Rattle.std.specs.Prelude.{Result, Ok, Err, IfOk, IsErr, IsErrAnd}
 use Rattle.std.proofs.lemmas.List.{append-nil, map_more, take-append-drop, take_all, map-append}
 use Rattle.std.proofs.lemmas.Bool.{false≢true}
@@ -20,7 +20,7 @@ use Rattle.gx_tree.specs.Nodes.{IsLevel, Level, files}
 use Rattle.gx_tree.specs.StoreFaults.{tree_fault}
 use Rattle.gx_tree.specs.Homes.{AreAtHome}
 use Rattle.gx_tree.specs.Views.{shown_item, own_entry, shown_entry, shown_entries, RememberAll}
-use Rattle.gx_tree.specs.Writes.{Extends, PutsAll, kept_records, level_records, own_record}
+use Rattle.gx_tree.specs.Writes.{Extends, PutsAll, PutsFront, kept_records, level_records, own_record}
 use Rattle.gx_tree.specs.declared.directory.Entry.{Entry}
 use Rattle.gx_tree.specs.declared.fault.TreeFault.{TreeFault}
 use Rattle.gx_tree.specs.declared.fault.TreeFault.TheVariants.{OutOfMemory, NoSuchPath, RootNotTree, PathTooLong, NameHeld}
@@ -29,6 +29,36 @@ use Rattle.gx_tree.proofs.Levels.{IsInner-files}
 use Rattle.gx_model.proofs.Records.Puts.{front_put, front_same, front_trans, put_all_more, put_all_stops, put_none, put_one}
 use Rattle.gx_tree.proofs.WrittenHomes.{own_entries, take_whole}
 use Rattle.gx_tree.proofs.TreeRecords.{entries-files, tree_records-files}
+
+-- ---- a front of records
+
+-- nothing is put
+pub front_none : (rs old : List Record) → PutsFront rs old old
+front_none rs old = ([], rs, refl, refl)
+
+front_still : (rs old new : List Record) → new ≡ old → PutsFront rs old new
+front_still rs old new same = subst (PutsFront rs old) (sym same) (front_none rs old)
+
+-- all are put
+pub front_whole : (rs old new : List Record) → put_all old rs ≡ Some new → PutsFront rs old new
+front_whole rs old new h = (rs, [], sym (append-nil rs), h)
+
+-- of those behind records that are put, a front is put
+pub front_behind : (all old mid new ms ns more : List Record) → all ≡ ms ++ (ns ++ more) → put_all old ms ≡ Some mid → PutsFront ns mid new → PutsFront all old new
+front_behind all old mid new ms ns more split h (front, rest, is, puts) = (
+  ms ++ front,
+  rest ++ more,
+  split ∙ ap (λ z. ms ++ (z ++ more)) is ∙ simp append_assoc,
+  put_all_more old mid new ms front h puts,
+)
+
+-- what stops behind records that are put, stops all
+stops : (Y Z : Type 0) (all old mid new ms ns more : List Record) (fault : TreeFault) → all ≡ ms ++ (ns ++ more) → put_all old ms ≡ Some mid → PutsAll {Y = Y} ns mid new (Err fault) → PutsAll {Y = Z} all old new (Err fault)
+stops Y Z all old mid new ms ns more OutOfMemory split h p = front_behind all old mid new ms ns more split h p
+stops Y Z all old mid new ms ns more NameHeld split h p = (ap (put_all old) split ∙ put_all_stops old mid ms ns more h p.0, front_behind all old mid new ms ns more split h p.1)
+stops Y Z all old mid new ms ns more NoSuchPath split h p = absurd p
+stops Y Z all old mid new ms ns more RootNotTree split h p = absurd p
+stops Y Z all old mid new ms ns more PathTooLong split h p = absurd p
 
 module _ (name : Kind → Bytes → Bytes) where
   -- the trees below the first i entries are put
@@ -54,14 +84,20 @@ module _ (name : Kind → Bytes → Bytes) where
       ap (put_all old) (records_more es i r l ir) ∙ put_all_more old mid new (level_records name (shown_entries (take i es))) (kept_records name (shown_item r.item)) h p
 
   -- an entry that isn't written stops it
-  pub writing_stops : {A : Type 0} (Y Z : Type 0) (es : List (Entry A)) (i : ℕ) (r : Entry A) (old mid new new' : List Record) (fault : TreeFault) → i < length es → r ≡ get_or es i r → PutsAll {Y = Y} (kept_records name (shown_item r.item)) mid new (Err fault) → IsWriting es i old mid → PutsAll {Y = Z} (level_records name (shown_entries es)) old new' (Err fault)
-  writing_stops Y Z es i r old mid new new' OutOfMemory l ir p h = tt
-  writing_stops Y Z es i r old mid new new' NameHeld l ir p h =
-      ap (put_all old) (records_split es i r l ir)
-      ∙ put_all_stops old mid (level_records name (shown_entries (take i es))) (kept_records name (shown_item r.item)) (level_records name (shown_entries (drop (i + 1) es))) h p
-  writing_stops Y Z es i r old mid new new' NoSuchPath l ir p h = absurd p
-  writing_stops Y Z es i r old mid new new' RootNotTree l ir p h = absurd p
-  writing_stops Y Z es i r old mid new new' PathTooLong l ir p h = absurd p
+  pub writing_stops : {A : Type 0} (Y Z : Type 0) (es : List (Entry A)) (i : ℕ) (r : Entry A) (old mid new : List Record) (fault : TreeFault) → i < length es → r ≡ get_or es i r → PutsAll {Y = Y} (kept_records name (shown_item r.item)) mid new (Err fault) → IsWriting es i old mid → PutsAll {Y = Z} (level_records name (shown_entries es)) old new (Err fault)
+  writing_stops Y Z es i r old mid new fault l ir p h =
+      stops Y Z _ old mid new (level_records name (shown_entries (take i es))) (kept_records name (shown_item r.item)) (level_records name (shown_entries (drop (i + 1) es))) fault (records_split es i r l ir) h p
+
+  -- the first i entries are a front
+  pub writing_front : {A : Type 0} (es : List (Entry A)) (i : ℕ) (old new : List Record) → IsWriting es i old new → PutsFront (level_records name (shown_entries es)) old new
+  writing_front es i old new h = (
+    level_records name (shown_entries (take i es)),
+    level_records name (shown_entries (drop i es)),
+    ap (λ z. level_records name (shown_entries z)) (sym (take-append-drop i es))
+        ∙ ap (level_records name) (map-append shown_entry (take i es) (drop i es))
+        ∙ flat_map-append (λ e. kept_records name e.1) (shown_entries (take i es)) (shown_entries (drop i es)),
+    h,
+  )
 
   -- the trees below all entries are put
   pub all_written : {A : Type 0} (es : List (Entry A)) (i : ℕ) (old mid : List Record) → length es ≤ i → IsWriting es i old mid → put_all old (level_records name (shown_entries es)) ≡ Some mid
@@ -72,14 +108,9 @@ module _ (name : Kind → Bytes → Bytes) where
   whole es h = tree_records-files name (shown_entries es) h (IsInner-files (shown_entries es) h).paths
 
   -- entries below which a tree isn't put stop that of the directory
-  pub below_stops : {A : Type 0} {f : FileMap Bytes} (Y Z : Type 0) (es : List (Entry A)) (old new new' : List Record) (fault : TreeFault) → files (shown_entries es) ≡ f → IsLevel (shown_entries es) → PutsAll {Y = Y} (level_records name (shown_entries es)) old new (Err fault) → PutsAll {Y = Z} (tree_records name f) old new' (Err fault)
-  below_stops Y Z es old new new' OutOfMemory view level p = tt
-  below_stops Y Z es old new new' NameHeld view level p =
-      ap (λ z. put_all old (tree_records name z)) (sym view) ∙ ap (put_all old) (whole es level)
-      ∙ put_all_stops old old [] (level_records name (shown_entries es)) (tree_record name (files (shown_entries es)) ∷ []) refl p
-  below_stops Y Z es old new new' NoSuchPath view level p = absurd p
-  below_stops Y Z es old new new' RootNotTree view level p = absurd p
-  below_stops Y Z es old new new' PathTooLong view level p = absurd p
+  pub below_stops : {A : Type 0} {f : FileMap Bytes} (Y Z : Type 0) (es : List (Entry A)) (old new : List Record) (fault : TreeFault) → files (shown_entries es) ≡ f → IsLevel (shown_entries es) → PutsAll {Y = Y} (level_records name (shown_entries es)) old new (Err fault) → PutsAll {Y = Z} (tree_records name f) old new (Err fault)
+  below_stops Y Z es old new fault view level p =
+      stops Y Z _ old old new [] (level_records name (shown_entries es)) (tree_record name (files (shown_entries es)) ∷ []) fault (ap (tree_records name) (sym view) ∙ whole es level) refl p
 
   -- after the trees below the entries, that of the directory is put
   pub own_put : {A : Type 0} {f : FileMap Bytes} (es : List (Entry A)) (level : Level) (old mid new : List Record) → level ≡ shown_entries es → files (shown_entries es) ≡ f → IsLevel (shown_entries es) → put_all old (level_records name (shown_entries es)) ≡ Some mid → put_all mid (own_record name (files level)) ≡ Some new → put_all old (tree_records name f) ≡ Some new
@@ -88,14 +119,10 @@ module _ (name : Kind → Bytes → Bytes) where
       ∙ put_all_more old mid new (level_records name (shown_entries es)) (own_record name (files (shown_entries es))) below (ap (λ z. put_all mid (own_record name (files z))) (sym alike) ∙ own)
 
   -- or stops
-  pub own_stops : {A : Type 0} {f : FileMap Bytes} (Y Z : Type 0) (es : List (Entry A)) (level : Level) (old mid new new' : List Record) (fault : TreeFault) → level ≡ shown_entries es → files (shown_entries es) ≡ f → IsLevel (shown_entries es) → put_all old (level_records name (shown_entries es)) ≡ Some mid → PutsAll {Y = Y} (own_record name (files level)) mid new (Err fault) → PutsAll {Y = Z} (tree_records name f) old new' (Err fault)
-  own_stops Y Z es level old mid new new' OutOfMemory alike view l below own = tt
-  own_stops Y Z es level old mid new new' NameHeld alike view l below own =
-      ap (λ z. put_all old (tree_records name z)) (sym view) ∙ ap (put_all old) (whole es l)
-      ∙ put_all_stops old mid (level_records name (shown_entries es)) (own_record name (files (shown_entries es))) [] below (ap (λ z. put_all mid (own_record name (files z))) (sym alike) ∙ own)
-  own_stops Y Z es level old mid new new' NoSuchPath alike view l below own = absurd own
-  own_stops Y Z es level old mid new new' RootNotTree alike view l below own = absurd own
-  own_stops Y Z es level old mid new new' PathTooLong alike view l below own = absurd own
+  pub own_stops : {A : Type 0} {f : FileMap Bytes} (Y Z : Type 0) (es : List (Entry A)) (level : Level) (old mid new : List Record) (fault : TreeFault) → level ≡ shown_entries es → files (shown_entries es) ≡ f → IsLevel (shown_entries es) → put_all old (level_records name (shown_entries es)) ≡ Some mid → PutsAll {Y = Y} (own_record name (files level)) mid new (Err fault) → PutsAll {Y = Z} (tree_records name f) old new (Err fault)
+  own_stops Y Z es level old mid new fault alike view l below own =
+      stops Y Z _ old mid new (level_records name (shown_entries es)) (own_record name (files level)) [] fault
+      (ap (tree_records name) (sym view) ∙ whole es l ∙ ap (λ z. level_records name (shown_entries es) ++ own_record name (files z)) (sym alike)) below own
 
   -- ---- a directory's own tree
 
@@ -111,8 +138,8 @@ module _ (name : Kind → Bytes → Bytes) where
   one_put f body old new e p = put_one old new (tree_record name f) (subst (λ r. put old r ≡ Some new) (record_is f body e) p)
 
   pub one_stops : (Y : Type 0) (f : FileMap Bytes) (body : Bytes) (old new : List Record) (s : StoreFault) → body ≡ tree_body name f → Puts old new (record_for name kind.Tree body) (Err s) → PutsAll {Y = Y} (own_record name f) old new (Err (tree_fault s))
-  one_stops Y f body old new store.OutOfMemory e p = tt
-  one_stops Y f body old new store.NameHeld e p = put_none old (tree_record name f) (subst (λ r. put old r ≡ None) (record_is f body e) p.0)
+  one_stops Y f body old new store.OutOfMemory e p = front_still (own_record name f) old new p.1
+  one_stops Y f body old new store.NameHeld e p = (put_none old (tree_record name f) (subst (λ r. put old r ≡ None) (record_is f body e) p.0), front_still (own_record name f) old new p.1)
 
 -- ---- what a call answers that passes a fault on
 

@@ -1,5 +1,5 @@
 -- What writing a tree puts into a store.
-use Rattle.std.specs.Prelude.{◌≡◌, List, [], ◌∷◌, length, take, Some, None, Result, Ok, Err, ⊤}
+use Rattle.std.specs.Prelude.{◌≡◌, List, [], ◌∷◌, ◌++◌, length, take, Some, None, Result, Ok, Err}
 use Rattle.std.specs.List.{flat_map}
 use Rattle.gx_model.specs.declared.objects.Kind.{Kind}
 use Rattle.gx_model.specs.declared.objects.Kind.TheVariants as kind
@@ -46,13 +46,17 @@ pub record Extends {N : Type 0} (old new : N × List Record) : Type 0 where
   pub namer : new.0 ≡ old.0
   pub front : take (length old.1) new.1 ≡ old.1
 
--- these records are put, or one of them has the name of another
+-- of these records a front is put, and nothing else
+abbrev pub PutsFront : List Record → List Record → List Record → Type 0
+PutsFront rs old new = (front : List Record) × (rest : List Record) × (rs ≡ front ++ rest) × (put_all old front ≡ Some new)
+
+-- these records are put; or a front of them alone, where one of them has the name of another or memory is wanting
 abbrev pub PutsAll : {Y : Type 0} → List Record → List Record → List Record → Result Y TreeFault → Type 0
 PutsAll rs old new (Ok y) = put_all old rs ≡ Some new
-PutsAll rs old new (Err NameHeld) = put_all old rs ≡ None
-PutsAll rs old new (Err OutOfMemory) = ⊤
+PutsAll rs old new (Err NameHeld) = (put_all old rs ≡ None) × PutsFront rs old new
+PutsAll rs old new (Err OutOfMemory) = PutsFront rs old new
 PutsAll rs old new (Err f) = ⊥
 
--- the records of x by the store's namer are put into the store, or one of them has the name of another
+-- the records of x by the store's namer are put into the store, or a front of them alone
 abbrev pub StoresAll : {N X Y : Type 0} → (N → Kind → Bytes → Bytes) → ((Kind → Bytes → Bytes) → X → List Record) → X → N × List Record → N × List Record → Result Y TreeFault → Type 0
 StoresAll names records_of x old new = PutsAll (records_of (names old.0) x) old.1 new.1

@@ -1,6 +1,6 @@
 //! Writing a directory's trees: those below it first, in the order of its entries, and then its own. What is written
 //! comes back with the names remembered, and has the old entries where no directory among them gets a name.
-ghost use Rattle.std.specs.Prelude.{◌≡◌, ◌++◌, [], IfOk, IfSome, IsTrue, OnOk, Some, map};
+ghost use Rattle.std.specs.Prelude.{◌≡◌, ◌++◌, [], IfOk, IsTrue, OnOk, Some, map};
 ghost use Rattle.gx_model.specs.Records.Growth.{tree_records};
 ghost use Rattle.gx_model.specs.Objects.{entry_text, tree_text};
 ghost use Rattle.gx_tree.specs.Edits.{level_in};
@@ -8,7 +8,6 @@ ghost use Rattle.gx_tree.specs.Homes.{EntriesKeepHome, HoldsIn, AreAtHome, IsIte
 ghost use Rattle.gx_tree.specs.Named.{IsAtHome, is_named, own_name};
 ghost use Rattle.gx_tree.specs.Nodes.{IsLevel, files};
 ghost use Rattle.gx_tree.specs.Views.{shown_item, own_entry, shown_entries, shown_entry, RememberAll, Remembers};
-ghost use Rattle.std.specs.List.{AllByRecursion};
 ghost use Rattle.gx_tree.specs.Writes.{Extends, IsTreeName, StoresAll, kept_records, level_records};
 ghost use Rattle.gx_tree.specs.Written.{AreWritten, AreWrittenIn, IsItemWritten, IsWritten, PushesItem, RemembersMore, Writes, record_above, records_below};
 

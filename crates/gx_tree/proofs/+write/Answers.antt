@@ -1,4 +1,4 @@
-use Rattle.std.proofs.Common.{Vec, ◌≡◌, [], ◌∷◌, ◌++◌, Err, Some, refl, sym, ap, ◌∙◌, subst, arith}
+use Rattle.std.proofs.Common.{Vec, ◌≡◌, ◌+◌, [], ◌∷◌, ◌++◌, Err, Some, refl, sym, ap, ◌∙◌, subst, arith}
 use Rattle.std.specs.Prelude.{⊤}
 use Rattle.gx_model.specs.Records.Growth.{put_all, tree_records}
 use Rattle.gx_object.specs.declared.name.Name.{Name}
@@ -18,7 +18,7 @@ use Rattle.gx_tree.proofs.HeldRecords.{all_held, still_held}
 use Rattle.gx_tree.proofs.Homes.{items_are_those, all_at, entries_at_home, files_same}
 use Rattle.gx_tree.proofs.Measures.{item_less, item_measure}
 use Rattle.gx_tree.proofs.WrittenHomes.{below_held, directory_written, entries_longer, item_longer, named_held, put_all_again, shared_written}
-use Rattle.gx_tree.proofs.WrittenRecords.{all_written, below_stops, extends_same, extends_trans, made_of_none, own_put, own_stops, passed_on, writing_more, writing_stops}
+use Rattle.gx_tree.proofs.WrittenRecords.{all_written, below_stops, extends_same, extends_trans, front_none, front_whole, made_of_none, own_put, own_stops, passed_on, writing_front, writing_more, writing_stops}
 use Rattle.gx_tree.proofs.+write.Goals as goal
 
 pub directory::Directory::written-returns-then-is_named-clause-puts : goal.directory::Directory::written-returns-then-is_named-clause-puts
@@ -57,7 +57,7 @@ directory::Directory::written-returns-in_err-entries-clause-puts g t c =
     let fault = c.in_err-entries.field-0.0 in
     let new = c.written_entries.new.store.1 in
     passed_on (tree_records name c.args.self.now.files) c.args.store.now.1 new c.from_residual-in_err-entries.result fault c.from_residual-in_err-entries.ensures.0 c.from_residual-in_err-entries.ensures.1
-    (below_stops name (Rc (Vec (Entry g.row.A.Denot) g.row.A.Denot) g.row.A.Denot) NamedTree c.self.inside.entries.value.items c.args.store.now.1 new new fault (files_same c.self.view_is) c.self.invariant.0 c.in_err-entries.ensures.puts)
+    (below_stops name (Rc (Vec (Entry g.row.A.Denot) g.row.A.Denot) g.row.A.Denot) NamedTree c.self.inside.entries.value.items c.args.store.now.1 new fault (files_same c.self.view_is) c.self.invariant.0 c.in_err-entries.ensures.puts)
 
 pub directory::Directory::written-put_tree-requires : goal.directory::Directory::written-put_tree-requires
 directory::Directory::written-put_tree-requires g t c =
@@ -86,7 +86,7 @@ directory::Directory::written-returns-in_err-name-clause-puts g t c =
     let fault = c.in_err-name.field-0.0 in
     let own = subst (λ n. PutsAll {Y = Name} (own_record (g.N.Namer.name_of n) (files level)) mid new (Err fault)) c.written_entries.ensures.extends.namer c.in_err-name.ensures.puts in
     passed_on (tree_records name c.args.self.now.files) c.args.store.now.1 new c.from_residual-in_err-name.result fault c.from_residual-in_err-name.ensures.0 c.from_residual-in_err-name.ensures.1
-    (own_stops name Name NamedTree es level c.args.store.now.1 mid new new fault alike (files_same c.self.view_is) c.self.invariant.0 c.in_ok-entries.ensures.puts own)
+    (own_stops name Name NamedTree es level c.args.store.now.1 mid new fault alike (files_same c.self.view_is) c.self.invariant.0 c.in_ok-entries.ensures.puts own)
 
 pub directory::Directory::written-returns-clause-extends : goal.directory::Directory::written-returns-clause-extends
 directory::Directory::written-returns-clause-extends g t c = extends_trans c.written_entries.ensures.extends c.put_tree.ensures.extends
@@ -165,7 +165,7 @@ writing::write_entries-returns-in_err-item-clause-puts g t c =
     let fault = c.in_err-item.field-0.0 in
     let p = subst (λ n. PutsAll {Y = Item g.row.A.Denot} (kept_records (g.N.Namer.name_of n) (shown_item r.item)) mid new (Err fault)) c.loop-entry.invariant.0.namer c.in_err-item.ensures.puts in
     passed_on (level_records name (shown_entries xs)) c.args.store.now.1 new c.from_residual.result fault c.from_residual.ensures.0 c.from_residual.ensures.1
-    (writing_stops name (Item g.row.A.Denot) ⊤ xs c.loop-entry.entry-index r c.args.store.now.1 mid new new fault c.loop-entry-test.true c.entry-item.is p c.loop-entry.invariant.1)
+    (writing_stops name (Item g.row.A.Denot) ⊤ xs c.loop-entry.entry-index r c.args.store.now.1 mid new fault c.loop-entry-test.true c.entry-item.is p c.loop-entry.invariant.1)
 
 pub writing::write_entries-returns-in_err-push_with-clause-extends : goal.writing::write_entries-returns-in_err-push_with-clause-extends
 writing::write_entries-returns-in_err-push_with-clause-extends g t c = extends_trans c.loop-entry.invariant.0 c.written.ensures.extends
@@ -226,7 +226,8 @@ pub writing::written_entries-returns-in_err-named-clause-extends : goal.writing:
 writing::written_entries-returns-in_err-named-clause-extends g t c = extends_same c.args.store.now
 
 pub directory::Directory::written-returns-in_err-shared-clause-puts : goal.directory::Directory::written-returns-in_err-shared-clause-puts
-directory::Directory::written-returns-in_err-shared-clause-puts g t c = passed_on (tree_records (g.N.Namer.name_of c.args.store.now.0) c.args.self.now.files) c.args.store.now.1 c.args.store.now.1 c.from_residual.result OutOfMemory c.from_residual.ensures.0 c.from_residual.ensures.1 tt
+directory::Directory::written-returns-in_err-shared-clause-puts g t c = passed_on (tree_records (g.N.Namer.name_of c.args.store.now.0) c.args.self.now.files) c.args.store.now.1 c.args.store.now.1 c.from_residual.result OutOfMemory c.from_residual.ensures.0 c.from_residual.ensures.1
+    (front_none _ c.args.store.now.1)
 
 pub directory::Directory::written-returns-in_err-shared-clause-made : goal.directory::Directory::written-returns-in_err-shared-clause-made
 directory::Directory::written-returns-in_err-shared-clause-made g t c = made_of_none _ c.from_residual.result c.from_residual.ensures.0
@@ -270,7 +271,16 @@ writing::write_entries-loop-entry-init g t c =
     )
 
 pub writing::write_entries-returns-in_err-push_with-clause-puts : goal.writing::write_entries-returns-in_err-push_with-clause-puts
-writing::write_entries-returns-in_err-push_with-clause-puts g t c = passed_on (level_records (g.N.Namer.name_of c.args.store.now.0) (shown_entries c.args.entries.now)) c.args.store.now.1 c.written.new.store.1 c.from_residual-in_err-push_with.result OutOfMemory c.from_residual-in_err-push_with.ensures.0 c.from_residual-in_err-push_with.ensures.1 tt
+writing::write_entries-returns-in_err-push_with-clause-puts g t c =
+    let name = g.N.Namer.name_of c.args.store.now.0 in
+    let xs = c.args.entries.now in
+    let r = c.entry-item.result in
+    let mid = c.loop-entry.store.1 in
+    let new = c.written.new.store.1 in
+    let puts = subst (λ n. put_all mid (kept_records (g.N.Namer.name_of n) (shown_item r.item)) ≡ Some new) c.loop-entry.invariant.0.namer c.in_ok-item.ensures.puts in
+    let more = writing_more name xs c.loop-entry.entry-index r c.args.store.now.1 mid new c.loop-entry-test.true c.entry-item.is puts c.loop-entry.invariant.1 in
+    passed_on (level_records name (shown_entries xs)) c.args.store.now.1 new c.from_residual-in_err-push_with.result OutOfMemory c.from_residual-in_err-push_with.ensures.0 c.from_residual-in_err-push_with.ensures.1
+    (writing_front name xs (c.loop-entry.entry-index + 1) c.args.store.now.1 new more)
 
 pub writing::written_entries-write_entries-requires : goal.writing::written_entries-write_entries-requires
 writing::written_entries-write_entries-requires g t c =
@@ -291,13 +301,15 @@ writing::written_entries-write_entries-requires g t c =
     )
 
 pub writing::written_entries-returns-in_err-clone-clause-puts : goal.writing::written_entries-returns-in_err-clone-clause-puts
-writing::written_entries-returns-in_err-clone-clause-puts g t c = passed_on (level_records (g.N.Namer.name_of c.args.store.now.0) (shown_entries c.args.entries.now.value.items)) c.args.store.now.1 c.args.store.now.1 c.from_residual.result OutOfMemory c.from_residual.ensures.0 c.from_residual.ensures.1 tt
+writing::written_entries-returns-in_err-clone-clause-puts g t c = passed_on (level_records (g.N.Namer.name_of c.args.store.now.0) (shown_entries c.args.entries.now.value.items)) c.args.store.now.1 c.args.store.now.1 c.from_residual.result OutOfMemory c.from_residual.ensures.0 c.from_residual.ensures.1
+    (front_none _ c.args.store.now.1)
 
 pub writing::written_entries-returns-in_err-clone-clause-made : goal.writing::written_entries-returns-in_err-clone-clause-made
 writing::written_entries-returns-in_err-clone-clause-made g t c = made_of_none _ c.from_residual.result c.from_residual.ensures.0
 
 pub writing::written_entries-returns-in_err-named-clause-puts : goal.writing::written_entries-returns-in_err-named-clause-puts
-writing::written_entries-returns-in_err-named-clause-puts g t c = passed_on (level_records (g.N.Namer.name_of c.args.store.now.0) (shown_entries c.args.entries.now.value.items)) c.args.store.now.1 c.args.store.now.1 c.from_residual-in_err-named.result OutOfMemory c.from_residual-in_err-named.ensures.0 c.from_residual-in_err-named.ensures.1 tt
+writing::written_entries-returns-in_err-named-clause-puts g t c = passed_on (level_records (g.N.Namer.name_of c.args.store.now.0) (shown_entries c.args.entries.now.value.items)) c.args.store.now.1 c.args.store.now.1 c.from_residual-in_err-named.result OutOfMemory c.from_residual-in_err-named.ensures.0 c.from_residual-in_err-named.ensures.1
+    (front_none _ c.args.store.now.1)
 
 pub writing::written_entries-returns-in_err-named-clause-made : goal.writing::written_entries-returns-in_err-named-clause-made
 writing::written_entries-returns-in_err-named-clause-made g t c = made_of_none _ c.from_residual-in_err-named.result c.from_residual-in_err-named.ensures.0
@@ -310,3 +322,11 @@ writing::written_entries-returns-clause-puts g t c =
     let name = g.N.Namer.name_of c.args.store.now.0 in
     let those = items_are_those c.as_slice-2.ensures.value c.deref-3.ensures in
     subst (λ z. put_all c.args.store.now.1 (level_records name (shown_entries z)) ≡ Some c.write_entries.new.store.1) those c.in_ok-write_entries.ensures.puts
+
+pub writing::written_entries-returns-in_default-clause-puts : goal.writing::written_entries-returns-in_default-clause-puts
+writing::written_entries-returns-in_default-clause-puts g t c =
+    let name = g.N.Namer.name_of c.args.store.now.0 in
+    let new = c.write_entries.new.store.1 in
+    let those = items_are_those c.as_slice-2.ensures.value c.deref-3.ensures in
+    front_whole (level_records name (shown_entries c.args.entries.now.value.items)) c.args.store.now.1 new
+    (subst (λ z. put_all c.args.store.now.1 (level_records name (shown_entries z)) ≡ Some new) those c.in_ok-write_entries.ensures.puts)

@@ -282,9 +282,9 @@ impl<A: Allocator + Copy> PathTree<A> {
     /// the root's, which is then held with all trees below it. A tree that is held already isn't put again, and no name
     /// that the tree remembers is trusted: so it is right for any store. From then on the tree remembers these names.
     ///
-    /// `NameHeld` where a tree has the name of an object of another kind or with other bytes, and `OutOfMemory`. The trees that
-    /// were put by then stay behind the records that the store had: the first of all that are to be put, and nothing else. The
-    /// tree stays as it was, and remembers no further name.
+    /// `NameHeld` where a tree has the name of an object of another kind or with other bytes, and `OutOfMemory`: the trees that
+    /// were put by then stay, a front of all in their order, and nothing else, behind the records that the store had; and the
+    /// tree stays as it was, with the names that it remembers. The files stay as they were in any case.
     /// Cost: the bytes of all paths and of the trees, and for each directory a look-up in the store. Takes memory for the
     /// list of the files, for two trees of them, for the new records, and for one body at a time. Source: gitglossary(7),
     /// "tree object".

@@ -44,7 +44,7 @@ name_refused old new r fault (Err y) e p = of y (subst (λ z. Puts old new r (Er
 -- a fault of a write of trees, passed on where the records are those of before
 pub writes_refused : (old now wrote rs : List Record) (called : Bytes) (fault : StoreFault) (given : TreeFault) → tree_fault fault ≡ given → PutsAll {Y = Name} rs old wrote (Err given) → now ≡ old → AddsAll old now rs called (Err fault)
 writes_refused old now wrote rs called OutOfMemory given e p same = same
-writes_refused old now wrote rs called NameHeld given e p same = (subst (λ f. PutsAll {Y = Name} rs old wrote (Err f)) (sym e) p, same)
+writes_refused old now wrote rs called NameHeld given e p same = ((subst (λ f. PutsAll {Y = Name} rs old wrote (Err f)) (sym e) p).0, same)
 
 -- the rooms of the first records are those of the first ones after a put
 pub front_after : (old new : List Record) (r : Record) (answer : Result Name StoreFault) → Puts old new r answer → (rooms : List ℕ) → IsFront rooms old → IsFront rooms new

@@ -5,8 +5,8 @@ ghost use Rattle.clap.specs.Words.{rule_of};
 ghost use Rattle.gx_line.specs.CommandLine as say;
 
 use clap::builder::ValueParser;
-use clap::{Arg, ArgAction};
-use std::alloc::Global;
+use clap::{Arg, ArgAction, Command};
+use std::alloc::{AllocError, Global};
 
 /// The revision of a command.
 pub(super) fn revision<'a>(alloc: Global) -> Arg<'a>
@@ -85,4 +85,18 @@ pub(super) fn number<'a>(alloc: Global, id: &'a str, help: &'a str) -> Arg<'a>
         .value_name("N")
         .value_parser(ValueParser::unsigned(0, u64::MAX))
         .help(help)
+}
+
+/// A command with one argument more, where there was memory for the command.
+pub(super) fn with_argument<'a>(
+    command: Result<Command<'a>, AllocError>,
+    argument: Arg<'a>,
+) -> Result<Command<'a>, AllocError>
+    requires { argument.global ≡ false }
+    ensures { say.AddsArgument command.entry (rule_of argument.entry) result }
+{
+    match command {
+        Ok(command) => command.arg(argument),
+        Err(error) => Err(error),
+    }
 }

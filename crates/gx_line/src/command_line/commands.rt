@@ -6,7 +6,9 @@ ghost use Rattle.clap.specs.Words.{App, app_of, new_app, rule_of};
 ghost use Rattle.clap.specs.declared.builder.command.Command.TheViews.{out-Command as fields_of};
 ghost use Rattle.gx_line.specs.CommandLine as say;
 
-use super::arguments::{any_words, flag, letter, number, one_word, revision, text, words};
+use super::arguments::{
+    any_words, flag, letter, number, one_word, revision, text, with_argument, words,
+};
 use super::manual::{self, Page, commits, objects, stores, streams};
 use clap::{Arg, Command};
 use std::alloc::{AllocError, Global};
@@ -375,20 +377,6 @@ fn command<'a>(alloc: Global, name: &'a str, page: Page) -> Command<'a>
         .about(page.about)
         .long_about(page.description)
         .after_long_help(page.details)
-}
-
-/// A command with one argument more, where there was memory for the command.
-fn with_argument<'a>(
-    command: Result<Command<'a>, AllocError>,
-    argument: Arg<'a>,
-) -> Result<Command<'a>, AllocError>
-    requires { argument.global ≡ false }
-    ensures { say.AddsArgument command.entry (rule_of argument.entry) result }
-{
-    match command {
-        Ok(command) => command.arg(argument),
-        Err(error) => Err(error),
-    }
 }
 
 /// A command with one more command under it, where there was memory for both.

@@ -1,7 +1,7 @@
 use Rattle.std.proofs.lemmas.Result.{IfOk-at_ok, IfOk-weaker}
 use Rattle.gx_line.specs.CommandLine.{IsMade}
 use Rattle.gx_line.proofs.MadeCommands.{argument_made}
-use Rattle.gx_line.proofs.command_line.commands.with_argument.Goals as goal
+use Rattle.gx_line.proofs.command_line.arguments.with_argument.Goals as goal
 
 pub returns-in-Ok : goal.returns-in-Ok
 returns-in-Ok c = λ a h.

@@ -20,9 +20,13 @@ use Rattle.gx_rev.specs.Walking.{IsWordFault, is_included, refused_at}
 use Rattle.gx_rev.specs.Tips.{AddsTips, AreTips}
 use Rattle.gx_rev.proofs.Tips.{same_tips}
 
--- the first words are these, and their tips are marked
+-- the first words are these
+abbrev pub AreRead : (RangeWord → Given Word) → List RangeWord → List RangeWord → ℕ → List Word → Type 0
+AreRead f all left count done = each_from 1 f all ≡ (each_from (1 + count) f left >>= λ ws. Ok (done ++ ws))
+
+-- and their tips are marked
 pub record AreDone (f : RangeWord → Given Word) (repository : Records) (all left : List RangeWord) (count : ℕ) (ins outs : List Bool) (done : List Word) : Type 0 where
-  pub words : each_from 1 f all ≡ (each_from (1 + count) f left >>= λ ws. Ok (done ++ ws))
+  pub words : AreRead f all left count done
   pub included : AreTips repository (is_included done) ins
   pub excluded : AreTips repository (is_excluded done) outs
 
@@ -48,8 +52,11 @@ module _ (f : RangeWord → Given Word) where
   and_same (Ok ws) = refl
   and_same (Err e) = refl
 
+  pub none_read : (all : List RangeWord) → AreRead f all all 0 []
+  none_read all = and_same (each_from 1 f all)
+
   pub none_done : (r : Records) (all : List RangeWord) (included excluded : List Bool) → AreTips r no_commit included → AreTips r no_commit excluded → AreDone f r all all 0 included excluded []
-  none_done r all included excluded i e = record { words = and_same (each_from 1 f all); included = i; excluded = e }
+  none_done r all included excluded i e = record { words = none_read all; included = i; excluded = e }
 
   some_next : (p : Word → Commit → Bool) (done : List Word) (w : Word) (c : Commit) → (list_any (λ x. p x c) done || p w c) ≡ list_any (λ x. p x c) (done ++ w ∷ [])
   some_next p done w c = sym (list_any-append (λ x. p x c) done (w ∷ []) ∙ ap (λ b. list_any (λ x. p x c) done || b) (or_false (p w c)))
@@ -59,24 +66,28 @@ module _ (f : RangeWord → Given Word) where
   then_next done w (Err e) = refl
 
   -- one word more
+  pub word_done : (all left : List RangeWord) (x : RangeWord) (count : ℕ) (done : List Word) (w : Word) → f x ≡ Ok w → AreRead f all (x ∷ left) count done → AreRead f all left (count + 1) (done ++ w ∷ [])
+  word_done all left x count done w e read =
+      read ∙ ap (λ r. (at_word (1 + count) r >>= λ y. each_from (1 + count + 1) f left >>= λ ys. Ok (y ∷ ys)) >>= λ ws. Ok (done ++ ws)) e
+      ∙ then_next done w (each_from (1 + count + 1) f left) ∙ ap (λ n. each_from n f left >>= λ ws. Ok ((done ++ w ∷ []) ++ ws)) (let s : 1 + count + 1 ≡ 1 + (count + 1) = omega arith in s)
+
+  -- and its tips
   pub next_done : (r : Records) (all left : List RangeWord) (x : RangeWord) (count : ℕ) (included excluded joined apart : List Bool) (done : List Word) (w : Word)
       → f x ≡ Ok w → AddsTips r (span w).included included joined → AddsTips r (span w).excluded excluded apart
       → AreDone f r all (x ∷ left) count included excluded done → AreDone f r all left (count + 1) joined apart (done ++ w ∷ [])
   next_done r all left x count included excluded joined apart done w e i k d = record {
-    words = d.words ∙ ap (λ r. (at_word (1 + count) r >>= λ y. each_from (1 + count + 1) f left >>= λ ys. Ok (y ∷ ys)) >>= λ ws. Ok (done ++ ws)) e
-        ∙ then_next done w (each_from (1 + count + 1) f left) ∙ ap (λ n. each_from n f left >>= λ ws. Ok ((done ++ w ∷ []) ++ ws)) (let s : 1 + count + 1 ≡ 1 + (count + 1) = omega arith in s);
+    words = word_done all left x count done w e d.words;
     included = same_tips r (λ c. is_included done c || (span w).included c) (is_included (done ++ w ∷ [])) joined (λ c. some_next (λ x c. (span x).included c) done w c) (i (is_included done) d.included);
     excluded = same_tips r (λ c. is_excluded done c || (span w).excluded c) (is_excluded (done ++ w ∷ [])) apart (λ c. some_next (λ x c. (span x).excluded c) done w c) (k (is_excluded done) d.excluded);
   }
 
   -- the next word is refused, and so are all
-  pub next_fails : (r : Records) (all left : List RangeWord) (x : RangeWord) (count : ℕ) (included excluded : List Bool) (done : List Word) (g : Fault)
-      → f x ≡ Err g → AreDone f r all (x ∷ left) count included excluded done → each_from 1 f all ≡ Err (record { word = 1 + count; fault = g })
-  next_fails r all left x count included excluded done g e d =
-      d.words ∙ ap (λ r. (at_word (1 + count) r >>= λ y. each_from (1 + count + 1) f left >>= λ ys. Ok (y ∷ ys)) >>= λ ws. Ok (done ++ ws)) e
+  pub next_fails : (all left : List RangeWord) (x : RangeWord) (count : ℕ) (done : List Word) (g : Fault) → f x ≡ Err g → AreRead f all (x ∷ left) count done → each_from 1 f all ≡ Err (record { word = 1 + count; fault = g })
+  next_fails all left x count done g e read =
+      read ∙ ap (λ r. (at_word (1 + count) r >>= λ y. each_from (1 + count + 1) f left >>= λ ys. Ok (y ∷ ys)) >>= λ ws. Ok (done ++ ws)) e
 
-  pub all_done : (r : Records) (all : List RangeWord) (count : ℕ) (included excluded : List Bool) (done : List Word) → AreDone f r all [] count included excluded done → each_from 1 f all ≡ Ok done
-  all_done r all count included excluded done d = d.words ∙ ap Ok (append-nil done)
+  pub all_done : (all : List RangeWord) (count : ℕ) (done : List Word) → AreRead f all [] count done → each_from 1 f all ≡ Ok done
+  all_done all count done read = read ∙ ap Ok (append-nil done)
 
 module _ (name : Kind → Bytes → Bytes) (h : History) where
   pub listed_fails : (ws : List RangeWord) (e : WordFault) → each_from 1 (word_denoted name h) ws ≡ Err e → listed name h ws ≡ Err e

@@ -1,13 +1,8 @@
 -- The base in a revision's text.
 use Rattle.std.specs.Prelude.{Bool, ◌&&◌, nat_eq, nat_le, nat_lt, length}
 use Rattle.std.specs.List.{list_all}
-use Rattle.gx_model.specs.Texts.{Bytes, cut_at}
-use Rattle.gx_model.specs.Revisions.{base_and_suffixes, with_path}
+use Rattle.gx_model.specs.Texts.{Bytes}
 use Rattle.gx_model.specs.Texts.Digits.{is_any_digit}
-
--- what stands before the first `:`, and there before the first `^` or `~`
-abbrev pub base_text : Bytes → Bytes
-base_text text = (base_and_suffixes (with_path text (cut_at 58 text)).0).0
 
 -- an object's name in full: 40 hexadecimal digits
 abbrev pub is_full_name : Bytes → Bool

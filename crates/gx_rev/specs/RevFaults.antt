@@ -1,5 +1,5 @@
 -- The faults of revisions among those of the model, and those that paths bring; what they print, and where memory may run out.
-use Rattle.std.specs.Prelude.{◌≡◌, ◌++◌, codes, IfErr, IsOk, Result}
+use Rattle.std.specs.Prelude.{◌≡◌, ◌⊎◌, ◌++◌, codes, IfErr, IsOk, Result, Ok, Err}
 use Rattle.std.specs.Fmt.{decimal}
 use Rattle.gx_model.specs.declared.faults.Fault.{Fault}
 use Rattle.gx_model.specs.declared.faults.Fault.TheVariants as model
@@ -32,6 +32,16 @@ of_text text.BadIdent = BadRevision
 -- memory may want only where something is given: a fault is answered whatever memory there is
 abbrev pub FaultsComeFirst : {A B : Type 0} → Result A RevFault → Given B → Type 0
 FaultsComeFirst result given = IfErr result (λ fault. fault ≡ OutOfMemory → IsOk given)
+
+-- an answer with no fault but want of memory
+abbrev pub WantsOnly : {X : Type 0} → Result X RevFault → Type 0
+WantsOnly answer = IfErr answer (λ fault. fault ≡ OutOfMemory)
+
+-- the values of two answers; or the first fault, where want of memory gives way to a fault behind it
+abbrev pub AreBoth : {X Y : Type 0} → Result X RevFault → Result Y RevFault → Result (X × Y) RevFault → Type 0
+AreBoth first second (Ok values) = (first ≡ Ok values.0) × (second ≡ Ok values.1)
+AreBoth first second (Err OutOfMemory) = WantsOnly first × WantsOnly second
+AreBoth first second (Err fault) = (first ≡ Err fault) ⊎ (WantsOnly first × (second ≡ Err fault))
 
 -- the word that a fault prints
 abbrev pub word : RevFault → Bytes

@@ -1,5 +1,5 @@
 -- What range words include and exclude, as marks, and what a walk answers.
-use Rattle.std.specs.Prelude.{◌≡◌, ℕ, Bool, not, ◌&&◌, List, [], map, reverse, Result, Ok, Err, slice_index_or, false}
+use Rattle.std.specs.Prelude.{◌≡◌, ℕ, Bool, not, ◌&&◌, IfErr, IsOk, List, [], map, reverse, Result, Ok, Err, slice_index_or, false}
 use Rattle.std.specs.List.{filter, filter_map, list_any}
 use Rattle.std.specs.declared.vec.Vec.{Vec}
 use Rattle.gx_model.specs.declared.faults.Fault.{Fault}
@@ -45,6 +45,10 @@ AreListed name repository included excluded names = (wanted unwanted : Commit �
 abbrev pub IsWordFault : ℕ → Fault → Result (List Bytes) WordFault → Type 0
 IsWordFault word model.OutOfMemory given = word ≡ 0
 IsWordFault word f given = given ≡ Err (record { word = word; fault = f })
+
+-- memory may want only where no word is refused
+abbrev pub WordsComeFirst : {A B : Type 0} → Result A WalkFault → Result B WordFault → Type 0
+WordsComeFirst result given = IfErr result (λ fault. fault.kind ≡ OutOfMemory → IsOk given)
 
 -- the names that are listed, or the first word that is refused
 abbrev pub GivesNames : {A : Type 0} → Result (Vec Name A) WalkFault → Result (List Bytes) WordFault → Type 0

@@ -2,7 +2,7 @@
 
 ghost use Rattle.std.specs.Prelude.{◌≡◌, Some};
 ghost use Rattle.gx_rev.specs.declared.fault.RevFault.TheVariants.{OutOfMemory};
-ghost use Rattle.gx_rev.specs.RevFaults.{of_text, refusal, word};
+ghost use Rattle.gx_rev.specs.RevFaults.{AreBoth, of_text, refusal, word};
 
 use gx_model::Fault;
 use gx_text::TextFault;
@@ -90,6 +90,23 @@ impl From<TextFault> for RevFault {
             // a path is never refused so
             TextFault::BadIdent => RevFault::BadRevision,
         }
+    }
+}
+
+/// The values of two answers; or the first fault, where want of memory gives way to a fault behind it.
+pub(crate) fn both<X: Drop, Y: Drop>(
+    first: Result<X, RevFault>,
+    second: Result<Y, RevFault>,
+) -> Result<(X, Y), RevFault>
+    ensures { AreBoth first second result }
+{
+    match first {
+        Ok(first) => Ok((first, second?)),
+        Err(RevFault::OutOfMemory) => {
+            let _second = second?;
+            Err(RevFault::OutOfMemory)
+        }
+        Err(fault) => Err(fault),
     }
 }
 

@@ -2,12 +2,13 @@
 
 ghost use Rattle.std.specs.Prelude.{◌≡◌, ◌≤◌, ◌-◌, Ok, length};
 ghost use Rattle.std.specs.Option.{option_map};
-ghost use Rattle.gx_model.specs.Faults.{Gives, ◌>>=◌ as ◌and_then◌};
+ghost use Rattle.gx_model.specs.Faults.{Gives, NeedsNoMemory, ◌>>=◌ as ◌and_then◌};
 ghost use Rattle.gx_model.specs.Revisions.{cut_dots, digits_last, dotted, minus_of, minus_or_alone, number_or_one, pair_of, range_of, revision_of, side_of, undotted, without_parent};
-ghost use Rattle.gx_rev.specs.RevFaults.{fault_of};
-ghost use Rattle.gx_rev.specs.Ranges.{one_sided, two_sided};
+ghost use Rattle.gx_rev.specs.RevFaults.{FaultsComeFirst, fault_of};
+ghost use Rattle.gx_rev.specs.Ranges.{ReadsRange, one_sided, parent_number, two_sided};
 ghost use Rattle.gx_rev.specs.Views.{shown_range};
 
+use crate::fault::both;
 use crate::suffix::number_or_one;
 use crate::{RevFault, Revision};
 use memchr::memmem;
@@ -38,10 +39,12 @@ impl<A: Allocator + Copy> Range<A> {
     /// otherwise the first of `^r`, `r^@`, `r^!`, `r^-n` and `r` whose shape it has.
     ///
     /// BadRevision for `..` and `...` alone and for `r^-0`, and otherwise the first fault of a revision, from the left.
+    /// OutOfMemory where there is none and a growth is refused.
     /// Cost: the length. Takes memory for the revisions. Source: gitrevisions(7), "Specifying Ranges".
     #[tactic(auto, unfolding(gx_model::specs::Revisions::range_of))]
     pub fn read(alloc: A, text: &[u8]) -> Result<Range<A>, RevFault>
-        ensures { Gives fault_of shown_range result (range_of text.now) }
+        ensures range { Gives fault_of shown_range result (range_of text.now) }
+        ensures first { FaultsComeFirst result (range_of text.now) }
     {
         match cut_dots(text) {
             Some((left, right)) => read_dotted(alloc, left, right),
@@ -64,7 +67,7 @@ fn read_dotted<A: Allocator + Copy>(
     left: &[u8],
     right: &[u8],
 ) -> Result<Range<A>, RevFault>
-    ensures { Gives fault_of shown_range result (dotted left.now right.now) }
+    ensures { ReadsRange result (dotted left.now right.now) }
 {
     match right.strip_prefix(b".") {
         Some(right) => read_pair(alloc, left, right, true),
@@ -79,13 +82,12 @@ fn read_pair<A: Allocator + Copy>(
     right: &[u8],
     is_apart: bool,
 ) -> Result<Range<A>, RevFault>
-    ensures { Gives fault_of shown_range result (pair_of (two_sided is_apart) left.now right.now) }
+    ensures { ReadsRange result (pair_of (two_sided is_apart) left.now right.now) }
 {
     if left.is_empty() && right.is_empty() {
         return Err(RevFault::BadRevision);
     }
-    let a = read_side(alloc, left)?;
-    let b = read_side(alloc, right)?;
+    let (a, b) = both(read_side(alloc, left), read_side(alloc, right))?;
     if is_apart {
         Ok(Range::Apart(a, b))
     } else {
@@ -95,7 +97,8 @@ fn read_pair<A: Allocator + Copy>(
 
 /// A revision, and HEAD where it is left out.
 fn read_side<A: Allocator + Copy>(alloc: A, text: &[u8]) -> Result<Revision<A>, RevFault>
-    ensures { Gives fault_of (λ r. r) result (side_of text.now) }
+    ensures revision { Gives fault_of (λ r. r) result (side_of text.now) }
+    ensures first { FaultsComeFirst result (side_of text.now) }
 {
     if text.is_empty() {
         Revision::read(alloc, b"HEAD")
@@ -106,7 +109,7 @@ fn read_side<A: Allocator + Copy>(alloc: A, text: &[u8]) -> Result<Revision<A>, 
 
 /// The first of `^r`, `r^@`, `r^!`, `r^-n` and `r` whose shape the text has.
 fn read_undotted<A: Allocator + Copy>(alloc: A, text: &[u8]) -> Result<Range<A>, RevFault>
-    ensures { Gives fault_of shown_range result (undotted text.now) }
+    ensures { ReadsRange result (undotted text.now) }
 {
     if let Some(text) = text.strip_prefix(b"^") {
         return read_alone(alloc, text, Shape::WithoutAncestors);
@@ -122,7 +125,7 @@ fn read_undotted<A: Allocator + Copy>(alloc: A, text: &[u8]) -> Result<Range<A>,
 
 /// `r^-n` where the text has that shape, and otherwise a revision.
 fn read_last<A: Allocator + Copy>(alloc: A, text: &[u8]) -> Result<Range<A>, RevFault>
-    ensures { Gives fault_of shown_range result (minus_or_alone text.now (minus_of text.now)) }
+    ensures { ReadsRange result (minus_or_alone text.now (minus_of text.now)) }
 {
     match cut_minus(text) {
         Some((text, digits)) => read_without_one(alloc, text, digits),
@@ -145,7 +148,7 @@ fn read_alone<A: Allocator + Copy>(
     text: &[u8],
     shape: Shape,
 ) -> Result<Range<A>, RevFault>
-    ensures { Gives fault_of shown_range result (revision_of text.now and_then λ r. Ok (one_sided shape r)) }
+    ensures { ReadsRange result (revision_of text.now and_then λ r. Ok (one_sided shape r)) }
 {
     let revision = Revision::read(alloc, text)?;
     match shape {
@@ -182,13 +185,21 @@ fn read_without_one<A: Allocator + Copy>(
     text: &[u8],
     digits: &[u8],
 ) -> Result<Range<A>, RevFault>
-    ensures { Gives fault_of shown_range result (revision_of text.now
+    ensures { ReadsRange result (revision_of text.now
         and_then λ r. number_or_one digits.now and_then λ n. without_parent r n) }
 {
-    let revision = Revision::read(alloc, text)?;
+    let (revision, number) = both(Revision::read(alloc, text), parent_number(digits))?;
+    Ok(Range::WithoutOne(revision, number))
+}
+
+/// The number of a parent, from 1, in decimal; and 1 where it is left out.
+fn parent_number(digits: &[u8]) -> Result<u64, RevFault>
+    ensures number { Gives fault_of (λ n. n) result (parent_number digits.now) }
+    ensures memory { NeedsNoMemory RevFault.OutOfMemory result }
+{
     let number = number_or_one(digits)?;
     if number == 0 {
         return Err(RevFault::BadRevision);
     }
-    Ok(Range::WithoutOne(revision, number))
+    Ok(number)
 }

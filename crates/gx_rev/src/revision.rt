@@ -1,14 +1,14 @@
 //! Revisions as texts.
 
-ghost use Rattle.std.specs.Prelude.{◌≡◌, ◌≤◌, length, [], map};
-ghost use Rattle.gx_model.specs.Faults.{Gives};
+ghost use Rattle.std.specs.Prelude.{◌≡◌, ◌≤◌, Err, IfErr, IsOk, OnOk, length, [], map};
+ghost use Rattle.gx_model.specs.Faults.{Gives, NeedsNoMemory};
 ghost use Rattle.gx_model.specs.Texts.{cut_at};
 ghost use Rattle.gx_model.specs.Revisions.{base_and_suffixes, base_of, optional_path, revision_of, suffixes_of, with_path};
-ghost use Rattle.gx_rev.specs.Bases.{base_text};
 ghost use Rattle.gx_rev.specs.RevFaults.{FaultsComeFirst, fault_of};
 ghost use Rattle.gx_rev.specs.Views.{borrowed, shown_suffix};
 
 use crate::RevFault;
+use crate::fault::both;
 use crate::suffix::Suffix;
 use gx_text::{TreePath, cut, is_ref_name};
 use memchr::memchr2;
@@ -38,22 +38,20 @@ impl<A: Allocator + Copy> Revision<A> {
     /// The revision that a text gives. Its base is `@`, which is HEAD, or a ref name.
     ///
     /// BadRevision where the base is neither, or a suffix is none; BadPath and PathTooLong where no path follows the
-    /// `:`. The first fault from the left is answered, or OutOfMemory where a growth is refused before it; no growth comes
-    /// before the base's fault.
+    /// `:`. The first fault from the left is answered, and OutOfMemory where there is none and a growth is refused.
     /// Cost: the length. Takes memory for the base, the suffixes and the path.
     /// Source: gitrevisions(7), "Specifying Revisions".
     #[tactic(auto, unfolding(gx_model::specs::Revisions::revision_of))]
     pub fn read(alloc: A, text: &[u8]) -> Result<Revision<A>, RevFault>
         ensures revision { Gives fault_of (λ r. r) result (revision_of text.now) }
-        ensures base { FaultsComeFirst result (base_of (base_text text.now)) }
+        ensures first { FaultsComeFirst result (revision_of text.now) }
     {
         let (front, path) = cut_path(text);
         let (base, suffixes) = cut_base(front);
-        let base = read_base(alloc, base)?;
-        let suffixes = read_suffixes(alloc, suffixes)?;
-        let path = read_path(alloc, path)?;
+        let base = base_named(base)?;
+        let (suffixes, path) = both(read_suffixes(alloc, suffixes), read_path(alloc, path))?;
         Ok(Revision {
-            base,
+            base: Vec::from_slice(alloc, base)?,
             suffixes,
             path,
         })
@@ -83,40 +81,64 @@ fn cut_base(text: &[u8]) -> (&[u8], &[u8])
     }
 }
 
-fn read_base<A: Allocator + Copy>(alloc: A, text: &[u8]) -> Result<Vec<u8, A>, RevFault>
-    ensures base { Gives fault_of (λ base. base.items) result (base_of text.now) }
-    ensures first { FaultsComeFirst result (base_of text.now) }
+/// The ref that a base names; `@` is HEAD.
+fn base_named(text: &[u8]) -> Result<&[u8], RevFault>
+    ensures base { Gives fault_of (λ base. base.now) result (base_of text.now) }
+    ensures memory { NeedsNoMemory RevFault.OutOfMemory result }
 {
     if text == b"@".as_slice() {
-        return Ok(Vec::from_slice(alloc, b"HEAD")?);
+        return Ok(b"HEAD");
     }
     if !is_ref_name(text) {
         return Err(RevFault::BadRevision);
     }
-    Ok(Vec::from_slice(alloc, text)?)
+    Ok(text)
 }
 
 /// The suffixes of a text that begins with one, or is empty.
 fn read_suffixes<A: Allocator + Copy>(alloc: A, text: &[u8]) -> Result<Vec<Suffix, A>, RevFault>
     requires { (base_and_suffixes text.now).0 ≡ [] }
-    ensures { Gives fault_of (λ suffixes. map shown_suffix suffixes.items) result
+    ensures suffixes { Gives fault_of (λ suffixes. map shown_suffix suffixes.items) result
         (suffixes_of (base_and_suffixes text.now).1) }
+    ensures first { FaultsComeFirst result (suffixes_of (base_and_suffixes text.now).1) }
 {
     let mut suffixes = Vec::new(alloc);
     let mut rest = text;
     while let Some((mark, after)) = rest.split_first() {
         let (text, others) = cut_base(after);
-        suffixes.push(Suffix::read(*mark, text)?)?;
+        let suffix = Suffix::read(*mark, text)?;
+        let Ok(()) = suffixes.push(suffix) else {
+            check_suffixes(others)?;
+            return Err(RevFault::OutOfMemory);
+        };
         rest = others;
     }
     Ok(suffixes)
+}
+
+/// Answers the first fault of the suffixes of a text that begins with one, or is empty.
+fn check_suffixes(text: &[u8]) -> Result<(), RevFault>
+    requires { (base_and_suffixes text.now).0 ≡ [] }
+    ensures right { OnOk result (IsOk (suffixes_of (base_and_suffixes text.now).1)) }
+    ensures fault { IfErr result (λ fault. suffixes_of (base_and_suffixes text.now).1
+        ≡ Err (fault_of fault)) }
+    ensures memory { NeedsNoMemory RevFault.OutOfMemory result }
+{
+    let mut rest = text;
+    while let Some((mark, after)) = rest.split_first() {
+        let (text, others) = cut_base(after);
+        let _suffix = Suffix::read(*mark, text)?;
+        rest = others;
+    }
+    Ok(())
 }
 
 fn read_path<A: Allocator + Copy>(
     alloc: A,
     text: Option<&[u8]>,
 ) -> Result<Option<TreePath<A>>, RevFault>
-    ensures { Gives fault_of (λ path. path) result (optional_path (borrowed text.entry)) }
+    ensures path { Gives fault_of (λ path. path) result (optional_path (borrowed text.entry)) }
+    ensures first { FaultsComeFirst result (optional_path (borrowed text.entry)) }
 {
     match text {
         None => Ok(None),

@@ -4,12 +4,11 @@ ghost use Rattle.std.specs.Prelude.{◌≡◌, IfOk, Ok, Some};
 ghost use Rattle.gx_model.specs.declared.objects.Kind.TheVariants as kinds;
 ghost use Rattle.gx_model.specs.declared.objects.Mode.TheVariants as modes;
 ghost use Rattle.gx_model.specs.Faults.{Gives, NeedsNoMemory, ◌>>=◌ as ◌and_then◌};
-ghost use Rattle.gx_model.specs.Revisions.{base_of, revision_of};
+ghost use Rattle.gx_model.specs.Revisions.{revision_of};
 ghost use Rattle.gx_model.specs.Revisions.Denotation.{commit_denoted, denoted, file_shown, files_in, looked_up, shown_at, value_denoted};
 ghost use Rattle.gx_model.specs.Records.{parts_of_commit};
 ghost use Rattle.gx_model.specs.Records.HistoryOf.{bytes_of_blob, history_of};
 ghost use Rattle.gx_rev.specs.Answers.{AnswersTell, IsNamed, file_of, shown_as, shown_by, shown_file};
-ghost use Rattle.gx_rev.specs.Bases.{base_text};
 ghost use Rattle.gx_rev.specs.FirstParents.{AreFirstParents};
 ghost use Rattle.gx_rev.specs.Objects.{IsHeld, IsHeldAs, commit_at, files_at, value_at};
 ghost use Rattle.gx_rev.specs.RevFaults.{FaultsComeFirst, fault_of};
@@ -41,7 +40,7 @@ impl<A: Allocator + Copy> Revision<A> {
         ensures shown { Gives fault_of (shown_by repo.now.1) result
             (revision_of text.now and_then denoted (N.name_of repo.now.0) (history_of repo.now.1)) }
         ensures named { IfOk result (IsNamed (N.name_of repo.now.0) repo.now.1) }
-        ensures base { FaultsComeFirst result (base_of (base_text text.now)) }
+        ensures first { FaultsComeFirst result (revision_of text.now) }
     {
         Revision::read(alloc, text)?.eval(repo)
     }
@@ -63,8 +62,8 @@ impl<A: Allocator + Copy> Revision<A> {
 
     /// Does what `eval` does, where many revisions share walks along first parents: `r~1`, `r~2` and so on, in any order.
     ///
-    /// OutOfMemory besides. Cost: that of `eval`; but `r~n` costs no step that the last such walk from the same commit took.
-    /// Takes memory for the name of each commit of that walk.
+    /// Cost: that of `eval`; but `r~n` costs no step that the last such walk from the same commit took. Takes memory for the
+    /// name of each commit of that walk; where that is refused, the walk isn't shared.
     pub fn eval_with<N: Namer>(
         &self,
         repo: &Repo<N, A>,
@@ -75,6 +74,7 @@ impl<A: Allocator + Copy> Revision<A> {
         ensures shown { Gives fault_of (shown_by repo.now.1) result
             (denoted (N.name_of repo.now.0) (history_of repo.now.1) self.now) }
         ensures named { IfOk result (IsNamed (N.name_of repo.now.0) repo.now.1) }
+        ensures memory { NeedsNoMemory RevFault.OutOfMemory result }
     {
         eval_parts_with(
             repo,
@@ -118,6 +118,7 @@ fn eval_parts_with<N: Namer, A: Allocator + Copy>(
     ensures shown { Gives fault_of (shown_by repo.now.1) result (denoted (N.name_of repo.now.0)
         (history_of repo.now.1) (shown_revision base.now suffixes.now (borrowed path.entry))) }
     ensures named { IfOk result (IsNamed (N.name_of repo.now.0) repo.now.1) }
+    ensures memory { NeedsNoMemory RevFault.OutOfMemory result }
 {
     let base = eval_base(repo, base)?;
     let object = eval_all_with(repo, first_parents, &base, suffixes)?;
@@ -219,7 +220,7 @@ pub fn tree_of_text<N: Namer, A: Allocator + Copy>(
     ensures files { Gives fault_of (files_at repo.now.1) result (revision_of text.now
         and_then λ r. value_denoted (N.name_of repo.now.0) (history_of repo.now.1) r and_then files_in) }
     ensures held { IfOk result (IsHeldAs kinds.Tree repo.now.1) }
-    ensures base { FaultsComeFirst result (base_of (base_text text.now)) }
+    ensures first { FaultsComeFirst result (revision_of text.now) }
 {
     tree(repo, &Revision::read(alloc, text)?)
 }

@@ -7,9 +7,10 @@ ghost use Rattle.gx_model.specs.Faults.{Gives, NeedsNoMemory};
 ghost use Rattle.gx_model.specs.Texts.{same_bytes};
 ghost use Rattle.gx_model.specs.Revisions as model;
 ghost use Rattle.gx_model.specs.Revisions.{braced_suffixes, number_or_one, suffix_of};
-ghost use Rattle.gx_model.specs.Revisions.Denotation.{all_suffixed, peel, suffixed};
+ghost use Rattle.gx_model.specs.Revisions.Denotation.{all_suffixed, nth_ancestor, peel, suffixed};
+ghost use Rattle.gx_model.specs.declared.objects.Kind.TheVariants as kinds;
 ghost use Rattle.gx_rev.specs.FirstParents.{AreFirstParents};
-ghost use Rattle.gx_rev.specs.Objects.{IsHeld, only, value_at};
+ghost use Rattle.gx_rev.specs.Objects.{IsHeld, IsHeldAs, commit_at, only, value_at};
 ghost use Rattle.gx_rev.specs.RevFaults.{fault_of};
 ghost use Rattle.gx_rev.specs.Views.{shown_suffix};
 
@@ -98,6 +99,7 @@ impl Suffix {
         ensures value { Gives fault_of (value_at repo.now.1) result
             (suffixed (value_at repo.now.1 name.now) (shown_suffix self)) }
         ensures held { IfOk result (IsHeld repo.now.1) }
+        ensures memory { NeedsNoMemory RevFault.OutOfMemory result }
     {
         match self {
             Suffix::Ancestor(number) => ancestor_with(repo, first_parents, name, number),
@@ -138,6 +140,7 @@ pub(crate) fn eval_all_with<N: Namer, A: Allocator + Copy>(
     ensures value { Gives fault_of (value_at repo.now.1) result
         (all_suffixed (value_at repo.now.1 name.now) (map shown_suffix suffixes.now)) }
     ensures held { IfOk result (IsHeld repo.now.1) }
+    ensures memory { NeedsNoMemory RevFault.OutOfMemory result }
 {
     let mut object = *name;
     for suffix in suffixes {
@@ -192,11 +195,34 @@ fn ancestor_with<N: Namer, A: Allocator + Copy>(
     ensures value { Gives fault_of (value_at repo.now.1) result
         (suffixed (value_at repo.now.1 name.now) (model.ancestor number)) }
     ensures held { IfOk result (IsHeld repo.now.1) }
+    ensures memory { NeedsNoMemory RevFault.OutOfMemory result }
 {
     repo.sound();
     let commit = commit_of(repo, name)?;
-    let ancestor = first_parents.ancestor(repo, &commit, number)?;
+    let ancestor = shared_ancestor(repo, first_parents, &commit, number)?;
     Ok(ancestor)
+}
+
+/// The commit that is n first parents up from a held one. Where the shared walk can't grow, none is shared.
+fn shared_ancestor<N: Namer, A: Allocator + Copy>(
+    repo: &Repo<N, A>,
+    first_parents: &mut FirstParents<A>,
+    commit: &Name,
+    number: u64,
+) -> Result<Name, RevFault>
+    requires held { IsHeldAs kinds.Commit repo.now.1 commit.now }
+    requires walk { AreFirstParents repo.now.1 first_parents.old }
+    ensures walk { AreFirstParents repo.now.1 first_parents.new }
+    ensures ancestor { Gives fault_of (commit_at repo.now.1) result
+        (nth_ancestor number (commit_at repo.now.1 commit.now)) }
+    ensures held { IfOk result (IsHeldAs kinds.Commit repo.now.1) }
+    ensures memory { NeedsNoMemory RevFault.OutOfMemory result }
+{
+    match first_parents.ancestor(repo, commit, number) {
+        Ok(ancestor) => Ok(ancestor),
+        Err(RevFault::OutOfMemory) => ancestor_of(repo, commit, number),
+        Err(fault) => Err(fault),
+    }
 }
 
 /// The object with tags peeled.

@@ -1,18 +1,19 @@
 //! The commits that range words list. Each word marks the tips of what it includes and of what it excludes; one pass then
 //! serves what all words include, and one what they exclude.
 
-ghost use Rattle.std.specs.Prelude.{◌≡◌, Bool, IfOk, List, OnOk, length, map};
+ghost use Rattle.std.specs.Prelude.{◌≡◌, ◌≢◌, Bool, Err, IfErr, IfOk, IsOk, List, OnOk, length, map};
 ghost use Rattle.gx_model.specs.declared.objects.Kind.TheVariants as kinds;
 ghost use Rattle.gx_model.specs.Revisions as words;
 ghost use Rattle.gx_model.specs.Records.HistoryOf.{history_of};
-ghost use Rattle.gx_model.specs.Revisions.Ranges.{listed, no_commit};
+ghost use Rattle.gx_model.specs.Revisions.Ranges.{listed, no_commit, word_denoted, words_denoted};
 ghost use Rattle.gx_model.specs.Laws.RepositoryLaws.{values_of};
 ghost use Rattle.gx_rev.specs.Objects.{IsHeldAs};
 ghost use Rattle.gx_rev.specs.Parents.{HoldsParents};
 ghost use Rattle.gx_model.specs.Faults.{NeedsNoMemory};
 ghost use Rattle.gx_rev.specs.Views.{shown_range};
 ghost use Rattle.gx_rev.specs.Tips.{AreTips};
-ghost use Rattle.gx_rev.specs.Walking.{AreListed, GivesNames, MarksOfWords, MarksWord, MarksWords, TipsOfWords, refused_at};
+ghost use Rattle.gx_rev.specs.RevFaults.{fault_of};
+ghost use Rattle.gx_rev.specs.Walking.{AreListed, GivesNames, IsWordFault, MarksOfWords, MarksWord, MarksWords, TipsOfWords, WordsComeFirst, refused_at};
 
 use crate::meetings::mark_common;
 use crate::objects::parent_of;
@@ -25,7 +26,8 @@ use std::alloc::{AllocError, Allocator};
 
 /// The names of the commits that some word includes and none excludes, the newest made first.
 ///
-/// The first word that is refused is answered with its number and the fault of its revisions, or NoParent of `r^-n`.
+/// The first word that is refused is answered with its number and the fault of its revisions, or NoParent of `r^-n`; and
+/// OutOfMemory where none is and a growth is refused.
 /// Cost: for each word what its revisions cost. All words share one pass over the records for what they include and one for
 /// what they exclude; for `a...b` two walks go down from `a` and `b` until they meet. Each commit that is reached is decoded
 /// once, and its parents are looked up then. Takes a byte for each record and each of two sets, two numbers for each record,
@@ -36,8 +38,10 @@ pub fn walk<N: Namer, A: Allocator + Copy>(
     repo: &Repo<N, A>,
     words: &[Range<A>],
 ) -> Result<Vec<Name, A>, WalkFault>
-    ensures { GivesNames result
+    ensures names { GivesNames result
         (listed (N.name_of repo.now.0) (history_of repo.now.1) (map shown_range words.now)) }
+    ensures first { WordsComeFirst result
+        (words_denoted (N.name_of repo.now.0) (history_of repo.now.1) (map shown_range words.now)) }
 {
     let (included, excluded) = walked(alloc, repo, words)?;
     let names = names_marked(alloc, repo, &included, &excluded)?;
@@ -49,6 +53,26 @@ pub fn walk<N: Namer, A: Allocator + Copy>(
 /// What is refused, and the cost: as of `walk`, without the names.
 /// Source: gitrevisions(7), "Specifying Ranges".
 pub fn walked<N: Namer, A: Allocator + Copy>(
+    alloc: A,
+    repo: &Repo<N, A>,
+    words: &[Range<A>],
+) -> Result<(Vec<bool, A>, Vec<bool, A>), WalkFault>
+    ensures marks { MarksWords (N.name_of repo.now.0) repo.now.1 (map shown_range words.now) result }
+    ensures first { WordsComeFirst result
+        (words_denoted (N.name_of repo.now.0) (history_of repo.now.1) (map shown_range words.now)) }
+{
+    match marked(alloc, repo, words) {
+        Ok(marks) => Ok(marks),
+        Err(fault) => {
+            // want of memory hides no word that is refused
+            check_words(repo, words)?;
+            Err(fault)
+        }
+    }
+}
+
+/// Answers the first word that is refused, also for want of memory only.
+fn marked<N: Namer, A: Allocator + Copy>(
     alloc: A,
     repo: &Repo<N, A>,
     words: &[Range<A>],
@@ -136,6 +160,56 @@ fn mark_words<N: Namer, A: Allocator + Copy>(
         match mark_word(alloc, repo, parents, word, included, excluded) {
             Ok(()) => {}
             Err(kind) => return Err(refused(place + 1, kind)),
+        }
+    }
+    Ok(())
+}
+
+/// Answers the first word that is refused.
+fn check_words<N: Namer, A: Allocator + Copy>(
+    repo: &Repo<N, A>,
+    words: &[Range<A>],
+) -> Result<(), WalkFault>
+    ensures right { OnOk result (IsOk (words_denoted (N.name_of repo.now.0) (history_of repo.now.1)
+        (map shown_range words.now))) }
+    ensures fault { IfErr result (λ fault. IsWordFault fault.word (fault_of fault.kind)
+        (listed (N.name_of repo.now.0) (history_of repo.now.1) (map shown_range words.now))) }
+    ensures memory { IfErr result (λ fault. fault.kind ≢ RevFault.OutOfMemory) }
+{
+    for (place, word) in words.iter().enumerate() {
+        match check_word(repo, word) {
+            Ok(()) => {}
+            Err(kind) => return Err(refused(place + 1, kind)),
+        }
+    }
+    Ok(())
+}
+
+/// Answers why a word is refused.
+fn check_word<N: Namer, A: Allocator + Copy>(
+    repo: &Repo<N, A>,
+    word: &Range<A>,
+) -> Result<(), RevFault>
+    ensures right { OnOk result
+        (IsOk (word_denoted (N.name_of repo.now.0) (history_of repo.now.1) (shown_range word.now))) }
+    ensures fault { IfErr result (λ fault. word_denoted (N.name_of repo.now.0) (history_of repo.now.1)
+        (shown_range word.now) ≡ Err (fault_of fault)) }
+    ensures memory { NeedsNoMemory RevFault.OutOfMemory result }
+{
+    match word {
+        Range::WithAncestors(revision)
+        | Range::WithoutAncestors(revision)
+        | Range::AllParents(revision)
+        | Range::Alone(revision) => {
+            let _commit = eval_commit(repo, revision)?;
+        }
+        Range::Between(left, right) | Range::Apart(left, right) => {
+            let _left = eval_commit(repo, left)?;
+            let _right = eval_commit(repo, right)?;
+        }
+        Range::WithoutOne(revision, number) => {
+            let commit = eval_commit(repo, revision)?;
+            let _parent = parent_of(repo, &commit, *number)?;
         }
     }
     Ok(())

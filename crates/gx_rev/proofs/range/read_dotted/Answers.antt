@@ -1,14 +1,12 @@
 use Rattle.std.proofs.Common.{sym, subst}
-use Rattle.gx_model.specs.Faults.{Gives}
-use Rattle.gx_rev.specs.RevFaults.{fault_of}
-use Rattle.gx_rev.specs.Views.{shown_range}
+use Rattle.gx_rev.specs.Ranges.{ReadsRange}
 use Rattle.gx_rev.proofs.WordShapes.{three_dots, two_dots}
 use Rattle.gx_rev.proofs.range.read_dotted.Goals as goal
 
 pub returns-in-Some : goal.returns-in-Some
 returns-in-Some g c =
-    subst (Gives fault_of shown_range c.read_pair.result) (sym (three_dots c.args.right.now c.in-Some.right.now c.args.left.now c.in-Some.ensures.cases.0 c.in-Some.ensures.cases.1)) c.read_pair.ensures
+    subst (ReadsRange c.read_pair.result) (sym (three_dots c.args.right.now c.in-Some.right.now c.args.left.now c.in-Some.ensures.cases.0 c.in-Some.ensures.cases.1)) c.read_pair.ensures
 
 pub returns-in-None : goal.returns-in-None
 returns-in-None g c =
-    subst (Gives fault_of shown_range c.read_pair-in-None.result) (sym (two_dots c.args.right.now c.args.left.now c.in-None.ensures.cases)) c.read_pair-in-None.ensures
+    subst (ReadsRange c.read_pair-in-None.result) (sym (two_dots c.args.right.now c.args.left.now c.in-None.ensures.cases)) c.read_pair-in-None.ensures

@@ -29,7 +29,7 @@ returns-in-Err-clause-tips g c =
     let from = ap (map shown_range) (words_from c.args.words.now c.loop-place.place x c.loop-place-test.true c.index-words-place.is) in
     let now = subst (λ ws. AreDone f c.args.repo.now.1 all ws c.loop-place.place c.loop-place.included c.loop-place.excluded inv.0) from inv.1 in
     rw c.refused.ensures (word_fails name h all c.loop-place.place c.in-Err.kind (shown_range x) c.in-Err.ensures.marks
-    (λ k e. next_fails f c.args.repo.now.1 all left (shown_range x) c.loop-place.place c.loop-place.included c.loop-place.excluded inv.0 k e now) (c.loop-place.place + 1) (omega arith))
+    (λ k e. next_fails f all left (shown_range x) c.loop-place.place inv.0 k e now.words) (c.loop-place.place + 1) (omega arith))
 
 pub loop-place-preserved : goal.loop-place-preserved
 loop-place-preserved g c =
@@ -57,4 +57,4 @@ returns-clause-tips g c =
     let past : length c.args.words.now ≤ c.loop-place.place = omega arith in
     let over = ap (map shown_range) (words_end c.args.words.now c.loop-place.place past) in
     let now = subst (λ ws. AreDone f r all ws c.loop-place.place c.loop-place.included c.loop-place.excluded inv.0) over inv.1 in
-    (inv.0, all_done f r all c.loop-place.place c.loop-place.included c.loop-place.excluded inv.0 now, inv.1.included, inv.1.excluded)
+    (inv.0, all_done f all c.loop-place.place inv.0 now.words, inv.1.included, inv.1.excluded)

@@ -2,7 +2,7 @@ use Rattle.std.proofs.Common.{◌≡◌, ◌∙◌, ap, sym, subst, arith, lengt
 use Rattle.std.proofs.lemmas.List.{with_items_is}
 use Rattle.gx_model.specs.Revisions.Ranges.{no_commit}
 use Rattle.gx_rev.specs.Tips.{AreTips}
-use Rattle.gx_rev.proofs.walking.walked.Goals as goal
+use Rattle.gx_rev.proofs.walking.marked.Goals as goal
 
 pub mark_walked-requires-clause-wanted : goal.mark_walked-requires-clause-wanted
 mark_walked-requires-clause-wanted g c = subst (AreTips c.args.repo.now.1 no_commit) (sym c.deref_mut.ensures.value) c.in_ok-included.ensures

@@ -1,7 +1,7 @@
 -- What is left of a text behind what is read of it.
 use Rattle.std.proofs.Common.{◌≡◌, ℕ, ◌∷◌, ◌++◌, [], Ok, sym, subst, ◌∙◌, append_assoc}
 use Rattle.std.specs.Prelude.{codes}
-use Rattle.std.specs.Fmt.{decimal}
+use Rattle.gx_model.specs.Texts.Numbers.{number_text}
 use Rattle.gx_model.specs.declared.store_versions.Version.{Version}
 use Rattle.gx_model.specs.Texts.{Bytes}
 use Rattle.gx_model.specs.Objects.{line}
@@ -30,7 +30,7 @@ left_after k body rest h = left_behind k (body ++ 10 ∷ []) rest (subst (EndsWi
 
 -- what stands behind the line of a count is left
 pub left_count : (k word text : Bytes) (n : ℕ) (rest : Bytes) → EndsWith k text → stored_count word text ≡ Ok (n, rest) → EndsWith k rest
-left_count k word text n rest h e = left_behind k (line word (decimal n)) rest (subst (EndsWith k) (count_of word text (n, rest) e) h)
+left_count k word text n rest h e = left_behind k (line word (number_text n)) rest (subst (EndsWith k) (count_of word text (n, rest) e) h)
 
 -- what stands behind the first line is left
 pub left_magic : (k text : Bytes) (v : Version) (rest : Bytes) → EndsWith k text → after_magic text ≡ Ok (v, rest) → EndsWith k rest

@@ -2,7 +2,7 @@
 use Rattle.std.proofs.Common.{◌≡◌, ◌<◌, ◌^◌, ℕ, List, [], ◌++◌, ◌∷◌, length, codes, Option, None, Ok, refl, sym, ap, subst, ◌∙◌, append_assoc}
 use Rattle.std.specs.Bool.{passes}
 use Rattle.std.specs.List.{flat_map}
-use Rattle.std.specs.Fmt.{decimal}
+use Rattle.gx_model.specs.Texts.Numbers.{number_text}
 use Rattle.gx_model.specs.declared.objects.Kind.{Kind}
 use Rattle.gx_model.specs.declared.store_versions.Version.{Version}
 use Rattle.gx_model.specs.Texts.{Bytes}
@@ -28,16 +28,16 @@ grouped a b c d e f g = simp append_assoc
 pub text_grouped : (v : Version) (r : Records) → store_text v r ≡ text_of v (length r.records) r.records (length r.refs) r.refs (codes "end" ++ 10 ∷ [])
 unfolding store_text
 text_grouped v r =
-    grouped (line (codes "gxstore") (version_text v)) (line (codes "objects") (decimal (length r.records))) (flat_map (stored_record v) r.records) (line (codes "refs") (decimal (length r.refs))) (flat_map stored_ref r.refs) (codes "end") (10 ∷ [])
+    grouped (line (codes "gxstore") (version_text v)) (line (codes "objects") (number_text (length r.records))) (flat_map (stored_record v) r.records) (line (codes "refs") (number_text (length r.refs))) (flat_map stored_ref r.refs) (codes "end") (10 ∷ [])
 
 -- before anything goes out, four texts of a repository are left
 pub store_left : (v : Version) (r : Records) (was : Option Taken)
-    → IsLeft (store_text v r) was was (line (codes "gxstore") (version_text v) ++ ((line (codes "objects") (decimal (length r.records)) ++ flat_map (stored_record v) r.records) ++ ((line (codes "refs") (decimal (length r.refs)) ++ flat_map stored_ref r.refs) ++ (codes "end" ++ 10 ∷ []))))
+    → IsLeft (store_text v r) was was (line (codes "gxstore") (version_text v) ++ ((line (codes "objects") (number_text (length r.records)) ++ flat_map (stored_record v) r.records) ++ ((line (codes "refs") (number_text (length r.refs)) ++ flat_map stored_ref r.refs) ++ (codes "end" ++ 10 ∷ []))))
 store_left v r was =
     let start = line (codes "gxstore") (version_text v) in
-    let objects = line (codes "objects") (decimal (length r.records)) in
+    let objects = line (codes "objects") (number_text (length r.records)) in
     let records = flat_map (stored_record v) r.records in
-    let counted = line (codes "refs") (decimal (length r.refs)) in
+    let counted = line (codes "refs") (number_text (length r.refs)) in
     let refs = flat_map stored_ref r.refs in
     let ends = codes "end" ++ 10 ∷ [] in
     let whole = all_left (store_text v r) was in
@@ -72,12 +72,12 @@ module _ (name : Kind → Bytes → Bytes) where
       let xs = r.refs in
       let ends = codes "end" ++ 10 ∷ [] in
       let refs_text = flat_map stored_ref xs ++ ends in
-      let objects_text = flat_map (stored_record v) rs ++ (line (codes "refs") (decimal (length xs)) ++ refs_text) in
+      let objects_text = flat_map (stored_record v) rs ++ (line (codes "refs") (number_text (length xs)) ++ refs_text) in
       let alone : IsSound name (record { records = rs; refs = [] }) = record { named = i.named; distinct = i.distinct; linked = i.linked; paths = i.paths; sorted = refl; ref_names = refl; held = tt } in
       ap (store_of name) (text_grouped v r)
-      ∙ ap (λ s. s >>= records_count) (magic_read v (line (codes "objects") (decimal (length rs)) ++ objects_text))
+      ∙ ap (λ s. s >>= records_count) (magic_read v (line (codes "objects") (number_text (length rs)) ++ objects_text))
       ∙ ap (λ s. s >>= records_rest v) (count_read (codes "objects") (length rs) objects_text tt few)
-      ∙ ap (λ s. s >>= refs_count) (records_read name v namer [] rs (line (codes "refs") (decimal (length xs)) ++ refs_text) alone short)
+      ∙ ap (λ s. s >>= refs_count) (records_read name v namer [] rs (line (codes "refs") (number_text (length xs)) ++ refs_text) alone short)
       ∙ ap (λ s. s >>= refs_rest rs) (count_read (codes "refs") (length xs) refs_text tt few_refs)
       ∙ ap (λ s. s >>= whole rs) (refs_read rs None xs ends (targets_name name namer rs i.distinct i.named xs i.held) (passes _ i.ref_names) (targets_test rs i.distinct xs i.held) tt (passes _ i.sorted))
       ∙ ap (λ s. s >>= λ u. Ok (record { records = rs; refs = xs })) end_read

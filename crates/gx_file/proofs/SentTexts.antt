@@ -1,7 +1,9 @@
 -- What a sink took of texts that were sent one after the other, and the whole that they make.
-use Rattle.std.proofs.Common.{◌≡◌, ℕ, zero, suc, ◌<◌, ◌≤◌, ◌+◌, sym, ap, subst, ◌∙◌, arith, false, List, [], ◌∷◌, ◌++◌, drop, length, append_assoc, append-nil, Option, None, Some, Result, Ok, Err}
+use Rattle.std.proofs.Common.{◌≡◌, ℕ, zero, suc, ◌<◌, ◌≤◌, ◌+◌, ◌^◌, sym, ap, subst, ◌∙◌, arith, false, List, [], ◌∷◌, ◌++◌, drop, length, append_assoc, append-nil, Option, None, Some, Result, Ok, Err}
 use Rattle.std.specs.Prelude.{IfOk}
 use Rattle.std.specs.Fmt.{decimal}
+use Rattle.gx_model.specs.Texts.Numbers.{number_text}
+use Rattle.gx_model.proofs.Texts.Decimals.{text_is_decimal}
 use Rattle.std.specs.List.{AllByRecursion, flat_map, slice_get}
 use Rattle.std.proofs.lemmas.List.{drop_all}
 use Rattle.gx_model.specs.declared.store_versions.Version.TheVariants.{Two}
@@ -61,9 +63,16 @@ pub anyway : {P : Type 0} (answer : Result (Unit {0}) Failed) → P → IfOk ans
 anyway (Ok u) p = p
 anyway (Err f) p = tt
 
+-- A count goes out behind its word where their parts do, one after the other.
+pub count_sent : (was now : Option Taken) (answer : Result (Unit {0}) Failed) (word digits : Bytes) (n : ℕ) → n < 2 ^ 64 → digits ≡ decimal n
+    → Sent (word ++ (32 ∷ (digits ++ 10 ∷ []))) was now answer → Sent (line word (number_text n)) was now answer
+count_sent was now answer word digits n l e h = subst (λ t. Sent t was now answer) (ap (λ d. word ++ (32 ∷ (d ++ 10 ∷ []))) (e ∙ sym (text_is_decimal n l)) ∙ sym (parts word (number_text n))) h where
+  parts : (word x : Bytes) → line word x ≡ word ++ (32 ∷ (x ++ 10 ∷ []))
+  parts word x = simp append_assoc
+
 -- A body goes out behind its line where its parts do, one after the other.
-pub body_sent : (was now : Option Taken) (answer : Result (Unit {0}) Failed) (word number digits name body : Bytes) → number ≡ decimal (length body) → digits ≡ hex name
+pub body_sent : (was now : Option Taken) (answer : Result (Unit {0}) Failed) (word number digits name body : Bytes) → length body < 2 ^ 64 → number ≡ decimal (length body) → digits ≡ hex name
     → Sent (word ++ (32 ∷ (number ++ (32 ∷ (digits ++ (10 ∷ (body ++ 10 ∷ []))))))) was now answer → Sent (line word (length_text Two (length body) name) ++ body ++ 10 ∷ []) was now answer
-body_sent was now answer word number digits name body e f h = subst (λ t. Sent t was now answer) (rw (e, f) (parts word (decimal (length body)) (hex name) body)) h where
+body_sent was now answer word number digits name body l e f h = subst (λ t. Sent t was now answer) (rw (e ∙ sym (text_is_decimal (length body) l), f) (parts word (number_text (length body)) (hex name) body)) h where
   parts : (word number digits body : Bytes) → word ++ (32 ∷ (number ++ (32 ∷ (digits ++ (10 ∷ (body ++ 10 ∷ [])))))) ≡ line word (number ++ 32 ∷ digits) ++ body ++ 10 ∷ []
   parts word number digits body = simp append_assoc

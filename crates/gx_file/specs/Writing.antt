@@ -2,7 +2,7 @@
 use Rattle.std.specs.Borrow.{Bor}
 use Rattle.std.specs.Prelude.{[], ◌∷◌, ◌++◌, codes, length, List, Option, Result}
 use Rattle.std.specs.List.{flat_map}
-use Rattle.std.specs.Fmt.{decimal}
+use Rattle.gx_model.specs.Texts.Numbers.{number_text}
 use Rattle.gx_model.specs.declared.objects.Kind.{Kind}
 use Rattle.gx_model.specs.declared.store_versions.Version.TheVariants.{Two}
 use Rattle.gx_model.specs.Histories.{Records}
@@ -23,7 +23,7 @@ module _ {W : Type 0} (taken : W → Option Taken) where
   -- the number of the records and the records go out
   abbrev pub SendsRecords : Records → W → W → Result (Unit {0}) Failed → Type 0
   SendsRecords repository old new result =
-      Sent (line (codes "objects") (decimal (length repository.records)) ++ flat_map (stored_record Two) repository.records) (taken old) (taken new) result
+      Sent (line (codes "objects") (number_text (length repository.records)) ++ flat_map (stored_record Two) repository.records) (taken old) (taken new) result
 
   -- a record of this name goes out
   abbrev pub SendsRecord : Name → Kind → Bytes → W → W → Result (Unit {0}) Failed → Type 0
@@ -35,7 +35,7 @@ module _ {W : Type 0} (taken : W → Option Taken) where
 
   -- the number of the refs and the refs go out
   abbrev pub SendsRefs : Records → W → W → Result (Unit {0}) Failed → Type 0
-  SendsRefs repository old new result = Sent (line (codes "refs") (decimal (length repository.refs)) ++ flat_map stored_ref repository.refs) (taken old) (taken new) result
+  SendsRefs repository old new result = Sent (line (codes "refs") (number_text (length repository.refs)) ++ flat_map stored_ref repository.refs) (taken old) (taken new) result
 
   -- texts go out, one after the other
   abbrev pub SendsParts : List (Bor Bytes) → W → W → Result (Unit {0}) Failed → Type 0

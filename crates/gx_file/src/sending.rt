@@ -1,9 +1,9 @@
 //! Writing a store text, to memory or to another sink. Source: this project's own format.
 ghost use Rattle.std.specs.Prelude.{◌≡◌, ◌<◌, ◌^◌, length, IfOk};
-ghost use Rattle.std.specs.Fmt.{decimal};
 ghost use Rattle.gx_model.specs.Objects.{line};
 ghost use Rattle.gx_model.specs.declared.store_versions.Version.TheVariants.{Two};
 ghost use Rattle.gx_model.specs.Stores.StoreText.{store_text, stored_ref};
+ghost use Rattle.gx_model.specs.Texts.Numbers.{number_text};
 ghost use Rattle.gx_file.specs.Reading.{IsReadAs};
 ghost use Rattle.gx_file.specs.Sending.{HaveLengths, Sent};
 ghost use Rattle.gx_file.specs.Writing.{SendsBody, SendsParts, SendsRecord, SendsRecords, SendsRefs};
@@ -125,7 +125,7 @@ fn send_ref<W: Sink>(sink: &mut W, name: &[u8], object: &Name) -> Result<(), Fai
 
 /// Sends a line with a word and a number.
 fn send_count<W: Sink>(sink: &mut W, word: &[u8], count: usize) -> Result<(), Failed>
-    ensures { Sent (line word.now (decimal count)) (W.taken sink.old) (W.taken sink.new) result }
+    ensures { Sent (line word.now (number_text count)) (W.taken sink.old) (W.taken sink.new) result }
 {
     let mut digits = Buffer::new();
     send_all(sink, &[word, b" ", digits.format(count).as_bytes(), b"\n"])

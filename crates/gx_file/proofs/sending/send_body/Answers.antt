@@ -1,8 +1,8 @@
-use Rattle.std.proofs.Common.{◌∙◌}
+use Rattle.std.proofs.Common.{◌∙◌, arith}
 use Rattle.gx_file.proofs.SentTexts.{body_sent}
 use Rattle.gx_file.proofs.sending.send_body.Goals as goal
 
 pub returns-clause-text : goal.returns-clause-text
 returns-clause-text g c =
     body_sent (g.W.Sink.taken c.args.sink.now) (g.W.Sink.taken c.send_all.new.sink) c.send_all.result c.args.word.now c.as_bytes.result.now c.as_slice.result.now c.args.name.now.bytes c.args.body.now
-    (c.as_bytes.ensures.value ∙ c.format.ensures.text) (c.as_slice.ensures ∙ c.hex-digits.ensures.digits) c.send_all.ensures
+    (omega (arith, c.len.ensures)) (c.as_bytes.ensures.value ∙ c.format.ensures.text) (c.as_slice.ensures ∙ c.hex-digits.ensures.digits) c.send_all.ensures

@@ -1,6 +1,6 @@
 use Rattle.std.proofs.Common.{◌++◌, ◌+◌, ◌<◌, ◌^◌, List, codes, drop, length, ap, arith, subst}
 use Rattle.std.specs.List.{flat_map}
-use Rattle.std.specs.Fmt.{decimal}
+use Rattle.gx_model.specs.Texts.Numbers.{number_text}
 use Rattle.std.proofs.lemmas.Result.{err_from_is_err_and}
 use Rattle.gx_model.specs.declared.store_versions.Version.TheVariants.{Two}
 use Rattle.gx_model.specs.Histories.{Record}
@@ -15,12 +15,12 @@ use Rattle.gx_file.proofs.sending.send_records.Goals as goal
 pub returns-in_err-send_count-clause-text : goal.returns-in_err-send_count-clause-text
 returns-in_err-send_count-clause-text g c =
     let p = err_from_is_err_and c.from_residual.result c.from_residual.ensures.1 in
-    let texts = λ (rs : List Record). line (codes "objects") (decimal (length rs)) ++ flat_map (stored_record Two) rs in
+    let texts = λ (rs : List Record). line (codes "objects") (number_text (length rs)) ++ flat_map (stored_record Two) rs in
     let rs = c.store-store.result.now.1 in
     let was = g.W.Sink.taken c.args.sink.now in
     let now = g.W.Sink.taken c.send_count.new.sink in
-    let counted = subst (λ n. FailedWithin was now (line (codes "objects") (decimal n))) c.len-count.ensures.count c.in_err-send_count.ensures in
-    let fails = left_fails (texts rs) was was now (line (codes "objects") (decimal (length rs))) (flat_map (stored_record Two) rs) (all_left (texts rs) was) counted in
+    let counted = subst (λ n. FailedWithin was now (line (codes "objects") (number_text n))) c.len-count.ensures.count c.in_err-send_count.ensures in
+    let fails = left_fails (texts rs) was was now (line (codes "objects") (number_text (length rs))) (flat_map (stored_record Two) rs) (all_left (texts rs) was) counted in
     rw p.1 (subst (λ rs. FailedWithin was now (texts rs)) (ap (λ s. s.1) c.store-store.ensures.held) fails)
 
 pub unreachable-requires : goal.unreachable-requires
@@ -29,7 +29,7 @@ unreachable-requires g c = is_within c.store-store.result.now.1 c.loop-place.pla
 pub returns-in_err-send_record-clause-text : goal.returns-in_err-send_record-clause-text
 returns-in_err-send_record-clause-text g c =
     let p = err_from_is_err_and c.from_residual-in_err-send_record.result c.from_residual-in_err-send_record.ensures.1 in
-    let texts = λ (rs : List Record). line (codes "objects") (decimal (length rs)) ++ flat_map (stored_record Two) rs in
+    let texts = λ (rs : List Record). line (codes "objects") (number_text (length rs)) ++ flat_map (stored_record Two) rs in
     let rs = c.store-store.result.now.1 in
     let place = c.loop-place.place in
     let r : Record = record { name = c.in-Some.name.bytes; kind = c.in-Some.kind; body = c.in-Some.body.now } in
@@ -42,7 +42,7 @@ returns-in_err-send_record-clause-text g c =
 
 pub loop-place-preserved : goal.loop-place-preserved
 loop-place-preserved g c =
-    let texts = λ (rs : List Record). line (codes "objects") (decimal (length rs)) ++ flat_map (stored_record Two) rs in
+    let texts = λ (rs : List Record). line (codes "objects") (number_text (length rs)) ++ flat_map (stored_record Two) rs in
     let rs = c.store-store.result.now.1 in
     let place = c.loop-place.place in
     let r : Record = record { name = c.in-Some.name.bytes; kind = c.in-Some.kind; body = c.in-Some.body.now } in
@@ -57,16 +57,16 @@ loop-place-preserved g c =
 
 pub loop-place-init : goal.loop-place-init
 loop-place-init g c =
-    let texts = λ (rs : List Record). line (codes "objects") (decimal (length rs)) ++ flat_map (stored_record Two) rs in
+    let texts = λ (rs : List Record). line (codes "objects") (number_text (length rs)) ++ flat_map (stored_record Two) rs in
     let rs = c.store-store.result.now.1 in
     let was = g.W.Sink.taken c.args.sink.now in
     let now = g.W.Sink.taken c.send_count.new.sink in
-    let counted = subst (λ n. Took was now (line (codes "objects") (decimal n))) c.len-count.ensures.count c.in_ok-send_count.ensures in
-    (less_left (texts rs) was was now (line (codes "objects") (decimal (length rs))) (flat_map (stored_record Two) rs) (all_left (texts rs) was) counted, λ lengths. lengths)
+    let counted = subst (λ n. Took was now (line (codes "objects") (number_text n))) c.len-count.ensures.count c.in_ok-send_count.ensures in
+    (less_left (texts rs) was was now (line (codes "objects") (number_text (length rs))) (flat_map (stored_record Two) rs) (all_left (texts rs) was) counted, λ lengths. lengths)
 
 pub returns-clause-text : goal.returns-clause-text
 returns-clause-text g c =
-    let texts = λ (rs : List Record). line (codes "objects") (decimal (length rs)) ++ flat_map (stored_record Two) rs in
+    let texts = λ (rs : List Record). line (codes "objects") (number_text (length rs)) ++ flat_map (stored_record Two) rs in
     let rs = c.store-store.result.now.1 in
     let was = g.W.Sink.taken c.args.sink.now in
     let now = g.W.Sink.taken c.loop-place.sink in

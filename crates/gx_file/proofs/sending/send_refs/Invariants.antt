@@ -1,6 +1,6 @@
 use Rattle.std.proofs.Common.{◌++◌, length, codes}
 use Rattle.std.specs.List.{flat_map}
-use Rattle.std.specs.Fmt.{decimal}
+use Rattle.gx_model.specs.Texts.Numbers.{number_text}
 use Rattle.gx_model.specs.Objects.{line}
 use Rattle.gx_model.specs.Stores.StoreText.{stored_ref}
 use Rattle.gx_model.proofs.Texts.SentTexts.{IsLeft}
@@ -10,4 +10,4 @@ abbrev pub invariant-loop-name : goal.invariant-loop-name
 invariant-loop-name g l =
     (goal.iterator-loop-name g).can_next l.name-iterator
     × (goal.iterator-loop-name g).is_finite l.name-iterator
-    × IsLeft (line (codes "refs") (decimal (length l.repo.1.refs)) ++ flat_map stored_ref l.repo.1.refs) (g.W.Sink.taken l.fn.sink) (g.W.Sink.taken l.sink) (flat_map stored_ref l.name-iterator)
+    × IsLeft (line (codes "refs") (number_text (length l.repo.1.refs)) ++ flat_map stored_ref l.repo.1.refs) (g.W.Sink.taken l.fn.sink) (g.W.Sink.taken l.sink) (flat_map stored_ref l.name-iterator)

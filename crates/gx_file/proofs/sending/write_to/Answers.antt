@@ -1,6 +1,6 @@
 use Rattle.std.proofs.Common.{◌++◌, ◌∷◌, [], codes, length}
 use Rattle.std.specs.List.{flat_map}
-use Rattle.std.specs.Fmt.{decimal}
+use Rattle.gx_model.specs.Texts.Numbers.{number_text}
 use Rattle.std.proofs.lemmas.Result.{err_from_is_err_and}
 use Rattle.gx_model.specs.declared.store_versions.Version.TheVariants.{Two}
 use Rattle.gx_model.specs.Objects.{line}
@@ -15,8 +15,8 @@ returns-in_err-send_text-clause-text g c =
     let p = err_from_is_err_and c.from_residual.result c.from_residual.ensures.1 in
     let r = c.args.repo.now.1 in
     let start = line (codes "gxstore") (version_text Two) in
-    let records = line (codes "objects") (decimal (length r.records)) ++ flat_map (stored_record Two) r.records in
-    let refs = line (codes "refs") (decimal (length r.refs)) ++ flat_map stored_ref r.refs in
+    let records = line (codes "objects") (number_text (length r.records)) ++ flat_map (stored_record Two) r.records in
+    let refs = line (codes "refs") (number_text (length r.refs)) ++ flat_map stored_ref r.refs in
     let ends = codes "end" ++ 10 ∷ [] in
     let was = g.W.Sink.taken c.args.sink.now in
     let first = g.W.Sink.taken c.send_text.new.sink in
@@ -27,8 +27,8 @@ returns-in_err-send_records-clause-text g c =
     let p = err_from_is_err_and c.from_residual-in_err-send_records.result c.from_residual-in_err-send_records.ensures.1 in
     let r = c.args.repo.now.1 in
     let start = line (codes "gxstore") (version_text Two) in
-    let records = line (codes "objects") (decimal (length r.records)) ++ flat_map (stored_record Two) r.records in
-    let refs = line (codes "refs") (decimal (length r.refs)) ++ flat_map stored_ref r.refs in
+    let records = line (codes "objects") (number_text (length r.records)) ++ flat_map (stored_record Two) r.records in
+    let refs = line (codes "refs") (number_text (length r.refs)) ++ flat_map stored_ref r.refs in
     let ends = codes "end" ++ 10 ∷ [] in
     let was = g.W.Sink.taken c.args.sink.now in
     let first = g.W.Sink.taken c.send_text.new.sink in
@@ -41,8 +41,8 @@ returns-in_err-send_refs-clause-text g c =
     let p = err_from_is_err_and c.from_residual-in_err-send_refs.result c.from_residual-in_err-send_refs.ensures.1 in
     let r = c.args.repo.now.1 in
     let start = line (codes "gxstore") (version_text Two) in
-    let records = line (codes "objects") (decimal (length r.records)) ++ flat_map (stored_record Two) r.records in
-    let refs = line (codes "refs") (decimal (length r.refs)) ++ flat_map stored_ref r.refs in
+    let records = line (codes "objects") (number_text (length r.records)) ++ flat_map (stored_record Two) r.records in
+    let refs = line (codes "refs") (number_text (length r.refs)) ++ flat_map stored_ref r.refs in
     let ends = codes "end" ++ 10 ∷ [] in
     let was = g.W.Sink.taken c.args.sink.now in
     let first = g.W.Sink.taken c.send_text.new.sink in
@@ -56,8 +56,8 @@ pub returns-clause-text : goal.returns-clause-text
 returns-clause-text g c =
     let r = c.args.repo.now.1 in
     let start = line (codes "gxstore") (version_text Two) in
-    let records = line (codes "objects") (decimal (length r.records)) ++ flat_map (stored_record Two) r.records in
-    let refs = line (codes "refs") (decimal (length r.refs)) ++ flat_map stored_ref r.refs in
+    let records = line (codes "objects") (number_text (length r.records)) ++ flat_map (stored_record Two) r.records in
+    let refs = line (codes "refs") (number_text (length r.refs)) ++ flat_map stored_ref r.refs in
     let ends = codes "end" ++ 10 ∷ [] in
     let was = g.W.Sink.taken c.args.sink.now in
     let first = g.W.Sink.taken c.send_text.new.sink in

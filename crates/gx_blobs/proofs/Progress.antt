@@ -297,7 +297,7 @@ fails_within names front rest x (Some t) is out n w s = let k = rw w at s in (n,
 
 one_case : (names : Kind → Bytes → Bytes) (run next : BlobRun) (front : List Bytes) (x : Bytes) (was is out : Option Taken) (held kept : List Record) (count : ℕ) (kind : BlobsKind) → run ≡ behind front (first_body x next) → count ≡ length front → Took was is (printed names front) → HeldAmong names front held → PrintsOne names held kept is out x (Err kind) → Prints names run was out (Err (record { command = count + 1; kind = kind }))
 one_case names run next front x was is out held kept count kinds.OutOfMemory e n w h o =
-    rw e (front, x ∷ next.bodies, refl, ap (λ k. k + 1) n, inr (inl (refl, subst (λ z. Took was z (printed names front)) (sym o) w)))
+    rw e (front, x ∷ next.bodies, refl, ap (λ k. k + 1) n, inr (inl (refl, subst (λ z. Took was z (printed names front)) (sym o.2) w)))
 one_case names run next front x was is out held kept count kinds.NameHeld e n w h o =
     rw e (front, x ∷ next.bodies, refl, ap (λ k. k + 1) n, inr (inr (inl (refl, Clashes-held names x front held o.0 h, subst (λ z. Took was z (printed names front)) (sym o.1) w))))
 one_case names run next front x was is out held kept count kinds.WriteFailed e n w h o =

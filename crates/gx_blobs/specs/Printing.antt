@@ -8,7 +8,7 @@ use Rattle.gx_model.specs.Texts.{Bytes}
 use Rattle.gx_model.specs.Objects.{hex}
 use Rattle.gx_model.specs.Streams.Items.{Stream}
 use Rattle.gx_model.specs.Histories.{Record}
-use Rattle.gx_model.specs.Records.Growth.{put}
+use Rattle.gx_model.specs.Records.Growth.{put, record_named}
 use Rattle.gx_model.specs.Texts.Sinks.{Sends, Taken, Took}
 use Rattle.gx_stream.specs.Faults.{IsEnd}
 use Rattle.gx_stream.specs.declared.fault.StreamFault.{StreamFault}
@@ -67,10 +67,11 @@ module _ (name : Kind → Bytes → Bytes) where
   abbrev pub blob_record : Bytes → Record
   blob_record x = record { name = name kind.Blob x; kind = kind.Blob; body = x }
 
-  -- One blob is put and printed. Where its name stands for another object, or for want of memory, nothing is printed.
+  -- One blob is put and printed. Where its name stands for another object, or for want of memory, nothing is printed. Memory is wanted only
+  -- for a blob whose name isn't held.
   abbrev pub PrintsOne : List Record → List Record → Option Taken → Option Taken → Bytes → Result (Unit {0}) BlobsKind → Type 0
   PrintsOne old new was is x (Ok _) = (put old (blob_record x) ≡ Some new) × Sends was is (blob_line x) (Ok tt)
-  PrintsOne old new was is x (Err kinds.OutOfMemory) = is ≡ was
+  PrintsOne old new was is x (Err kinds.OutOfMemory) = (record_named old (name kind.Blob x) ≡ None) × (new ≡ old) × (is ≡ was)
   PrintsOne old new was is x (Err kinds.NameHeld) = (put old (blob_record x) ≡ None) × (is ≡ was)
   PrintsOne old new was is x (Err kinds.WriteFailed) = (n : ℕ) × Sends was is (blob_line x) (Err n)
   PrintsOne old new was is x (Err kinds.ReadFailed) = ⊥

@@ -1,10 +1,11 @@
 //! The names of a stream's blobs, one a line.
 
-ghost use Rattle.std.specs.Prelude.{◌≡◌, ◌<◌, ◌≤◌, ◌-◌, ◌^◌, [], Ok, Err};
+ghost use Rattle.std.specs.Prelude.{◌≡◌, ◌<◌, ◌≤◌, ◌-◌, ◌^◌, [], Some, Ok, Err};
 ghost use Rattle.std.specs.Option.{option_map};
 ghost use Rattle.gx_model.specs.Streams.Items.{Finished};
 ghost use Rattle.gx_model.specs.Streams.Lines.{mark_of};
 ghost use Rattle.gx_stream.specs.Reading.{item_of};
+ghost use Rattle.gx_blobs.specs.BlobsFaults.{refusal, word};
 ghost use Rattle.gx_blobs.specs.Naming.{NamesBlobs, NamesItems};
 ghost use Rattle.gx_blobs.specs.Steps.{step_of, stop_at, marked_as, marked_by, named_by, command_line, mark_line, oid_line};
 ghost use Rattle.gx_blobs.specs.Printing.{PrintsOne, shown_step, stop_of, ended_at, name_line, of_stream};
@@ -14,9 +15,9 @@ use gx_store::{Store, StoreFault};
 use gx_stream::{Item, ItemReader, StreamFault};
 use gx_text::{Sink, Source, cut, mark_number, send};
 use std::alloc::Allocator;
+use std::error::Error;
 use std::fmt;
 use std::hash::RandomState;
-use thiserror::Error;
 
 /// Why the names of a stream's blobs end before the stream does. Each prints its word.
 #[derive(Clone, Copy, Debug, PartialEq, Eq)]
@@ -31,9 +32,12 @@ pub enum BlobsKind {
     NotABlob,
 }
 
-impl fmt::Display for BlobsKind {
-    fn fmt<W: fmt::Write>(&self, f: &mut fmt::Formatter<W>) -> fmt::Result {
-        let word = match self {
+impl BlobsKind {
+    /// Its name, as it prints. Takes no memory.
+    pub fn word(self) -> &'static str
+        ensures { result.now ≡ word self }
+    {
+        match self {
             BlobsKind::OutOfMemory => "OutOfMemory",
             BlobsKind::ReadFailed => "ReadFailed",
             BlobsKind::WriteFailed => "WriteFailed",
@@ -42,20 +46,36 @@ impl fmt::Display for BlobsKind {
             BlobsKind::TruncatedData => "TruncatedData",
             BlobsKind::NameHeld => "NameHeld",
             BlobsKind::NotABlob => "NotABlob",
-        };
-        f.write_str(word)
+        }
     }
 }
 
-impl std::error::Error for BlobsKind {}
+impl fmt::Display for BlobsKind {
+    ghost output = { λ kind. Some (word kind) };
+
+    fn fmt<W: fmt::Write>(&self, f: &mut fmt::Formatter<W>) -> fmt::Result {
+        f.write_str(self.word())
+    }
+}
+
+impl Error for BlobsKind {}
 
 /// The number of the command, from 1, at which the names end, and why.
-#[derive(Clone, Copy, Debug, PartialEq, Eq, Error)]
-#[error("command {command}: {kind}")]
+#[derive(Clone, Copy, Debug, PartialEq, Eq)]
 pub struct BlobsFault {
     pub command: u64,
     pub kind: BlobsKind,
 }
+
+impl fmt::Display for BlobsFault {
+    ghost output = { λ fault. Some (refusal fault) };
+
+    fn fmt<W: fmt::Write>(&self, f: &mut fmt::Formatter<W>) -> fmt::Result {
+        write!(f, "command {}: {}", self.command, self.kind)
+    }
+}
+
+impl Error for BlobsFault {}
 
 /// Prints the name of each blob of a stream, with a line feed, as soon as the blob has come, and answers how many.
 ///
@@ -203,7 +223,7 @@ fn mark_line<'a>(line: &[u8]) -> Step<'a>
 }
 
 /// A mark's text: a colon, and a number from 1.
-#[tactic(auto, unfolding(gx_model::specs::Streams::Grammar::mark_of))]
+#[tactic(auto, unfolding(gx_model::specs::Streams::Lines::mark_of))]
 fn mark<'a>(text: &[u8]) -> Step<'a>
     ensures { shown_step result ≡ marked_as (mark_of text.now) }
 {

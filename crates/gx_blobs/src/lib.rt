@@ -2,5 +2,7 @@
 #![tactic(auto)]
 
 mod blob_names;
+mod laws;
 
 pub use blob_names::{BlobsFault, BlobsKind, blobs};
+pub use laws::blobs_are_commands;

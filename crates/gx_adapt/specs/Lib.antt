@@ -1,3 +1,4 @@
+pub mod AdaptFaults
 pub mod Paths
 pub mod Lines
 pub mod Marks

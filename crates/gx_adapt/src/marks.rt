@@ -125,7 +125,7 @@ fn mark_behind(word: &[u8], line: &[u8]) -> Option<u64>
 }
 
 /// A colon and a mark's number.
-#[tactic(auto, unfolding(gx_model::specs::Streams::Grammar::mark_of))]
+#[tactic(auto, unfolding(gx_model::specs::Streams::Lines::mark_of))]
 fn mark_of(text: &[u8]) -> Option<u64>
     ensures { result ≡ result_ok (mark_of text.now) }
 {

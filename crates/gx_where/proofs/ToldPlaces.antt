@@ -1,5 +1,5 @@
 -- What is told of the commands of a text in memory.
-use Rattle.std.proofs.Common.{◌≡◌, ℕ, ◌-◌, ◌≤◌, ◌^◌, false, [], length, drop, Option, Some, Result, Ok, Err, sym, ap, subst, ◌∙◌}
+use Rattle.std.proofs.Common.{◌≡◌, ℕ, ◌-◌, ◌<◌, ◌≤◌, ◌^◌, false, [], length, drop, Option, Some, Result, Ok, Err, sym, ap, subst, ◌∙◌}
 use Rattle.std.specs.Option.{option_map}
 use Rattle.gx_model.specs.Texts.{Bytes}
 use Rattle.gx_model.specs.Streams.Items.{Stream, items_of}
@@ -16,9 +16,9 @@ module _ (text : Bytes) (short : length text ≤ 2 ^ 63 - 1) (coming : Coming) (
   pub told : (n : ℕ) (answer : Result (Option ℕ) BehindFault) → TellsBehind n (option_map items_from (Some coming)) answer → TellsBehind n (Some (items_of text false)) answer
   told n answer h = subst (λ s. TellsBehind n (Some s) answer) (ap items_from whole ∙ items_from_text text short) h
 
-  pub is_why : (command : ℕ) (fault : BehindFault) → TellsBehind (command - 1) (option_map items_from (Some coming)) (Err fault) → IsWhy command text (of_behind fault)
-  is_why command behind.OutOfMemory h = tt
-  is_why command (behind.Command number kind) h = told (command - 1) (Err (behind.Command number kind)) h
+  pub is_why : (command : ℕ) (fault : BehindFault) → 0 < command → TellsBehind (command - 1) (option_map items_from (Some coming)) (Err fault) → IsWhy command text (of_behind fault)
+  is_why command behind.OutOfMemory some h = (some, short)
+  is_why command (behind.Command number kind) some h = told (command - 1) (Err (behind.Command number kind)) h
 
 -- what is left of the text has the items that are left
 pub begins : (text rest : Bytes) (n byte count left : ℕ) → TellsBehind n (Some (items_of text false)) (Ok (Some left)) → count ≡ length (items_of text false).items → items_of rest false ≡ without_first (count - left) (items_of text false) → drop byte text ≡ rest → left_behind n [] (items_of text false) ≡ Ok (Some (items_of (drop byte text) false))

@@ -1,19 +1,18 @@
 //! Why it isn't told where a command begins.
 
-ghost use Rattle.std.specs.Prelude.{◌≡◌};
-ghost use Rattle.gx_where.specs.Faults.{of_behind};
+ghost use Rattle.std.specs.Prelude.{◌≡◌, Some};
+ghost use Rattle.gx_where.specs.Faults.{of_behind, refusal};
 
 use gx_command::{BehindFault, CommandFault};
+use std::fmt;
 use thiserror::Error;
 
 /// Why it isn't told where a command begins.
 #[derive(Clone, Copy, Debug, PartialEq, Eq, Error)]
 pub enum WhereFault {
     /// Commands are counted from 1, or the stream has fewer and not one fewer.
-    #[error("no such command")]
     NoSuchCommand,
     /// A command before it, with this number, meets this fault.
-    #[error("command {command}: {kind}")]
     Command {
         /// The number of the command that is at fault.
         command: u64,
@@ -21,11 +20,22 @@ pub enum WhereFault {
         kind: CommandFault,
     },
     /// The text has more than 2^63 - 1 bytes.
-    #[error("read failed")]
     ReadFailed,
     /// A growth was refused.
-    #[error("out of memory")]
     OutOfMemory,
+}
+
+impl fmt::Display for WhereFault {
+    ghost output = { λ fault. Some (refusal fault) };
+
+    fn fmt<W: fmt::Write>(&self, f: &mut fmt::Formatter<W>) -> fmt::Result {
+        match self {
+            WhereFault::NoSuchCommand => f.write_str("no such command"),
+            WhereFault::Command { command, kind } => write!(f, "command {command}: {kind}"),
+            WhereFault::ReadFailed => f.write_str("read failed"),
+            WhereFault::OutOfMemory => f.write_str("out of memory"),
+        }
+    }
 }
 
 impl From<BehindFault> for WhereFault {

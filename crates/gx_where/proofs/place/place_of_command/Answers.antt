@@ -7,7 +7,7 @@ use Rattle.gx_where.proofs.place.place_of_command.Goals as goal
 pub returns-in_err-left-clause-why : goal.returns-in_err-left-clause-why
 returns-in_err-left-clause-why g c =
     let p = err_from_is_err_and c.from_residual.result c.from_residual.ensures.1 in
-    rw (p.1, p.2) (is_why _ (omega (arith, c.if-text-gt-LIMIT.false)) _ c.new-source.ensures.coming _ _ c.in_err-left.ensures)
+    rw (p.1, p.2) (is_why _ (omega (arith, c.if-text-gt-LIMIT.false)) _ c.new-source.ensures.coming _ _ (omega (arith, c.if-command-eq0.false)) c.in_err-left.ensures)
 
 pub overflow_sub-count_items : goal.overflow_sub-count_items
 overflow_sub-count_items g c =

@@ -5,9 +5,10 @@ use Rattle.gx_model.specs.Texts.{Bytes, lacks}
 use Rattle.gx_text.specs.Devices.{Coming}
 use Rattle.gx_batch.specs.Lines.{byte_of, lines_from, lines_of, single_ended, trimmed}
 use Rattle.gx_batch.specs.Reading.{Reads, TakesPart, shown_most}
+use Rattle.gx_stream.specs.Heard.{heard_upto}
 use Rattle.gx_stream.specs.Pulled.{Passes, behind, shown_coming}
 use Rattle.gx_batch.specs.declared.ending.LineEnding.{LineEnding}
-use Rattle.gx_batch.specs.declared.fault.BatchFault.TheVariants.{ReadFailed}
+use Rattle.gx_batch.specs.declared.fault.BatchFault.TheVariants.{OutOfMemory, ReadFailed}
 use Rattle.gx_stream.specs.declared.pulls.SourceState.{SourceState}
 use Rattle.gx_stream.specs.declared.pulls.SourceState.TheVariants.{Open, Ended, Failed}
 use Rattle.gx_batch.proofs.CutLines.{lacks_both, line_cut, line_first, line_last, no_lines}
@@ -48,7 +49,7 @@ lines_left : (ending : LineEnding) (was left : Coming) (front : Bytes) → was �
 lines_left ending was left front e = ap (lines_from ending) e
 
 -- nothing has no lines
-none_left : (ending : LineEnding) (fails : Bool) → lines_of (byte_of ending) (single_ended ending []) fails ≡ []
+pub none_left : (ending : LineEnding) (fails : Bool) → lines_of (byte_of ending) (single_ended ending []) fails ≡ []
 none_left ending fails = ap (λ bs. lines_of (byte_of ending) bs fails) (ended_none ending) ∙ no_lines (byte_of ending) fails
 
 -- a line and its ending were passed
@@ -63,6 +64,7 @@ reads_line ending line (Some c) now h p =
           ∙ ap (λ bs. lines_of b bs left.fails) (ended_first ending line left.bytes h)
           ∙ line_first b (trimmed ending line) (single_ended ending left.bytes) left.fails (trimmed_lacks ending line h),
       sym (ap (λ (d : Coming). d.fails) p.2),
+      (line ++ b ∷ [], ap (λ (d : Coming). d.bytes) p.2),
     )
 
 -- a text that is tested for bytes
@@ -86,6 +88,7 @@ reads_end ending room coming line (Some c) true h p some none =
       lines_left ending c (record { bytes = []; fails = false }) line whole ∙ ap (λ bs. lines_of (byte_of ending) (single_ended ending bs) false) (append-nil line) ∙ ap (λ bs. lines_of (byte_of ending) bs false) (ended_kept ending line h)
           ∙ line_last (byte_of ending) line (some refl) h ∙ ap (λ ls. line ∷ ls) (sym (ap (lines_from ending) (sym same) ∙ none_left ending false)),
       sym (ap (λ (d : Coming). d.fails) p.2),
+      (line, ap (λ (d : Coming). d.bytes) p.2),
     )
 reads_end ending room coming line (Some c) false h p some none =
     let left = p.0 in
@@ -101,6 +104,28 @@ reads_failure ending room coming line (Some c) h p =
     let same = some_same (record { bytes = []; fails = true }) left p.1 in
     let whole = p.2 ∙ ap (behind line) (sym same) in
     (lines_left ending c (record { bytes = []; fails = true }) line whole ∙ ap (λ bs. lines_of (byte_of ending) (single_ended ending bs) true) (append-nil line) ∙ ap (λ bs. lines_of (byte_of ending) bs true) (ended_kept ending line h) ∙ line_cut (byte_of ending) line h, ap (λ (d : Coming). d.fails) whole)
+
+-- where bytes that came are left, there were some
+pub some_bytes : (state : SourceState) (room : ℕ) (coming was : Option Coming) (line rest : Bytes) (c : Coming) → was ≡ Some c → 0 < length rest → Passes line was (shown_coming state room coming rest) → 0 < length c.bytes
+some_bytes state room coming None line rest c e some p = absurd cc
+some_bytes Open room None (Some d) line rest c e some p = absurd cc p.1
+some_bytes Open room (Some x) (Some d) line rest c e some p =
+    let whole : c.bytes ≡ line ++ p.0.bytes = ap (λ (y : Coming). y.bytes) (sym (some_same d c e) ∙ p.2) in
+    let left : p.0.bytes ≡ rest ++ (heard_upto room x).bytes = ap (λ (y : Coming). y.bytes) (sym (some_same (behind rest (heard_upto room x)) p.0 p.1)) in
+    omega (arith, some, ap length whole, ap length left, length-append line p.0.bytes, length-append rest (heard_upto room x).bytes)
+some_bytes Ended room coming (Some d) line rest c e some p =
+    let whole : c.bytes ≡ line ++ p.0.bytes = ap (λ (y : Coming). y.bytes) (sym (some_same d c e) ∙ p.2) in
+    let left : p.0.bytes ≡ rest = ap (λ (y : Coming). y.bytes) (sym (some_same (record { bytes = rest; fails = false }) p.0 p.1)) in
+    omega (arith, some, ap length whole, ap length left, length-append line p.0.bytes)
+some_bytes Failed room coming (Some d) line rest c e some p =
+    let whole : c.bytes ≡ line ++ p.0.bytes = ap (λ (y : Coming). y.bytes) (sym (some_same d c e) ∙ p.2) in
+    let left : p.0.bytes ≡ rest = ap (λ (y : Coming). y.bytes) (sym (some_same (record { bytes = rest; fails = true }) p.0 p.1)) in
+    omega (arith, some, ap length whole, ap length left, length-append line p.0.bytes)
+
+-- there is no room for them
+pub reads_no_more : (ending : LineEnding) (state : SourceState) (room : ℕ) (coming was now : Option Coming) (line held rest : Bytes) → 0 < length rest → Passes line was (shown_coming state room coming rest) → Reads ending was now held (Err OutOfMemory)
+reads_no_more ending state room coming None now line held rest some p = tt
+reads_no_more ending state room coming (Some c) now line held rest some p = some_bytes state room coming (Some c) line rest c refl some p
 
 -- ---- what one part changes
 

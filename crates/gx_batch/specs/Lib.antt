@@ -1,3 +1,4 @@
+pub mod BatchFaults
 pub mod Lines
 pub mod Formats
 pub mod Answers

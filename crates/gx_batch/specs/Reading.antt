@@ -41,13 +41,17 @@ abbrev pub TakesPart : ℕ → Bytes → Bytes → Bytes → Bytes → Bool → 
 TakesPart e rest left line now true = (front : Bytes) × (lacks e front ≡ true) × (rest ≡ front ++ e ∷ left) × (now ≡ line ++ front)
 TakesPart e rest left line now false = (lacks e rest ≡ true) × (left ≡ []) × (now ≡ line ++ rest)
 
+-- some first bytes are gone
+abbrev pub IsPast : Coming → Coming → Type 0
+IsPast was left = (gone : Bytes) × (was.bytes ≡ gone ++ left.bytes)
+
 -- Where the lines to come are known, the first is answered, and the others are left. That there is none is answered only where none
--- is left, with the end or the failure that follows.
+-- is left, with the end or the failure that follows. Memory is wanted only for bytes that are to come.
 abbrev pub ReadsFrom : LineEnding → Coming → Option Coming → Bytes → Result Bool BatchFault → Type 0
-ReadsFrom ending was now line (Ok true) = (left : Coming) × (now ≡ Some left) × (lines_from ending was ≡ line ∷ lines_from ending left) × (left.fails ≡ was.fails)
+ReadsFrom ending was now line (Ok true) = (left : Coming) × (now ≡ Some left) × (lines_from ending was ≡ line ∷ lines_from ending left) × (left.fails ≡ was.fails) × IsPast was left
 ReadsFrom ending was now line (Ok false) = (lines_from ending was ≡ []) × (was.fails ≡ false)
 ReadsFrom ending was now line (Err ReadFailed) = (lines_from ending was ≡ []) × (was.fails ≡ true)
-ReadsFrom ending was now line (Err OutOfMemory) = ⊤
+ReadsFrom ending was now line (Err OutOfMemory) = 0 < length was.bytes
 ReadsFrom ending was now line (Err WriteFailed) = ⊥
 
 abbrev pub Reads : LineEnding → Option Coming → Option Coming → Bytes → Result Bool BatchFault → Type 0

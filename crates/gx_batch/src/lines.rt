@@ -1,11 +1,12 @@
 //! The lines that a source gives.
 
-ghost use Rattle.std.specs.Prelude.{◌≡◌, ◌<◌, ◌≤◌, ◌+◌, [], length, slice_range, IfOk};
+ghost use Rattle.std.specs.Prelude.{◌≡◌, ◌<◌, ◌≤◌, ◌+◌, [], length, slice_range, IfOk, IsErrOf, OnErr};
 ghost use Rattle.std.specs.Option.{option_map};
 ghost use Rattle.std.specs.Io.BufRead.{strip_last};
 ghost use Rattle.gx_batch.specs.Lines.{trimmed};
 ghost use Rattle.gx_batch.specs.Batches.{GivesLines};
 ghost use Rattle.gx_batch.specs.Reading.{Falls, IsSound, Reads, TakesPart, most, rest_of, shown_from};
+ghost use Rattle.gx_batch.specs.declared.fault.BatchFault.TheVariants.{OutOfMemory};
 ghost use Rattle.gx_stream.specs.Heard.{heard};
 ghost use Rattle.gx_stream.specs.Pulled.{Passes, pulls_left};
 ghost use Rattle.gx_stream.specs.declared.pulls.SourceState.TheVariants.{Open};
@@ -49,6 +50,8 @@ impl<R: Source + Drop, A: Allocator + Copy> LineReader<R, A> {
     /// Reads the next line, without its ending. Answers whether there is one: what stands behind the last ending is one where
     /// the source ends, unless it is empty. After `false` and after a fault it is over.
     ///
+    /// `ReadFailed`: the source failed. `OutOfMemory`: what came has no room in the line; a failed read is never told so.
+    ///
     /// Cost: the line's bytes. Memory: the longest line.
     pub(crate) fn next(
         &mut self,
@@ -60,6 +63,7 @@ impl<R: Source + Drop, A: Allocator + Copy> LineReader<R, A> {
         ensures reads { Reads ending
             (shown_from R.coming self.old) (shown_from R.coming self.new) line.new.items result }
         ensures falls { Falls (most self.old) (most self.new) result }
+        ensures memory { IsErrOf result OutOfMemory → 0 < length (rest_of self.new) }
     {
         let byte = ending.byte();
         line.clear();
@@ -115,7 +119,7 @@ pub fn read_lines<R: Source + Drop, A: Allocator + Copy>(
 }
 
 /// Appends what stands before the next such byte, and moves behind it, or appends all that is left. Answers whether there is
-/// one.
+/// one. A growth is refused only where something is left, and nothing is passed then.
 fn take_part<A: Allocator>(
     byte: u8,
     piece: &[u8],
@@ -127,6 +131,8 @@ fn take_part<A: Allocator>(
     ensures within { at.new ≤ end }
     ensures takes { IfOk result (TakesPart byte
         (slice_range piece.now at.old end) (slice_range piece.now at.new end) line.old.items line.new.items) }
+    ensures refused { OnErr result (0 < length (slice_range piece.now at.old end)) }
+    ensures stays { OnErr result (at.new ≡ at.old) }
 {
     let rest = &piece[*at..end];
     match cut(rest, byte) {

@@ -1,7 +1,8 @@
-use Rattle.std.proofs.Common.{◌≡◌, true, false, Ok, sym, subst, arith, length, slice_range}
+use Rattle.std.proofs.Common.{◌≡◌, ◌<◌, true, false, Ok, sym, subst, arith, length, slice_range}
+use Rattle.std.proofs.lemmas.Result.{err_from_is_err_and}
 use Rattle.gx_batch.specs.Reading.{Reads, TakesPart, rest_of, shown_reader}
 use Rattle.gx_stream.specs.Pulled.{shown_coming}
-use Rattle.gx_batch.proofs.PassedBytes.{all_passed, ends_so, fails_so, has_none, has_some, passes_still, same_most, still_lacks, whole_line}
+use Rattle.gx_batch.proofs.PassedBytes.{all_passed, ends_so, fails_so, has_none, has_some, passes_still, reads_no_more, same_most, still_lacks, whole_line}
 use Rattle.gx_batch.proofs.lines.LineReader.next.Goals as goal
 
 pub returns-then-branch-clause-reads : goal.returns-then-branch-clause-reads
@@ -63,3 +64,11 @@ returns-in-Failed-clause-reads g c =
     let given = subst (λ t. TakesPart byte (slice_range t i.at i.end) (slice_range t c.take_part.new.at i.end) line now c.in_ok-take_part.field-0) c.deref.ensures.value c.in_ok-take_part.ensures.takes in
     let part = subst (λ b. TakesPart b (rest_of i) left line now false) c.byte-byte.ensures (subst (TakesPart byte (rest_of i) left line now) c.if-branch.false given) in
     fails_so c.args.ending was coming i.room (rest_of i) left line now i.state c.in-Failed.is c.loop-line.invariant.line c.loop-line.invariant.passes part
+
+pub returns-in_err-take_part-clause-reads : goal.returns-in_err-take_part-clause-reads
+returns-in_err-take_part-clause-reads g c =
+    let old = c.args.self.now in
+    let i = c.loop-line.self in
+    let p = err_from_is_err_and c.from_residual.result c.from_residual.ensures.1 in
+    let some = subst (λ t. 0 < length (slice_range t i.at i.end)) c.deref.ensures.value c.in_err-take_part.ensures.refused in
+    rw (p.1, p.2) (reads_no_more c.args.ending i.state i.room (g.R.Source.coming i.source) (shown_reader old (g.R.Source.coming old.source)) _ c.loop-line.line.items _ (rest_of i) some c.loop-line.invariant.passes)

@@ -4,7 +4,6 @@ use Rattle.std.specs.List.{list_all, list_any}
 use Rattle.std.specs.Option.{option_map}
 use Rattle.gx_model.specs.declared.features.Features.{Features}
 use Rattle.gx_model.specs.Streams.Items.{Stream}
-use Rattle.gx_model.specs.Streams.Commands.{Commands}
 use Rattle.gx_model.specs.Streams.Grammar.{asked, asks_done, commands_asked, is_option}
 use Rattle.gx_text.specs.Devices.{Coming}
 use Rattle.gx_stream.specs.Heard.{items_from}
@@ -16,7 +15,7 @@ use Rattle.gx_model.proofs.Streams.AskedFeatures.{same_before}
 abbrev both : Bool → Bool → Features
 both done force = record { done = done; force = force }
 
-abbrev options_of : Features → Options
+abbrev pub options_of : Features → Options
 options_of f = record { are_all = true; needs_done = f.done }
 
 all_options : (done force : Bool) → list_all is_option (before_of (options_of (both done force))) ≡ list_all is_option (asked (both done force))
@@ -31,7 +30,7 @@ asks_same true false = refl
 asks_same false true = refl
 asks_same false false = refl
 
-after_asked : (f : Features) (s : Stream) → commands_after (before_of (options_of f)) s ≡ commands_asked f s
+pub after_asked : (f : Features) (s : Stream) → commands_after (before_of (options_of f)) s ≡ commands_asked f s
 after_asked f s = same_before _ (before_of (options_of f)) (asked f) s.items s.end (all_options f.done f.force) (asks_same f.done f.force)
 
 -- they are those of the source, behind the features that are asked for

@@ -1,6 +1,6 @@
 -- The commands of a stream are those that were passed, and then those of what is left.
 use Rattle.std.proofs.Common.{◌≡◌, ℕ, zero, suc, Bool, true, false, cond, List, [], ◌∷◌, ◌++◌, length, Option, Some, None, Ok, Err, refl, sym, ap, subst, ◌∙◌, append_assoc}
-use Rattle.std.specs.Prelude.{◌||◌, if◌then◌else◌}
+use Rattle.std.specs.Prelude.{if◌then◌else◌}
 use Rattle.std.specs.List.{list_all, list_any}
 use Rattle.std.proofs.lemmas.List.{append-nil}
 use Rattle.gx_model.specs.declared.faults.Fault.{Fault}
@@ -10,7 +10,7 @@ use Rattle.gx_model.specs.Streams.Items.{Item, Line, Data, End, Stream}
 use Rattle.gx_model.specs.Streams.Commands.{Command, Commands}
 use Rattle.gx_model.specs.Streams.Grammar.{asks_done, is_done, is_option, stops, with_command}
 use Rattle.gx_model.specs.Streams.Lines.{Read}
-use Rattle.gx_command.specs.Behind.{AreBehind, commands_behind, from_next, left_behind, next_behind, or_missing_done, past_empty, then_come}
+use Rattle.gx_command.specs.Behind.{AreBehind, commands_behind, from_next, left_behind, or_missing_done, past_empty, then_come}
 use Rattle.gx_command.specs.Heads.{first, first_in}
 use Rattle.gx_command.specs.Reading.{commands_after}
 use Rattle.gx_command.proofs.PassedCommands.{left_by, left_next, left_over, left_zero}

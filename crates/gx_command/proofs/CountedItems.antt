@@ -1,7 +1,6 @@
 -- Items that are counted past the empty lines before them.
 use Rattle.std.proofs.Common.{◌≡◌, ℕ, zero, suc, ◌+◌, List, [], length, Option, Some, None, Result, Ok, ap, arith, refl, subst, inl, inr}
-use Rattle.gx_model.specs.Streams.Items.{Finished, Item, Stream}
-use Rattle.gx_stream.specs.Faults.{ended}
+use Rattle.gx_model.specs.Streams.Items.{Item, Stream}
 use Rattle.gx_stream.specs.declared.item.Item as stream
 use Rattle.gx_command.specs.Ahead.{Takes}
 use Rattle.gx_command.specs.Behind.{CountsLeft, past_empty}

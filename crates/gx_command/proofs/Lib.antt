@@ -16,3 +16,6 @@ pub mod PassedCommands
 pub mod CountedItems
 pub mod LastItems
 pub mod BehindCommands
+pub mod Explained
+pub mod ExplainedItems
+pub mod ExplainedCommands

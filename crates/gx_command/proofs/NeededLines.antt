@@ -11,11 +11,11 @@ use Rattle.gx_command.specs.declared.fault.CommandFault.{CommandFault}
 use Rattle.gx_command.specs.declared.fault.CommandFault.TheVariants.{BadLine}
 
 -- what a line gives, or BadLine where it is missing
-abbrev or_bad_line : {Y : Type 0} → Option Y × Stream → Read Y
+abbrev pub or_bad_line : {Y : Type 0} → Option Y × Stream → Read Y
 or_bad_line (None, t) = Err model.BadLine
 or_bad_line (Some y, t) = Ok (y, t)
 
-needed_is : {Y : Type 0} (reading : Bytes → Given Y) (r : Read (Option Bytes)) → (r >>= λ r. read_needed reading r.0 >>= λ x. Ok (x, r.1)) ≡ ((r >>= λ r. read_some reading r.0 >>= λ x. Ok (x, r.1)) >>= or_bad_line)
+pub needed_is : {Y : Type 0} (reading : Bytes → Given Y) (r : Read (Option Bytes)) → (r >>= λ r. read_needed reading r.0 >>= λ x. Ok (x, r.1)) ≡ ((r >>= λ r. read_some reading r.0 >>= λ x. Ok (x, r.1)) >>= or_bad_line)
 needed_is reading (Err f) = refl
 needed_is reading (Ok (None, t)) = refl
 needed_is {Y} reading (Ok (Some b, t)) = by (reading b) where

@@ -43,17 +43,17 @@ needs_is o = by o.are_all o.needs_done where
   by false true = refl
   by false false = refl
 
-abbrev options_after : Options → model.Command → Options
+abbrev pub options_after : Options → model.Command → Options
 options_after o c = record { are_all = o.are_all && is_option c; needs_done = o.needs_done || asks_done c }
 
-later_is : (o : Options) (c : model.Command) (t : Stream) → commands_after (before_of o ++ c ∷ []) t ≡ commands_after (before_of (options_after o c)) t
+pub later_is : (o : Options) (c : model.Command) (t : Stream) → commands_after (before_of o ++ c ∷ []) t ≡ commands_after (before_of (options_after o c)) t
 later_is o c t = same_before (length t.items) (before_of o ++ c ∷ []) (before_of (options_after o c)) t.items t.end
     (all_more is_option (before_of o) c ∙ ap (λ a. a && is_option c) (early_is o) ∙ sym (early_is (options_after o c)))
     (any_more asks_done (before_of o) c ∙ ap (λ a. a || asks_done c) (needs_is o) ∙ sym (needs_is (options_after o c)))
 
 -- ---- what is still to come, by the first command
 
-led_is : (o : Options) (s : Stream) (r : Read (Option model.Command)) → first o.are_all s ≡ r → commands_after (before_of o) s ≡ led (before_of o) r
+pub led_is : (o : Options) (s : Stream) (r : Read (Option model.Command)) → first o.are_all s ≡ r → commands_after (before_of o) s ≡ led (before_of o) r
 led_is o s r e = commands_unrolled (before_of o) s ∙ ap (λ a. led (before_of o) (first a s)) (early_is o) ∙ ap (led (before_of o)) e
 
 abbrev given : Option model.Command × Stream → Read (Option model.Command)
@@ -62,7 +62,7 @@ given x = Ok x
 abbrev refused : Fault → Read (Option model.Command)
 refused f = Err f
 
-after_some : (o : Options) (r : Read (Option model.Command)) (c : model.Command) (t : Stream) → (r >>= or_missing o) ≡ Ok (Some c, t) → r ≡ Ok (Some c, t)
+pub after_some : (o : Options) (r : Read (Option model.Command)) (c : model.Command) (t : Stream) → (r >>= or_missing o) ≡ Ok (Some c, t) → r ≡ Ok (Some c, t)
 after_some o (Err f) c t e = absurd cc
 after_some o (Ok (Some d, u)) c t e = e
 after_some o (Ok (None, u)) c t e = by o.needs_done e where
@@ -74,7 +74,7 @@ after_some o (Ok (None, u)) c t e = by o.needs_done e where
 missing : (o : Options) → fault_at_end (before_of o) Finished ≡ (if o.needs_done then Some faults.MissingDone else None)
 missing o = ap (λ b. if b then Some faults.MissingDone else None) (needs_is o)
 
-after_none : (o : Options) (r : Read (Option model.Command)) (t : Stream) → (r >>= or_missing o) ≡ Ok (None, t) → led (before_of o) r ≡ stops None
+pub after_none : (o : Options) (r : Read (Option model.Command)) (t : Stream) → (r >>= or_missing o) ≡ Ok (None, t) → led (before_of o) r ≡ stops None
 after_none o (Err f) t e = absurd cc
 after_none o (Ok (Some d, u)) t e = absurd (some_is_none d (ap (λ (q : Option model.Command × Stream). q.0) (both (Some d, u) (None, t) e))) where
   both : (x y : Option model.Command × Stream) → given x ≡ given y → x ≡ y
@@ -87,7 +87,7 @@ after_none o (Ok (None, u)) t e = ap stops (missing o) ∙ by o.needs_done e whe
   by true e = absurd cc
   by false e = refl
 
-after_fault : (o : Options) (r : Read (Option model.Command)) (f : Fault) → (r >>= or_missing o) ≡ Err f → led (before_of o) r ≡ stops (Some f)
+pub after_fault : (o : Options) (r : Read (Option model.Command)) (f : Fault) → (r >>= or_missing o) ≡ Err f → led (before_of o) r ≡ stops (Some f)
 after_fault o (Err g) f e = let same : g ≡ f = cc in ap (λ h. stops (Some h)) same
 after_fault o (Ok (Some d, u)) f e = absurd cc
 after_fault o (Ok (None, u)) f e = ap stops (missing o) ∙ by o.needs_done e where

@@ -1,11 +1,11 @@
 -- The first command of items, and the others after it.
-use Rattle.std.proofs.Common.{◌≡◌, ℕ, zero, suc, ◌≤◌, Bool, List, [], ◌∷◌, ◌++◌, length, Option, Some, None, Ok, Err, refl, sym, ap, subst, ◌∙◌, arith}
-use Rattle.std.specs.Prelude.{◌&&◌, ◌||◌, if◌then◌else◌}
-use Rattle.std.specs.List.{list_any, list_all}
+use Rattle.std.proofs.Common.{◌≡◌, ℕ, zero, suc, ◌≤◌, Bool, List, [], ◌∷◌, ◌++◌, length, Option, Some, None, Ok, Err, refl, ap, subst, arith}
+use Rattle.std.specs.Prelude.{if◌then◌else◌}
+use Rattle.std.specs.List.{list_all}
 use Rattle.gx_model.specs.Texts.{Bytes}
 use Rattle.gx_model.specs.Streams.Items.{Item, Line, Data, End, Finished, Failed, Stream}
 use Rattle.gx_model.specs.Streams.Commands.{Command, Commands}
-use Rattle.gx_model.specs.Streams.Grammar.{command_at, commands_within, is_option, asks_done, is_done, fault_at_end, stops, with_command}
+use Rattle.gx_model.specs.Streams.Grammar.{command_at, commands_within, is_option, is_done, fault_at_end, stops, with_command}
 use Rattle.gx_model.specs.Streams.Lines.{Read, at_end, after, words_of}
 use Rattle.gx_command.specs.Heads.{first_in, first}
 use Rattle.gx_command.specs.Reading.{commands_after}

@@ -22,25 +22,25 @@ use Rattle.gx_command.specs.declared.change_lines.ChangeLine.{ChangeLine}
 use Rattle.gx_command.specs.declared.fault.CommandFault.{CommandFault}
 use Rattle.gx_command.specs.declared.fault.CommandFault.TheVariants as faults
 
-change_none : (s : Stream) → s ≡ ended Finished → next_change s ≡ Ok (None, s)
+pub change_none : (s : Stream) → s ≡ ended Finished → next_change s ≡ Ok (None, s)
 unfolding next_change_in
 change_none s end = rw end refl
 
-change_failed : (s : Stream) (f : CommandFault) → s ≡ ended (Failed (fault_of f)) → Fails f (next_change s)
+pub change_failed : (s : Stream) (f : CommandFault) → s ≡ ended (Failed (fault_of f)) → Fails f (next_change s)
 unfolding next_change_in
 change_failed s f end = inr (rw end refl)
 
-change_not : (A : Type 0) (i : Item) (s left : Stream) → s ≡ then_comes (item_of i) left → ChangeIn {A = A} (item_of i) left (Ok None) → next_change s ≡ Ok (None, s)
+pub change_not : (A : Type 0) (i : Item) (s left : Stream) → s ≡ then_comes (item_of i) left → ChangeIn {A = A} (item_of i) left (Ok None) → next_change s ≡ Ok (None, s)
 unfolding next_change_in
 change_not A (items.Data b) s left first none = rw first refl
 change_not A (items.Line l) s left first none = rw (first, none) refl
 
-change_begun : {A : Type 0} (i : Item) (s left : Stream) (line : ChangeLine A) → s ≡ then_comes (item_of i) left → ChangeIn (item_of i) left (Ok (Some line)) → next_change s ≡ (completed line left >>= λ x. Ok (Some x.0, x.1))
+pub change_begun : {A : Type 0} (i : Item) (s left : Stream) (line : ChangeLine A) → s ≡ then_comes (item_of i) left → ChangeIn (item_of i) left (Ok (Some line)) → next_change s ≡ (completed line left >>= λ x. Ok (Some x.0, x.1))
 unfolding next_change_in
 change_begun (items.Data b) s left line first some = absurd cc
 change_begun (items.Line l) s left line first some = rw (first, some) refl
 
-change_refused : (A : Type 0) (i : Item) (s left : Stream) (f : CommandFault) → s ≡ then_comes (item_of i) left → ChangeIn {A = A} (item_of i) left (Err f) → Fails f (next_change s)
+pub change_refused : (A : Type 0) (i : Item) (s left : Stream) (f : CommandFault) → s ≡ then_comes (item_of i) left → ChangeIn {A = A} (item_of i) left (Err f) → Fails f (next_change s)
 unfolding next_change_in
 change_refused A (items.Data b) s left f first fault = absurd cc
 change_refused A (items.Line l) s left f first (given, is, fault) = by f fault where

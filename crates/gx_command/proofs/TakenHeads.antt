@@ -21,23 +21,23 @@ use Rattle.gx_command.specs.declared.heads.Start.TheVariants as start
 use Rattle.gx_command.specs.declared.fault.CommandFault.{CommandFault}
 use Rattle.gx_command.specs.declared.fault.CommandFault.TheVariants as faults
 
-first_none : (early : Bool) (s : Stream) → s ≡ ended Finished → first early s ≡ Ok (None, s)
+pub first_none : (early : Bool) (s : Stream) → s ≡ ended Finished → first early s ≡ Ok (None, s)
 unfolding first_in
 first_none early s end = rw end refl
 
-first_failed : (early : Bool) (s : Stream) (f : CommandFault) → s ≡ ended (Failed (fault_of f)) → Fails f (first early s)
+pub first_failed : (early : Bool) (s : Stream) (f : CommandFault) → s ≡ ended (Failed (fault_of f)) → Fails f (first early s)
 unfolding first_in
 first_failed early s f end = inr (rw end refl)
 
 -- each item is taken
-never_passed : (A : Type 0) (early : Bool) (i : Item) (s : Stream) → BeginsIn {A = A} early (item_of i) s (Ok None) → ⊥
+pub never_passed : (A : Type 0) (early : Bool) (i : Item) (s : Stream) → BeginsIn {A = A} early (item_of i) s (Ok None) → ⊥
 never_passed A early (items.Data b) s h = absurd cc
 never_passed A early (items.Line l) s h = by l.now h where
   by : (bs : Bytes) → BeginsIn {A = A} early (model.Line bs) s (Ok None) → ⊥
   by [] h = absurd cc
   by (b ∷ bs) h = h
 
-first_started : {A : Type 0} (early : Bool) (i : Item) (s left : Stream) (line : Start A) → s ≡ then_comes (item_of i) left → BeginsIn early (item_of i) left (Ok (Some line)) → first early s ≡ started early line left
+pub first_started : {A : Type 0} (early : Bool) (i : Item) (s left : Stream) (line : Start A) → s ≡ then_comes (item_of i) left → BeginsIn early (item_of i) left (Ok (Some line)) → first early s ≡ started early line left
 unfolding first_in
 first_started early (items.Data b) s left line begins h = absurd cc
 first_started {A} early (items.Line l) s left line begins h = by l.now begins h where
@@ -51,7 +51,7 @@ first_started {A} early (items.Line l) s left line begins h = by l.now begins h 
     begun_at start.Empty e = absurd e
     begun_at (start.Head made) e = ap there e
 
-first_refused : (A : Type 0) (early : Bool) (i : Item) (s left : Stream) (f : CommandFault) → s ≡ then_comes (item_of i) left → BeginsIn {A = A} early (item_of i) left (Err f) → Fails f (first early s)
+pub first_refused : (A : Type 0) (early : Bool) (i : Item) (s left : Stream) (f : CommandFault) → s ≡ then_comes (item_of i) left → BeginsIn {A = A} early (item_of i) left (Err f) → Fails f (first early s)
 unfolding first_in
 first_refused A early (items.Data b) s left f is h = let same : faults.UnknownCommand ≡ f = cc in inr (rw is (ap (λ f. Err (fault_of f)) same))
 first_refused A early (items.Line l) s left f is h = by l.now is h where

@@ -1,39 +1,39 @@
 -- The item that comes next as the line that comes next.
 use Rattle.std.proofs.Common.{◌≡◌, Option, Some, None, Result, Ok, Err, refl, inl, inr, arith}
 use Rattle.std.specs.Option.{option_map}
-use Rattle.gx_model.specs.Faults.{Given, Gives, IsFaultOf, ◌>>=◌}
+use Rattle.gx_model.specs.Faults.{Given, Gives, IsFaultOf}
 use Rattle.std.proofs.lemmas.Grind.{common_steps}
 use Rattle.std.specs.Borrow.{Bor}
 use Rattle.gx_model.specs.Texts.{Bytes}
 use Rattle.gx_model.specs.Streams.Items.{Stream, then_comes, Finished, Failed}
-use Rattle.gx_model.specs.Streams.Lines.{optional, read_some, rest_line, rest_line_in}
+use Rattle.gx_model.specs.Streams.Lines.{optional, rest_line, rest_line_in}
 use Rattle.gx_stream.specs.Faults.{ended}
 use Rattle.gx_stream.specs.Reading.{item_of}
 use Rattle.gx_stream.specs.declared.item.Item.{Item}
 use Rattle.gx_command.specs.CommandFaults.{fault_of}
 use Rattle.gx_command.specs.Lines.{rest_in}
-use Rattle.gx_command.specs.Ahead.{AnswersRest, Fails, Reads, ReadRest, Takes, TakesLine, TakesLineFrom}
+use Rattle.gx_command.specs.Ahead.{AnswersRest, Fails, Reads, Takes, TakesLine, TakesLineFrom}
 use Rattle.gx_command.specs.Heads.{first}
 use Rattle.gx_command.specs.declared.fault.CommandFault.{CommandFault}
 use Rattle.gx_command.specs.declared.fault.CommandFault.TheVariants as faults
 
-line_of_none : (word : Bytes) (i : Item) (s left : Stream) → s ≡ then_comes (item_of i) left → rest_in word (item_of i) ≡ Ok None → rest_line word s ≡ Ok (None, s)
+pub line_of_none : (word : Bytes) (i : Item) (s left : Stream) → s ≡ then_comes (item_of i) left → rest_in word (item_of i) ≡ Ok None → rest_line word s ≡ Ok (None, s)
 unfolding rest_line_in
 line_of_none word i s left first none = grind (arith, common_steps)
 
-line_of_some : (word : Bytes) (i : Item) (s left : Stream) (rest : Bytes) → s ≡ then_comes (item_of i) left → rest_in word (item_of i) ≡ Ok (Some rest) → rest_line word s ≡ Ok (Some rest, left)
+pub line_of_some : (word : Bytes) (i : Item) (s left : Stream) (rest : Bytes) → s ≡ then_comes (item_of i) left → rest_in word (item_of i) ≡ Ok (Some rest) → rest_line word s ≡ Ok (Some rest, left)
 unfolding rest_line_in
 line_of_some word i s left rest first some = grind (arith, common_steps)
 
-line_of_fault : (word : Bytes) (i : Item) (s left : Stream) (f : CommandFault) → s ≡ then_comes (item_of i) left → Fails f (rest_in word (item_of i)) → Fails f (rest_line word s)
+pub line_of_fault : (word : Bytes) (i : Item) (s left : Stream) (f : CommandFault) → s ≡ then_comes (item_of i) left → Fails f (rest_in word (item_of i)) → Fails f (rest_line word s)
 unfolding rest_line_in
 line_of_fault word i s left f first fault = grind (arith, common_steps)
 
-no_line : (word : Bytes) (s : Stream) → s ≡ ended Finished → rest_line word s ≡ Ok (None, s)
+pub no_line : (word : Bytes) (s : Stream) → s ≡ ended Finished → rest_line word s ≡ Ok (None, s)
 unfolding rest_line_in
 no_line word s end = rw end refl
 
-failed_line : (word : Bytes) (s : Stream) (f : CommandFault) → s ≡ ended (Failed (fault_of f)) → Fails f (rest_line word s)
+pub failed_line : (word : Bytes) (s : Stream) (f : CommandFault) → s ≡ ended (Failed (fault_of f)) → Fails f (rest_line word s)
 unfolding rest_line_in
 failed_line word s f end = grind (arith, common_steps)
 
@@ -54,10 +54,10 @@ takes_line post answers word (Some s) new (Err f) says (inr (inr (left, n))) = b
 -- ---- what is read of the rest of a line
 
 module _ {X Y : Type 0} (view : X → Y) (reading : Bytes → Given Y) (answers : Bor Bytes → Result X CommandFault → Type 0) (word : Bytes) where
-  abbrev Says : Type 0
+  abbrev pub Says : Type 0
   Says = (rest : Bor Bytes) (q : Result X CommandFault) → answers rest q → Gives fault_of view q (reading rest.now)
 
-  line_fails : (s left : Stream) (f : CommandFault) (rest : Bor Bytes) → rest_line word s ≡ Ok (Some rest.now, left) → IsFaultOf (fault_of f) (reading rest.now) → Fails f (optional word reading s)
+  pub line_fails : (s left : Stream) (f : CommandFault) (rest : Bor Bytes) → rest_line word s ≡ Ok (Some rest.now, left) → IsFaultOf (fault_of f) (reading rest.now) → Fails f (optional word reading s)
   line_fails s left faults.OutOfMemory rest line h = inl refl
   line_fails s left f rest line h = inr (rw (line, h) refl)
 

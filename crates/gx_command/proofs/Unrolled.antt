@@ -105,7 +105,7 @@ pub collects_none : {Y : Type 0} (all : Stream → Read (List Y)) (old : Option 
 collects_none all None = tt
 collects_none all (Some s) = (s, refl, behind_none (all s))
 
-behind_one : {Y : Type 0} (front : List Y) (y : Y) (r : Read (List Y)) → behind front (r >>= λ ys. Ok (y ∷ ys.0, ys.1)) ≡ behind (front ++ y ∷ []) r
+pub behind_one : {Y : Type 0} (front : List Y) (y : Y) (r : Read (List Y)) → behind front (r >>= λ ys. Ok (y ∷ ys.0, ys.1)) ≡ behind (front ++ y ∷ []) r
 behind_one front y (Err f) = refl
 behind_one front y (Ok (ys, t)) = ap (λ xs. Ok (xs, t)) (sym (append_assoc front (y ∷ []) ys))
 

@@ -48,6 +48,10 @@ next_change_in (Line l ∷ more) s = first_change (change_at (words_of l) (after
 abbrev pub next_change : Stream → Read (Option command.Change)
 next_change s = next_change_in s.items s
 
+-- the change that a line is, or begins, completed by what is behind it
+abbrev pub begun_change : {A : Type 0} → ChangeLine A → Stream → Read (Option command.Change)
+begun_change line s = completed line s >>= λ x. Ok (Some x.0, x.1)
+
 -- the change that an item is, or begins
 abbrev pub ChangeIn : {A : Type 0} → model.Item → Stream → Result (Option (ChangeLine A)) CommandFault → Type 0
 ChangeIn (Data b) s answer = answer ≡ Ok None

@@ -1,6 +1,6 @@
 -- The faults of commands among those of the model, what they print, and those that items and texts bring.
-use Rattle.std.specs.Prelude.{codes}
 use Rattle.gx_model.specs.Texts.{Bytes}
+use Rattle.gx_model.specs.Faults.FaultWords.{word_of}
 use Rattle.gx_model.specs.declared.faults.Fault.{Fault}
 use Rattle.gx_model.specs.declared.faults.Fault.TheVariants as model
 use Rattle.gx_stream.specs.declared.fault.StreamFault.{StreamFault}
@@ -28,20 +28,7 @@ fault_of MissingDone = model.MissingDone
 
 -- the word that a fault prints
 abbrev pub word : CommandFault → Bytes
-word OutOfMemory = codes "OutOfMemory"
-word ReadFailed = codes "ReadFailed"
-word TruncatedData = codes "TruncatedData"
-word BadNumber = codes "BadNumber"
-word UnknownCommand = codes "UnknownCommand"
-word BadLine = codes "BadLine"
-word BadPath = codes "BadPath"
-word PathTooLong = codes "PathTooLong"
-word BadMode = codes "BadMode"
-word BadIdent = codes "BadIdent"
-word BadRefName = codes "BadRefName"
-word Unsupported = codes "Unsupported"
-word LateOption = codes "LateOption"
-word MissingDone = codes "MissingDone"
+word fault = word_of (fault_of fault)
 
 abbrev pub of_stream : StreamFault → CommandFault
 of_stream stream.OutOfMemory = OutOfMemory

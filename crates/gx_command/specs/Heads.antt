@@ -73,6 +73,10 @@ is_left_out w = is_word w (codes "ls") || is_word w (codes "cat-blob") || is_wor
 abbrev pub there : Read model.Command → Read (Option model.Command)
 there read = read >>= λ c. Ok (Some c.0, c.1)
 
+-- the command that begins so, where one comes next
+abbrev pub begun_there : {A : Type 0} → Head A → Stream → Read (Option model.Command)
+begun_there head s = there (begun head s)
+
 -- the command that comes next, past empty lines; none at the end
 unfoldable pub first_in : Bool → List Item → Stream → Read (Option model.Command)
 first_in early [] s = at_end s.end (Ok (None, s))

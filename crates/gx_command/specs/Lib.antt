@@ -5,6 +5,7 @@ pub mod Places
 pub mod Views
 pub mod ChangeLines
 pub mod Ahead
+pub mod Explaining
 pub mod Bodies
 pub mod Heads
 pub mod Reading

@@ -6,14 +6,17 @@ use Rattle.gx_model.specs.declared.features.Features.{Features}
 use Rattle.gx_model.specs.declared.faults.Fault.TheVariants as faults
 use Rattle.gx_model.specs.Faults.{◌>>=◌}
 use Rattle.gx_model.specs.Streams.Gitlinks.{BringsNoNullGitlink}
-use Rattle.gx_model.specs.Streams.Items.{Stream}
+use Rattle.gx_model.specs.Streams.Items.{Item, Stream}
 use Rattle.gx_model.specs.Streams.Commands as model
 use Rattle.gx_model.specs.Streams.Commands.{Commands, no_features}
 use Rattle.gx_model.specs.Streams.Grammar.{commands_asked, commands_within, is_done, is_option, asks_done, stops, with_command}
 use Rattle.gx_model.specs.Streams.Lines.{Read}
 use Rattle.gx_text.specs.Devices.{Coming}
+use Rattle.gx_stream.specs.Faults.{IsEnd}
 use Rattle.gx_stream.specs.Heard.{items_from}
+use Rattle.gx_stream.specs.declared.fault.StreamFault.{StreamFault}
 use Rattle.gx_command.specs.CommandFaults.{fault_of}
+use Rattle.gx_command.specs.Explaining.{ItemsMayCome}
 use Rattle.gx_command.specs.Heads.{first}
 use Rattle.gx_command.specs.Views.{shown_command}
 use Rattle.gx_command.specs.declared.commands.Command.{Command}
@@ -23,12 +26,24 @@ use Rattle.gx_command.specs.declared.reader.Options.{Options}
 use Rattle.gx_command.specs.declared.reader.State.{State}
 use Rattle.gx_command.specs.declared.reader.State.TheVariants.{Open, Ended, Failed}
 
+-- What is known of what comes, whatever the source tells: commands that stand for those that came before, the item that was
+-- read ahead, and where the items are over, how.
+pub record Known : Type 0 where
+  pub before : List model.Command
+  pub held : Option Item
+  pub last : Option (Option StreamFault)
+
 -- What a reader is seen as: the commands still to come with their fault, where the source tells its bytes, a bound on
--- how many may come, and where it is over, how: at the end, or at a fault.
+-- how many may come, where it is over, how: at the end, or at a fault; and what is known without the source's bytes.
 pub record Seen : Type 0 where
   pub commands : Option Commands
   pub most : ℕ
   pub over : Option (Option CommandFault)
+  pub known : Known
+
+-- the commands of some items with an end of a reader of items, where these features are asked for as if it began with them
+abbrev pub AreOfItems : Features → Commands → Type 0
+AreOfItems f commands = (s : Stream) × IsEnd s.end × (commands ≡ commands_asked f s)
 
 -- the commands of all that a source gives, where these features are asked for as if it began with them
 abbrev pub commands_asked_from : Features → Coming → Commands
@@ -47,6 +62,13 @@ Reads None new (Err f) = new ≡ Some (stops (Some (fault_of f)))
 Reads (Some old) new (Ok None) = (old ≡ stops None) × (new ≡ Some (stops None))
 Reads (Some old) new (Ok (Some c)) = (left : Commands) × (old ≡ with_command (shown_command c) left) × (new ≡ Some left)
 Reads (Some old) new (Err f) = (new ≡ Some (stops (Some (fault_of f)))) × ((f ≡ OutOfMemory) ⊎ (old ≡ stops (Some (fault_of f))))
+
+-- Whatever commands may come behind, they may have come behind the one that is answered. The end, and a fault other than want of
+-- memory, may have come.
+abbrev pub ExplainsNext : {A : Type 0} → (Commands → Type 0) → (Commands → Type 0) → Result (Option (Command A)) CommandFault → Type 0
+ExplainsNext old new (Ok None) = old (stops None)
+ExplainsNext old new (Ok (Some c)) = (left : Commands) → new left → old (with_command (shown_command c) left)
+ExplainsNext old new (Err f) = (f ≡ OutOfMemory) ⊎ old (stops (Some (fault_of f)))
 
 -- after `done` nothing comes
 abbrev pub Finishes : {A : Type 0} → Option Commands → Result (Option (Command A)) CommandFault → Type 0
@@ -105,9 +127,32 @@ over_of (Open o) = None
 over_of Ended = Some None
 over_of (Failed f) = Some (Some f)
 
--- a reader in this state, ahead of which these items come, and at most so many
-abbrev pub seen_commands : State → Option Stream → ℕ → Seen
-seen_commands state items bound = record { commands = shown_commands state items; most = most_of state bound; over = over_of state }
+-- commands that stand for those that came before, where more may come
+abbrev pub known_before : State → List model.Command
+known_before (Open o) = before_of o
+known_before Ended = []
+known_before (Failed f) = []
+
+-- a reader in this state, ahead of which these items come, and at most so many, behind the one that was read ahead
+abbrev pub seen_commands : State → Option Stream → ℕ → Option Item → Option (Option StreamFault) → Seen
+seen_commands state items bound held last = record {
+  commands = shown_commands state items;
+  most = most_of state bound;
+  over = over_of state;
+  known = record { before = known_before state; held = held; last = last };
+}
+
+-- ---- what may still come, whatever the source tells
+
+-- the commands of some items behind what is known, or where the reader is over, none and its last answer
+abbrev pub MayFollow : Option (Option CommandFault) → Known → Commands → Type 0
+MayFollow None known commands = (s : Stream) × ItemsMayCome known.held known.last s × (commands ≡ commands_after known.before s)
+MayFollow (Some None) known commands = commands ≡ stops None
+MayFollow (Some (Some f)) known commands = commands ≡ stops (Some (fault_of f))
+
+-- these commands may still come
+abbrev pub MayCome : Seen → Commands → Type 0
+MayCome seen = MayFollow seen.over seen.known
 
 -- the command that comes next, after some options
 abbrev pub or_missing : Options → Option model.Command × Stream → Read (Option model.Command)

@@ -1,10 +1,11 @@
 //! The items of a stream, with the one that was read ahead.
 
-ghost use Rattle.std.specs.Prelude.{◌≡◌, ◌-◌, ◌^◌, IfOk};
+ghost use Rattle.std.specs.Prelude.{◌≡◌, ◌-◌, ◌^◌, IfOk, None};
 ghost use Rattle.std.specs.Option.{option_map};
 ghost use Rattle.gx_stream.specs.Heard.{items_from};
 ghost use Rattle.gx_stream.specs.Reading.{item_of};
 ghost use Rattle.gx_command.specs.Ahead.{AnswersRest, Takes, TakesLine, Falls, to_come, most, shown_held_item};
+ghost use Rattle.gx_command.specs.Explaining.{ExplainsLine, ExplainsTaken, MayBeAhead};
 
 use crate::fault::CommandFault;
 use crate::lines::rest_in;
@@ -53,6 +54,8 @@ impl<R: Source, A: Allocator + Copy> Ahead<R, A> {
     pub(crate) fn new(alloc: A, source: R) -> Ahead<R, A>
         ensures comes { to_come result ≡ option_map items_from (R.coming source) }
         ensures most { most result ≡ 2 ^ 63 - 1 }
+        ensures held { result.held ≡ None }
+        ensures over { result.items.over ≡ None }
     {
         Ahead {
             alloc,
@@ -68,6 +71,7 @@ impl<R: Source, A: Allocator + Copy> Ahead<R, A> {
         F: FnOnce(Item<'_>) -> Result<Option<T>, CommandFault>,
         requires { F.IsAlwaysCallable read }
         ensures takes { Takes (F.post read) (to_come self.old) (to_come self.new) result }
+        ensures explains { ExplainsTaken (F.post read) (MayBeAhead self.old) (MayBeAhead self.new) result }
         ensures falls { Falls (most self.old) (most self.new) result }
     {
         if let Some(held) = &self.held {
@@ -88,7 +92,7 @@ impl<R: Source, A: Allocator + Copy> Ahead<R, A> {
     }
 
     /// Takes the next line where it has this word, and reads its rest. Otherwise the item stays.
-    #[tactic(auto, unfolding(gx_model::specs::Streams::Grammar::rest_line_in))]
+    #[tactic(auto, unfolding(gx_model::specs::Streams::Lines::rest_line_in))]
     pub(crate) fn optional<T: Drop, F>(
         &mut self,
         word: &[u8],
@@ -98,6 +102,7 @@ impl<R: Source, A: Allocator + Copy> Ahead<R, A> {
         F: FnOnce(&[u8]) -> Result<T, CommandFault>,
         requires { F.IsAlwaysCallable read }
         ensures takes { TakesLine word.now (F.post read) (to_come self.old) (to_come self.new) result }
+        ensures explains { ExplainsLine word.now (F.post read) (MayBeAhead self.old) (MayBeAhead self.new) result }
         ensures falls { Falls (most self.old) (most self.new) result }
     {
         self.take(|item| read_rest(item, word, read))

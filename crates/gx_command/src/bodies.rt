@@ -8,8 +8,9 @@ ghost use Rattle.gx_stream.specs.Reading.{item_of};
 ghost use Rattle.gx_model.specs.Streams.Grammar.{unsigned, item_after, bytes_from, merges, changes, blob_at, links_at, commit_at, tag_at, reset_at};
 ghost use Rattle.gx_model.specs.Streams.Lines.{optional, needed, block, mark_of, any_text, ident_of, encoding_of, commit_ish_of};
 ghost use Rattle.gx_command.specs.Ahead.{ReadsOn, ReadsPlain, ReadsLine, Falls, FallsNot, to_come, most};
-ghost use Rattle.gx_command.specs.Bodies.{next_change, written_at, shown_written, shown_links, ChangeIn, TakesChange, signature_in, empty_line};
+ghost use Rattle.gx_command.specs.Bodies.{begun_change, next_change, written_at, shown_written, shown_links, ChangeIn, TakesChange, signature_in, empty_line};
 ghost use Rattle.gx_command.specs.CommandFaults.{fault_of};
+ghost use Rattle.gx_command.specs.Explaining.{ExplainsFrom, ExplainsOn, MayBeAhead};
 ghost use Rattle.gx_command.specs.ChangeLines.{completed_modify, shown_where};
 ghost use Rattle.gx_command.specs.Places.{IsSuitedAs};
 ghost use Rattle.gx_command.specs.Views.{shown_ident, shown_encoding, shown_commit_ish, shown_data, shown_modify, shown_change, shown_blob, shown_commit, shown_tag, shown_reset};
@@ -46,6 +47,7 @@ struct Links<A: Allocator> {
 impl<R: Source, A: Allocator + Copy> Ahead<R, A> {
     pub(crate) fn blob(&mut self) -> Result<Blob<A>, CommandFault>
         ensures reads { ReadsOn shown_blob blob_at self.old self.new result }
+        ensures explains { ExplainsOn shown_blob blob_at self.old self.new result }
         ensures falls { FallsNot (most self.old) (most self.new) result }
     {
         let mark = self.mark()?;
@@ -56,6 +58,7 @@ impl<R: Source, A: Allocator + Copy> Ahead<R, A> {
 
     pub(crate) fn commit(&mut self, branch: RefName<A>) -> Result<Commit<A>, CommandFault>
         ensures reads { ReadsOn shown_commit (commit_at branch.bytes.items) self.old self.new result }
+        ensures explains { ExplainsOn shown_commit (commit_at branch.bytes.items) self.old self.new result }
         ensures falls { FallsNot (most self.old) (most self.new) result }
     {
         let mark = self.mark()?;
@@ -77,6 +80,7 @@ impl<R: Source, A: Allocator + Copy> Ahead<R, A> {
 
     fn written(&mut self) -> Result<Written<A>, CommandFault>
         ensures reads { ReadsOn shown_written written_at self.old self.new result }
+        ensures explains { ExplainsOn shown_written written_at self.old self.new result }
         ensures falls { FallsNot (most self.old) (most self.new) result }
     {
         let author = self.ident(b"author")?;
@@ -94,6 +98,7 @@ impl<R: Source, A: Allocator + Copy> Ahead<R, A> {
 
     fn links(&mut self) -> Result<Links<A>, CommandFault>
         ensures reads { ReadsOn shown_links links_at self.old self.new result }
+        ensures explains { ExplainsOn shown_links links_at self.old self.new result }
         ensures falls { FallsNot (most self.old) (most self.new) result }
     {
         let from = self.commit_ish(b"from")?;
@@ -109,6 +114,7 @@ impl<R: Source, A: Allocator + Copy> Ahead<R, A> {
 
     pub(crate) fn tag(&mut self, name: TagName<A>) -> Result<Tag<A>, CommandFault>
         ensures reads { ReadsOn shown_tag (tag_at name.bytes.items) self.old self.new result }
+        ensures explains { ExplainsOn shown_tag (tag_at name.bytes.items) self.old self.new result }
         ensures falls { FallsNot (most self.old) (most self.new) result }
     {
         let mark = self.mark()?;
@@ -127,6 +133,7 @@ impl<R: Source, A: Allocator + Copy> Ahead<R, A> {
 
     pub(crate) fn reset(&mut self, branch: RefName<A>) -> Result<Reset<A>, CommandFault>
         ensures reads { ReadsOn shown_reset (reset_at branch.bytes.items) self.old self.new result }
+        ensures explains { ExplainsOn shown_reset (reset_at branch.bytes.items) self.old self.new result }
         ensures falls { FallsNot (most self.old) (most self.new) result }
     {
         let from = self.commit_ish(b"from")?;
@@ -136,6 +143,7 @@ impl<R: Source, A: Allocator + Copy> Ahead<R, A> {
 
     fn mark(&mut self) -> Result<Option<u64>, CommandFault>
         ensures reads { ReadsPlain (optional (codes "mark") mark_of) self.old self.new result }
+        ensures explains { ExplainsOn (λ x. x) (optional (codes "mark") mark_of) self.old self.new result }
         ensures falls { FallsNot (most self.old) (most self.new) result }
     {
         self.optional(b"mark", read_mark)
@@ -143,6 +151,7 @@ impl<R: Source, A: Allocator + Copy> Ahead<R, A> {
 
     fn skip_oid(&mut self) -> Result<Option<()>, CommandFault>
         ensures reads { ReadsPlain (optional (codes "original-oid") any_text) self.old self.new result }
+        ensures explains { ExplainsOn (λ x. x) (optional (codes "original-oid") any_text) self.old self.new result }
         ensures falls { FallsNot (most self.old) (most self.new) result }
     {
         self.optional(b"original-oid", |_text| Ok(()))
@@ -150,6 +159,7 @@ impl<R: Source, A: Allocator + Copy> Ahead<R, A> {
 
     fn ident(&mut self, word: &[u8]) -> Result<Option<Identity<A>>, CommandFault>
         ensures reads { ReadsLine shown_ident word.now ident_of self.old self.new result }
+        ensures explains { ExplainsOn (option_map shown_ident) (optional word.now ident_of) self.old self.new result }
         ensures falls { FallsNot (most self.old) (most self.new) result }
     {
         let alloc = self.alloc;
@@ -158,6 +168,7 @@ impl<R: Source, A: Allocator + Copy> Ahead<R, A> {
 
     fn needed_ident(&mut self, word: &[u8]) -> Result<Identity<A>, CommandFault>
         ensures reads { ReadsOn shown_ident (needed word.now ident_of) self.old self.new result }
+        ensures explains { ExplainsOn shown_ident (needed word.now ident_of) self.old self.new result }
         ensures falls { FallsNot (most self.old) (most self.new) result }
     {
         self.ident(word)?.ok_or(CommandFault::BadLine)
@@ -165,6 +176,7 @@ impl<R: Source, A: Allocator + Copy> Ahead<R, A> {
 
     fn encoding(&mut self) -> Result<Option<Encoding<A>>, CommandFault>
         ensures reads { ReadsLine shown_encoding (codes "encoding") encoding_of self.old self.new result }
+        ensures explains { ExplainsOn (option_map shown_encoding) (optional (codes "encoding") encoding_of) self.old self.new result }
         ensures falls { FallsNot (most self.old) (most self.new) result }
     {
         let alloc = self.alloc;
@@ -173,6 +185,7 @@ impl<R: Source, A: Allocator + Copy> Ahead<R, A> {
 
     fn commit_ish(&mut self, word: &[u8]) -> Result<Option<CommitIsh<A>>, CommandFault>
         ensures reads { ReadsLine shown_commit_ish word.now commit_ish_of self.old self.new result }
+        ensures explains { ExplainsOn (option_map shown_commit_ish) (optional word.now commit_ish_of) self.old self.new result }
         ensures falls { Falls (most self.old) (most self.new) result }
     {
         let alloc = self.alloc;
@@ -181,14 +194,17 @@ impl<R: Source, A: Allocator + Copy> Ahead<R, A> {
 
     fn needed_commit_ish(&mut self, word: &[u8]) -> Result<CommitIsh<A>, CommandFault>
         ensures reads { ReadsOn shown_commit_ish (needed word.now commit_ish_of) self.old self.new result }
+        ensures explains { ExplainsOn shown_commit_ish (needed word.now commit_ish_of) self.old self.new result }
         ensures falls { FallsNot (most self.old) (most self.new) result }
     {
         self.commit_ish(word)?.ok_or(CommandFault::BadLine)
     }
 
     /// The commits that are merged, of all the lines that name one.
+    #[tactic(auto, unfolding(crate::specs::Explaining::Explains))]
     fn merges(&mut self) -> Result<Vec<CommitIsh<A>, A>, CommandFault>
         ensures reads { ReadsOn (λ v. map shown_commit_ish v.items) merges self.old self.new result }
+        ensures explains { ExplainsOn (λ v. map shown_commit_ish v.items) merges self.old self.new result }
         ensures falls { FallsNot (most self.old) (most self.new) result }
     {
         let mut merges = Vec::new(self.alloc);
@@ -198,8 +214,10 @@ impl<R: Source, A: Allocator + Copy> Ahead<R, A> {
         Ok(merges)
     }
 
+    #[tactic(auto, unfolding(crate::specs::Explaining::Explains))]
     fn changes(&mut self) -> Result<Vec<Change<A>, A>, CommandFault>
         ensures reads { ReadsOn (λ v. map shown_change v.items) changes self.old self.new result }
+        ensures explains { ExplainsOn (λ v. map shown_change v.items) changes self.old self.new result }
         ensures falls { FallsNot (most self.old) (most self.new) result }
     {
         let mut changes = Vec::new(self.alloc);
@@ -210,8 +228,10 @@ impl<R: Source, A: Allocator + Copy> Ahead<R, A> {
     }
 
     /// The next change, with the block that belongs to it.
+    #[tactic(auto, unfolding(crate::specs::Explaining::Explains))]
     fn change(&mut self) -> Result<Option<Change<A>>, CommandFault>
         ensures reads { ReadsOn (option_map shown_change) next_change self.old self.new result }
+        ensures explains { ExplainsOn (option_map shown_change) next_change self.old self.new result }
         ensures falls { Falls (most self.old) (most self.new) result }
     {
         match self.change_line()? {
@@ -222,8 +242,10 @@ impl<R: Source, A: Allocator + Copy> Ahead<R, A> {
     }
 
     /// The modify of a line, with the block that may belong to it.
+    #[tactic(auto, unfolding(crate::specs::Explaining::Explains))]
     fn modify(&mut self, line: ModifyLine<A>) -> Result<Modify<A>, CommandFault>
         ensures reads { ReadsOn shown_modify (completed_modify line) self.old self.new result }
+        ensures explains { ExplainsOn shown_modify (completed_modify line) self.old self.new result }
         ensures falls { FallsNot (most self.old) (most self.new) result }
     {
         let ModifyLine { mode, place, path } = line;
@@ -235,8 +257,10 @@ impl<R: Source, A: Allocator + Copy> Ahead<R, A> {
         })
     }
 
+    #[tactic(auto, unfolding(crate::specs::Explaining::Explains))]
     fn data_ref(&mut self, place: Place) -> Result<DataRef<A>, CommandFault>
         ensures reads { ReadsOn shown_data (bytes_from (shown_where place)) self.old self.new result }
+        ensures explains { ExplainsOn shown_data (bytes_from (shown_where place)) self.old self.new result }
         ensures suits { IfOk result (IsSuitedAs place) }
         ensures falls { FallsNot (most self.old) (most self.new) result }
     {
@@ -249,6 +273,7 @@ impl<R: Source, A: Allocator + Copy> Ahead<R, A> {
 
     fn change_line(&mut self) -> Result<Option<ChangeLine<A>>, CommandFault>
         ensures takes { TakesChange (to_come self.old) (to_come self.new) result }
+        ensures explains { ExplainsFrom begun_change next_change (MayBeAhead self.old) (MayBeAhead self.new) result }
         ensures falls { Falls (most self.old) (most self.new) result }
     {
         let alloc = self.alloc;
@@ -256,9 +281,10 @@ impl<R: Source, A: Allocator + Copy> Ahead<R, A> {
     }
 
     /// The bytes of the next item, which has to be a block.
-    #[tactic(auto, unfolding(gx_model::specs::Streams::Grammar::block_in, crate::specs::Ahead::to_come, crate::specs::Ahead::most))]
+    #[tactic(auto, unfolding(gx_model::specs::Streams::Lines::block_in, crate::specs::Ahead::to_come, crate::specs::Ahead::most, crate::specs::Explaining::Explains))]
     fn block(&mut self) -> Result<Vec<u8, A>, CommandFault>
         ensures reads { ReadsOn (λ v. v.items) block self.old self.new result }
+        ensures explains { ExplainsOn (λ v. v.items) block self.old self.new result }
         ensures falls { FallsNot (most self.old) (most self.new) result }
     {
         match self.held.take() {
@@ -268,14 +294,16 @@ impl<R: Source, A: Allocator + Copy> Ahead<R, A> {
         }
         match self.items.next()? {
             Some(Item::Data(bytes)) => Ok(Vec::from_slice(self.alloc, bytes)?),
-            _ => Err(CommandFault::BadLine),
+            Some(Item::Line(_)) => Err(CommandFault::BadLine),
+            None => Err(CommandFault::BadLine),
         }
     }
 
     /// Refuses a signature.
-    #[tactic(auto, unfolding(gx_model::specs::Streams::Grammar::unsigned_in))]
+    #[tactic(auto, unfolding(gx_model::specs::Streams::Grammar::unsigned_in, crate::specs::Explaining::Explains))]
     fn check_unsigned(&mut self) -> Result<(), CommandFault>
         ensures reads { ReadsPlain unsigned self.old self.new result }
+        ensures explains { ExplainsOn (λ x. x) unsigned self.old self.new result }
         ensures falls { FallsNot (most self.old) (most self.new) result }
     {
         let _none = self.take(refuse_signature)?;
@@ -283,9 +311,10 @@ impl<R: Source, A: Allocator + Copy> Ahead<R, A> {
     }
 
     /// Looks at the item after a commit or a reset, and takes it where it is an empty line.
-    #[tactic(auto, unfolding(gx_model::specs::Streams::Grammar::item_after_in))]
+    #[tactic(auto, unfolding(gx_model::specs::Streams::Grammar::item_after_in, crate::specs::Explaining::Explains))]
     fn end(&mut self) -> Result<(), CommandFault>
         ensures reads { ReadsPlain item_after self.old self.new result }
+        ensures explains { ExplainsOn (λ x. x) item_after self.old self.new result }
         ensures falls { FallsNot (most self.old) (most self.new) result }
     {
         let _line = self.take(|item| Ok(empty_line(item)))?;

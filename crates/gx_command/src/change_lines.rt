@@ -1,6 +1,6 @@
 //! The lines of changes.
 
-ghost use Rattle.std.specs.Prelude.{◌≡◌, IsTrue, IfOk, OnOk};
+ghost use Rattle.std.specs.Prelude.{◌≡◌, false, IsTrue, IfOk, IsErrOf, IsOk, OnOk};
 ghost use Rattle.gx_command.specs.Places.{is_file_mode, is_suited_place};
 ghost use Rattle.gx_model.specs.Faults.{Gives, NeedsNoMemory};
 ghost use Rattle.gx_model.specs.Streams.Items.{Stream};
@@ -8,6 +8,7 @@ ghost use Rattle.gx_model.specs.Texts.Paths.{is_quoted};
 ghost use Rattle.gx_model.specs.Streams.Grammar.{where_of, suits, two_paths, modify_at, change_at};
 ghost use Rattle.gx_model.specs.Streams.Lines.{mode_of, last_path, source_path, words_of};
 ghost use Rattle.gx_command.specs.CommandFaults.{fault_of};
+ghost use Rattle.gx_command.specs.declared.fault.CommandFault.TheVariants.{OutOfMemory};
 ghost use Rattle.gx_command.specs.ChangeLines.{shown_where, BeginsModify, BeginsChange};
 
 use crate::commands::Change;
@@ -132,9 +133,10 @@ fn check_suits(mode: Mode, place: Place) -> Result<(), CommandFault>
 }
 
 /// The path that ends its line.
-#[tactic(auto, unfolding(gx_model::specs::Streams::Grammar::last_path))]
+#[tactic(auto, unfolding(gx_model::specs::Streams::Lines::last_path))]
 fn read_last_path<A: Allocator + Copy>(alloc: A, text: &[u8]) -> Result<TreePath<A>, CommandFault>
-    ensures { Gives fault_of (λ path. path) result (last_path text.now) }
+    ensures path { Gives fault_of (λ path. path) result (last_path text.now) }
+    ensures memory { is_quoted text.now ≡ false → IsErrOf result OutOfMemory → IsOk (last_path text.now) }
 {
     if !is_quoted(text) {
         return Ok(TreePath::read(alloc, text)?);
@@ -148,7 +150,7 @@ fn read_last_path<A: Allocator + Copy>(alloc: A, text: &[u8]) -> Result<TreePath
 }
 
 /// The path before a space, and what follows the space.
-#[tactic(auto, unfolding(gx_model::specs::Streams::Grammar::source_path))]
+#[tactic(auto, unfolding(gx_model::specs::Streams::Lines::source_path))]
 fn read_source_path<A: Allocator + Copy>(
     alloc: A,
     text: &[u8],

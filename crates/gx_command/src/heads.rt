@@ -1,6 +1,6 @@
 //! The lines that begin commands.
 
-ghost use Rattle.std.specs.Prelude.{◌≡◌};
+ghost use Rattle.std.specs.Prelude.{◌≡◌, IsErrOf, IsOk};
 ghost use Rattle.std.specs.Option.{option_map};
 ghost use Rattle.gx_model.specs.Faults.{Gives, NeedsNoMemory};
 ghost use Rattle.gx_model.specs.Streams.Items.{Stream};
@@ -8,9 +8,11 @@ ghost use Rattle.gx_model.specs.Streams.Grammar.{command_at};
 ghost use Rattle.gx_stream.specs.Reading.{item_of};
 ghost use Rattle.gx_command.specs.Ahead.{ReadsOn, Falls, FallsNot, to_come, most};
 ghost use Rattle.gx_command.specs.CommandFaults.{fault_of};
-ghost use Rattle.gx_command.specs.Heads.{Begins, BeginsIn, BeginsWhole, MayBeWhole, TakesStart, TakesHead, begun, early_feature, early_rest, first, is_left_out, option_of, progress_of};
+ghost use Rattle.gx_command.specs.Explaining.{ExplainsFrom, ExplainsOn, MayBeAhead};
+ghost use Rattle.gx_command.specs.Heads.{Begins, BeginsIn, BeginsWhole, MayBeWhole, TakesStart, TakesHead, begun, begun_there, early_feature, early_rest, first, is_left_out, option_of, progress_of, started};
 ghost use Rattle.gx_command.specs.Lines.{lent_bytes, shown_words};
 ghost use Rattle.gx_command.specs.Views.{shown_command};
+ghost use Rattle.gx_command.specs.declared.fault.CommandFault.TheVariants.{OutOfMemory};
 
 use crate::ahead::Ahead;
 use crate::commands::Command;
@@ -44,6 +46,7 @@ impl<R: Source, A: Allocator + Copy> Ahead<R, A> {
     /// The next command, or `None` at the end of the items. Only options came before it, or `is_early` is false.
     pub(crate) fn command(&mut self, is_early: bool) -> Result<Option<Command<A>>, CommandFault>
         ensures reads { ReadsOn (option_map shown_command) (first is_early) self.old self.new result }
+        ensures explains { ExplainsOn (option_map shown_command) (first is_early) self.old self.new result }
         ensures falls { Falls (most self.old) (most self.new) result }
     {
         match self.head(is_early)? {
@@ -53,8 +56,10 @@ impl<R: Source, A: Allocator + Copy> Ahead<R, A> {
     }
 
     /// The rest of the command that begins so.
+    #[tactic(auto, unfolding(crate::specs::Explaining::Explains))]
     fn body(&mut self, head: Head<A>) -> Result<Command<A>, CommandFault>
         ensures reads { ReadsOn shown_command (begun head) self.old self.new result }
+        ensures explains { ExplainsOn shown_command (begun head) self.old self.new result }
         ensures falls { FallsNot (most self.old) (most self.new) result }
     {
         match head {
@@ -69,6 +74,7 @@ impl<R: Source, A: Allocator + Copy> Ahead<R, A> {
     /// The head of the next command, past empty lines.
     fn head(&mut self, is_early: bool) -> Result<Option<Head<A>>, CommandFault>
         ensures takes { TakesHead is_early (to_come self.old) (to_come self.new) result }
+        ensures explains { ExplainsFrom begun_there (first is_early) (MayBeAhead self.old) (MayBeAhead self.new) result }
         ensures falls { Falls (most self.old) (most self.new) result }
     {
         loop {
@@ -82,6 +88,7 @@ impl<R: Source, A: Allocator + Copy> Ahead<R, A> {
 
     fn start(&mut self, is_early: bool) -> Result<Option<Start<A>>, CommandFault>
         ensures takes { TakesStart is_early (to_come self.old) (to_come self.new) result }
+        ensures explains { ExplainsFrom (started is_early) (first is_early) (MayBeAhead self.old) (MayBeAhead self.new) result }
         ensures falls { Falls (most self.old) (most self.new) result }
     {
         let alloc = self.alloc;
@@ -158,7 +165,8 @@ fn read_progress<A: Allocator + Copy>(
     alloc: A,
     words: Words<'_>,
 ) -> Result<Command<A>, CommandFault>
-    ensures { Gives fault_of shown_command result (progress_of (shown_words words.entry)) }
+    ensures reads { Gives fault_of shown_command result (progress_of (shown_words words.entry)) }
+    ensures memory { IsErrOf result OutOfMemory → IsOk (progress_of (shown_words words.entry)) }
 {
     let text = words.rest()?;
     Ok(Command::Progress(Vec::from_slice(alloc, text)?))
@@ -169,7 +177,8 @@ fn read_option<A: Allocator + Copy>(
     is_early: bool,
     words: Words<'_>,
 ) -> Result<Command<A>, CommandFault>
-    ensures { Gives fault_of shown_command result (option_of is_early (shown_words words.entry)) }
+    ensures reads { Gives fault_of shown_command result (option_of is_early (shown_words words.entry)) }
+    ensures memory { IsErrOf result OutOfMemory → IsOk (option_of is_early (shown_words words.entry)) }
 {
     let text = early_rest(is_early, words)?;
     Ok(Command::OptionLine(Vec::from_slice(alloc, text)?))

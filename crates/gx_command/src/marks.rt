@@ -22,7 +22,7 @@ pub(crate) fn read_mark_number(digits: &[u8]) -> Result<u64, CommandFault>
 }
 
 /// A colon and a mark's number.
-#[tactic(auto, unfolding(gx_model::specs::Streams::Grammar::mark_of))]
+#[tactic(auto, unfolding(gx_model::specs::Streams::Lines::mark_of))]
 pub(crate) fn read_mark(text: &[u8]) -> Result<u64, CommandFault>
     ensures mark { Gives fault_of (λ n. n) result (mark_of text.now) }
     ensures memory { NeedsNoMemory CommandFault.OutOfMemory result }
@@ -34,7 +34,7 @@ pub(crate) fn read_mark(text: &[u8]) -> Result<u64, CommandFault>
 }
 
 /// A mark behind a colon, or any other text but forty zeros.
-#[tactic(auto, unfolding(gx_model::specs::Streams::Grammar::commit_ish_of))]
+#[tactic(auto, unfolding(gx_model::specs::Streams::Lines::commit_ish_of))]
 pub(crate) fn read_commit_ish<A: Allocator + Copy>(
     alloc: A,
     text: &[u8],

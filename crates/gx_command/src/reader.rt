@@ -2,9 +2,11 @@
 
 ghost use Rattle.std.specs.Prelude.{◌≡◌, ◌-◌, ◌^◌, None};
 ghost use Rattle.std.specs.Option.{option_map};
+ghost use Rattle.gx_model.specs.Streams.Commands.{Commands, no_features};
 ghost use Rattle.gx_command.specs.Ahead.{most, ReadsOn, Falls as FallsAhead};
 ghost use Rattle.gx_command.specs.Behind.{at_start};
-ghost use Rattle.gx_command.specs.Reading.{Reads, ReadsNoNullGitlink, Finishes, Falls, Repeats, commands_asked_from, commands_from, next_after, over_after, state_after};
+ghost use Rattle.gx_command.specs.Explaining.{ExplainsOn};
+ghost use Rattle.gx_command.specs.Reading.{AreOfItems, ExplainsNext, MayCome, Reads, ReadsNoNullGitlink, Finishes, Falls, Repeats, commands_asked_from, commands_from, next_after, over_after, state_after};
 ghost use Rattle.gx_command.specs.Views.{shown_command};
 
 use crate::ahead::Ahead;
@@ -41,12 +43,13 @@ pub struct CommandReader<R: Source, A: Allocator> {
 }
 
 impl<R: Source, A: Allocator> Model for CommandReader<R, A> {
-    ghost use Rattle.gx_command.specs.Ahead.{to_come, most};
+    ghost use Rattle.std.specs.Option.{option_map};
+    ghost use Rattle.gx_command.specs.Ahead.{to_come, most, shown_held_item};
     ghost use Rattle.gx_command.specs.Reading.{Seen, seen_commands};
 
     ghost Value = { Seen };
 
-    ghost view = { λ r. seen_commands r.state (to_come r.ahead) (most r.ahead) };
+    ghost view = { λ r. seen_commands r.state (to_come r.ahead) (most r.ahead) (option_map shown_held_item r.ahead.held) r.ahead.items.over };
 }
 
 impl<R: Source, A: Allocator + Copy> CommandReader<R, A> {
@@ -55,6 +58,7 @@ impl<R: Source, A: Allocator + Copy> CommandReader<R, A> {
         ensures commands { result.commands ≡ option_map commands_from (R.coming source) }
         ensures most { result.most ≡ 2 ^ 63 - 1 }
         ensures over { result.over ≡ None }
+        ensures explains { (commands : Commands) → MayCome result commands → AreOfItems no_features commands }
     {
         CommandReader::asking(alloc, source, Features::none())
     }
@@ -66,6 +70,7 @@ impl<R: Source, A: Allocator + Copy> CommandReader<R, A> {
         ensures commands { result.commands ≡ option_map (commands_asked_from features) (R.coming source) }
         ensures most { result.most ≡ 2 ^ 63 - 1 }
         ensures over { result.over ≡ None }
+        ensures explains { (commands : Commands) → MayCome result commands → AreOfItems features commands }
     {
         CommandReader {
             ahead: Ahead::new(alloc, source),
@@ -86,6 +91,7 @@ impl<R: Source, A: Allocator + Copy> CommandReader<R, A> {
     /// Source: git-fast-import(1), "Commands".
     pub fn next(&mut self) -> Result<Option<Command<A>>, CommandFault>
         ensures reads { Reads self.old.commands self.new.commands result }
+        ensures explains { ExplainsNext (MayCome self.old) (MayCome self.new) result }
         ensures finishes { Finishes self.new.commands result }
         ensures falls { Falls self.old.most self.new.most result }
         ensures over { self.new.over ≡ over_after result }
@@ -120,6 +126,7 @@ pub(crate) fn next_command<R: Source, A: Allocator + Copy>(
     options: Options,
 ) -> Result<Option<Command<A>>, CommandFault>
     ensures reads { ReadsOn (option_map shown_command) (next_after options) ahead.old ahead.new result }
+    ensures explains { ExplainsOn (option_map shown_command) (next_after options) ahead.old ahead.new result }
     ensures falls { FallsAhead (most ahead.old) (most ahead.new) result }
 {
     match ahead.command(options.are_all)? {

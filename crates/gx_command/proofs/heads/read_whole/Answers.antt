@@ -7,7 +7,7 @@ pub returns-then-is : goal.returns-then-is
 returns-then-is g c = λ s. rw (at_checkpoint g.row.A.Denot c.args.is_early _ s c.requires (sym c.is.ensures ∙ c.if-is.true)) (is_whole _ s _ c.bare.ensures.bare)
 
 pub returns-then-is-2 : goal.returns-then-is-2
-returns-then-is-2 g c = λ s. rw (at_progress g.row.A.Denot c.args.is_early _ s c.requires (sym c.is.ensures ∙ c.if-is.false) (sym c.is-else-is.ensures ∙ c.if-is-2.true)) (is_whole_of _ s _ c.read_progress.ensures)
+returns-then-is-2 g c = λ s. rw (at_progress g.row.A.Denot c.args.is_early _ s c.requires (sym c.is.ensures ∙ c.if-is.false) (sym c.is-else-is.ensures ∙ c.if-is-2.true)) (is_whole_of _ s _ c.read_progress.ensures.reads)
 
 pub returns-in_err-read_feature : goal.returns-in_err-read_feature
 returns-in_err-read_feature g c = λ s.
@@ -18,7 +18,7 @@ pub returns-in_ok-read_feature : goal.returns-in_ok-read_feature
 returns-in_ok-read_feature g c = λ s. rw (at_feature g.row.A.Denot c.args.is_early _ s c.requires (sym c.is.ensures ∙ c.if-is.false) (sym c.is-else-is.ensures ∙ c.if-is-2.false) (sym c.is-else-is-2.ensures ∙ c.if-is-3.true), c.in_ok-read_feature.ensures.reads) refl
 
 pub returns-then-is-4 : goal.returns-then-is-4
-returns-then-is-4 g c = λ s. rw (at_option g.row.A.Denot c.args.is_early _ s c.requires (sym c.is.ensures ∙ c.if-is.false) (sym c.is-else-is.ensures ∙ c.if-is-2.false) (sym c.is-else-is-2.ensures ∙ c.if-is-3.false) (sym c.is-else-is-3.ensures ∙ c.if-is-4.true)) (is_whole_of _ s _ c.read_option.ensures)
+returns-then-is-4 g c = λ s. rw (at_option g.row.A.Denot c.args.is_early _ s c.requires (sym c.is.ensures ∙ c.if-is.false) (sym c.is-else-is.ensures ∙ c.if-is-2.false) (sym c.is-else-is-2.ensures ∙ c.if-is-3.false) (sym c.is-else-is-3.ensures ∙ c.if-is-4.true)) (is_whole_of _ s _ c.read_option.ensures.reads)
 
 pub returns-then-is-5 : goal.returns-then-is-5
 returns-then-is-5 g c = λ s. rw (at_done g.row.A.Denot c.args.is_early _ s c.requires (sym c.is.ensures ∙ c.if-is.false) (sym c.is-else-is.ensures ∙ c.if-is-2.false) (sym c.is-else-is-2.ensures ∙ c.if-is-3.false) (sym c.is-else-is-3.ensures ∙ c.if-is-4.false) (sym c.is-else-is-4.ensures ∙ c.if-is-5.true)) (is_whole _ s _ c.bare-then-is-5.ensures.bare)

@@ -2,6 +2,8 @@ use Rattle.std.proofs.Common.{ap, refl}
 use Rattle.gx_command.specs.Reading.{Seen}
 use Rattle.gx_command.proofs.BroughtGitlinks.{none_brought}
 use Rattle.gx_command.proofs.NextCommands.{reads_some, reads_none, reads_fault, over_some, repeats_failed, repeats_none}
+use Rattle.gx_command.proofs.ExplainedCommands.{seen_end, seen_failure, seen_some}
+use Rattle.gx_command.specs.Explaining.{MayBeAhead}
 use Rattle.gx_command.proofs.reader.CommandReader.next.Goals as goal
 
 pub returns-in-Ok-Some-clause-reads : goal.returns-in-Ok-Some-clause-reads
@@ -36,3 +38,23 @@ returns-in-Err-clause-repeats g c = repeats_none _ _ _ _ (rw c.in-Open.is at (ap
 
 pub returns-in-Failed-clause-repeats : goal.returns-in-Failed-clause-repeats
 returns-in-Failed-clause-repeats g c = repeats_failed g.row.A.Denot _ _ _ _ (rw c.in-Failed.is at (ap (λ (v : Seen). v.over) c.self.view_is)) refl
+
+-- ---- what explains it
+
+pub returns-in-Ok-Some-clause-explains : goal.returns-in-Ok-Some-clause-explains
+unfolding MayBeAhead
+returns-in-Ok-Some-clause-explains g c =
+    let view = rw c.in-Open.is at c.self.view_is in
+    rw c.after-self-inside.ensures (seen_some c.in-Open.options _ _ _ _ _ _ _ view c.in-Ok-Some.command (rw c.in-Ok-Some.field-0-is at c.in-Ok-Some.ensures.explains))
+
+pub returns-in-Ok-None-clause-explains : goal.returns-in-Ok-None-clause-explains
+unfolding MayBeAhead
+returns-in-Ok-None-clause-explains g c =
+    let view = rw c.in-Open.is at c.self.view_is in
+    seen_end c.in-Open.options _ _ _ _ _ _ _ view g.row.A.Denot (rw c.in-Ok-None.field-0-is at c.in-Ok-None.ensures.explains)
+
+pub returns-in-Err-clause-explains : goal.returns-in-Err-clause-explains
+unfolding MayBeAhead
+returns-in-Err-clause-explains g c =
+    let view = rw c.in-Open.is at c.self.view_is in
+    seen_failure c.in-Open.options _ _ _ _ _ _ _ view g.row.A.Denot c.in-Err.fault c.in-Err.ensures.explains

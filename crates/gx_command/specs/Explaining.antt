@@ -1,0 +1,62 @@
+-- What items may still come, whatever a source tells, and how an answer is explained: by items that may have come before it.
+-- Source: this project's own.
+use Rattle.std.specs.Prelude.{◌≡◌, ◌⊎◌, Option, Some, None, Result, Ok, Err, option_map}
+use Rattle.std.specs.Borrow.{Bor}
+use Rattle.gx_model.specs.Texts.{Bytes}
+use Rattle.gx_model.specs.Streams.Items as model
+use Rattle.gx_model.specs.Streams.Items.{Stream, then_comes, Finished, Failed}
+use Rattle.gx_model.specs.Streams.Lines.{Read, rest_line}
+use Rattle.gx_stream.specs.Faults.{IsEnd, ended, shown_end}
+use Rattle.gx_stream.specs.declared.fault.StreamFault.{StreamFault}
+use Rattle.gx_stream.specs.declared.item.Item.{Item}
+use Rattle.gx_command.specs.Ahead.{ReadNext, ReadRest, shown_held_item}
+use Rattle.gx_command.specs.CommandFaults.{fault_of}
+use Rattle.gx_command.specs.declared.fault.CommandFault.{CommandFault}
+use Rattle.gx_command.specs.declared.fault.CommandFault.TheVariants.{OutOfMemory}
+use Rattle.gx_command.specs.declared.ahead.Ahead.{Ahead}
+
+-- what a reader of items may still give: any items, with an end of its own; or where it is over, no item and its last answer
+abbrev pub ItemsMayFollow : Option (Option StreamFault) → Stream → Type 0
+ItemsMayFollow None s = IsEnd s.end
+ItemsMayFollow (Some last) s = s ≡ ended (shown_end last)
+
+-- the same behind an item that was read ahead
+abbrev pub ItemsMayCome : Option model.Item → Option (Option StreamFault) → Stream → Type 0
+ItemsMayCome None over s = ItemsMayFollow over s
+ItemsMayCome (Some held) over s = (left : Stream) × ItemsMayFollow over left × (s ≡ then_comes held left)
+
+-- these items may be ahead
+unfoldable pub MayBeAhead : {R A : Type 0} → Ahead R A → Stream → Type 0
+MayBeAhead a s = ItemsMayCome (option_map shown_held_item a.held) a.items.over s
+
+-- Whatever may come behind, there are items that may have come before, of which the definition gives the answer, seen so,
+-- and those behind. A fault other than want of memory is what it gives of some.
+unfoldable pub Explains : {X Y : Type 0} → (X → Y) → (Stream → Read Y) → (Stream → Type 0) → (Stream → Type 0) → Result X CommandFault → Type 0
+Explains view reading old new (Ok x) = (t : Stream) → new t → (s : Stream) × old s × (reading s ≡ Ok (view x, t))
+Explains view reading old new (Err f) = (f ≡ OutOfMemory) ⊎ ((s : Stream) × old s × (reading s ≡ Err (fault_of f)))
+
+abbrev pub ExplainsOn : {X Y R A : Type 0} → (X → Y) → (Stream → Read Y) → Ahead R A → Ahead R A → Result X CommandFault → Type 0
+ExplainsOn view reading old new answer = Explains view reading (MayBeAhead old) (MayBeAhead new) answer
+
+-- the same where the definition goes on from an answer and what is behind it; where there is none, it gives none
+abbrev pub ExplainsFrom : {X Y : Type 0} → (X → Stream → Read (Option Y)) → (Stream → Read (Option Y))
+    → (Stream → Type 0) → (Stream → Type 0) → Result (Option X) CommandFault → Type 0
+ExplainsFrom going reading old new (Ok (Some x)) = (t : Stream) → new t → (s : Stream) × old s × (reading s ≡ going x t)
+ExplainsFrom going reading old new (Ok None) = (t : Stream) → new t → (s : Stream) × old s × (reading s ≡ Ok (None, t))
+ExplainsFrom going reading old new (Err f) = (f ≡ OutOfMemory) ⊎ ((s : Stream) × old s × (reading s ≡ Err (fault_of f)))
+
+-- An item that the function reads comes before what is behind. At the end, and where the function reads none, nothing does.
+abbrev pub ExplainsTaken : {T : Type 0} → (Item → Result (Option T) CommandFault → Type 0)
+    → (Stream → Type 0) → (Stream → Type 0) → Result (Option T) CommandFault → Type 0
+ExplainsTaken answers old new (Ok (Some x)) = (t : Stream) → new t → (s : Stream) × old s × ReadNext answers s t (Ok (Some x))
+ExplainsTaken answers old new (Ok None) = (t : Stream) → new t → old t × ((t ≡ ended Finished) ⊎ ((left : Stream) × ReadNext answers t left (Ok None)))
+ExplainsTaken answers old new (Err f) =
+    (f ≡ OutOfMemory) ⊎ ((s : Stream) × old s × ((s ≡ ended (Failed (fault_of f))) ⊎ ((left : Stream) × ReadNext answers s left (Err f))))
+
+-- A line with the word comes before what is behind, and its rest is read.
+abbrev pub ExplainsLine : {T : Type 0} → Bytes → (Bor Bytes → Result T CommandFault → Type 0)
+    → (Stream → Type 0) → (Stream → Type 0) → Result (Option T) CommandFault → Type 0
+ExplainsLine word answers old new (Ok (Some x)) = (t : Stream) → new t → (s : Stream) × old s × ReadRest answers word s t (Ok x)
+ExplainsLine word answers old new (Ok None) = (t : Stream) → new t → (s : Stream) × old s × (rest_line word s ≡ Ok (None, t))
+ExplainsLine word answers old new (Err f) =
+    (f ≡ OutOfMemory) ⊎ ((s : Stream) × old s × ((rest_line word s ≡ Err (fault_of f)) ⊎ ((left : Stream) × ReadRest answers word s left (Err f))))

@@ -1,5 +1,5 @@
 -- What each part of an export of changes does, whatever was written before it.
-use Rattle.std.specs.Prelude.{◌≡◌, [], ◌∷◌, ◌++◌, ◌||◌, ℕ, suc, Bool, true, false, length, List, map, reverse, Option, Result, Ok, Err, slice_index_or}
+use Rattle.std.specs.Prelude.{◌≡◌, [], ◌∷◌, ◌++◌, ◌||◌, ℕ, suc, Bool, true, false, length, IsOk, List, map, reverse, Option, Result, Ok, Err, slice_index_or, ⊤}
 use Rattle.gx_model.specs.declared.objects.Kind.{Kind}
 use Rattle.gx_model.specs.declared.features.Feature.TheVariants as features
 use Rattle.gx_model.specs.Changes.{carrier_reset, changes_text, closed_by, commit_changes, commits_with_changes, named_in, own_files, range_text, sending_commands, set_refs}
@@ -19,6 +19,7 @@ use Rattle.gx_model.specs.Texts.Paths.{Path}
 use Rattle.gx_model.specs.Texts.Sinks.{Taken}
 use Rattle.gx_rev.specs.RevFaults.{fault_of}
 use Rattle.gx_rev.specs.Walking.{IsWordFault}
+use Rattle.gx_rev.specs.declared.fault.RevFault.TheVariants.{OutOfMemory}
 use Rattle.gx_export.specs.Compared.{gone_items, gone_text}
 use Rattle.gx_export.specs.Marks.{Adds, HasWritten}
 use Rattle.gx_export.specs.Outputs.{Delivers}
@@ -98,6 +99,11 @@ module _ (name : Kind → Bytes → Bytes) where
   ExportsRange closed repository asked was now (Ok _) = DeliversWords closed (history_of repository) asked was now (Ok tt)
   ExportsRange closed repository asked was now (Err (Export fault)) = DeliversWords closed (history_of repository) asked was now (Err fault)
   ExportsRange closed repository asked was now (Err (Walk e)) = (now ≡ was) × IsWordFault e.word (fault_of e.kind) (listed name (history_of repository) asked)
+
+  -- memory may want only where no word is refused
+  abbrev pub RefusalsComeFirst : History → List RangeWord → Result (Unit {0}) RangeFault → Type 0
+  RefusalsComeFirst h asked (Err (Walk e)) = e.kind ≡ OutOfMemory → IsOk (words_denoted name h asked)
+  RefusalsComeFirst h asked _ = ⊤
 
   -- the commands of a commit on a branch, the blobs of its files that differ first
   abbrev pub one_on : Bytes → List Value → Commit → List Command

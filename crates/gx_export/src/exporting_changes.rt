@@ -16,7 +16,7 @@ ghost use Rattle.gx_rev.specs.Objects.{value_at};
 ghost use Rattle.gx_rev.specs.Views.{shown_range};
 ghost use Rattle.gx_rev.specs.Walking.{AreWithout};
 ghost use Rattle.gx_export.specs.Branches.{AreTargets, FindsBranches, picked, refs_of, shown_tips, targets};
-ghost use Rattle.gx_export.specs.ChangedParts.{AreCommitMarks, AreEither, ExportsChanges, ExportsRange, SendsText, closing, opening, sending_front, sending_rest};
+ghost use Rattle.gx_export.specs.ChangedParts.{AreCommitMarks, AreEither, ExportsChanges, ExportsRange, RefusalsComeFirst, SendsText, closing, opening, sending_front, sending_rest};
 ghost use Rattle.gx_export.specs.Marks.{Adds, HasWritten};
 ghost use Rattle.gx_export.specs.Outputs.{Writes};
 ghost use Rattle.gx_export.specs.Parts.{AddsItems};
@@ -68,7 +68,7 @@ pub fn export_changes<N: Namer, A: Allocator + Copy, W: Sink>(
 /// exclude receives the rest.
 ///
 /// RangeFault: Walk where a word is refused, as by `walk`, and nothing went to the sink; Export where the export stops, as
-/// `export_changes` does.
+/// `export_changes` does. Want of memory hides no word that is refused.
 ///
 /// Cost: that of `walk` without its names, for each commit that a ref in range reaches and that isn't older than all that
 /// are sent its body and a look-up for each of its parents, and for what is sent as of `export_changes`. Memory: of these
@@ -81,8 +81,10 @@ pub fn export_range<N: Namer, A: Allocator + Copy, W: Sink>(
     sink: &mut W,
     closed: bool,
 ) -> Result<(), RangeFault>
-    ensures { ExportsRange (N.name_of repo.now.0) closed repo.now.1 (map shown_range words.now)
+    ensures range { ExportsRange (N.name_of repo.now.0) closed repo.now.1 (map shown_range words.now)
         (W.taken sink.old) (W.taken sink.new) result }
+    ensures first { RefusalsComeFirst (N.name_of repo.now.0) (history_of repo.now.1)
+        (map shown_range words.now) result }
 {
     let (mut sent, mut set) = walked(alloc, repo, words)?;
     part(&mut sent, &mut set);

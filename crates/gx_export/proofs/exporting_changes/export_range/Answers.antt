@@ -14,7 +14,7 @@ pub write_sent-requires-clause-sent : goal.write_sent-requires-clause-sent
 write_sent-requires-clause-sent g c =
     let r = c.args.repo.now.1 in
     let vs = values_of r in
-    let w = c.in_ok-sent.ensures in
+    let w = c.in_ok-sent.ensures.marks in
     let P = is_included w.0 in
     let Q = is_excluded w.0 in
     let e = c.deref_mut.ensures.value ∙ w.2 in
@@ -27,7 +27,7 @@ pub write_sent-requires-clause-set : goal.write_sent-requires-clause-set
 write_sent-requires-clause-set g c =
     let r = c.args.repo.now.1 in
     let vs = values_of r in
-    let w = c.in_ok-sent.ensures in
+    let w = c.in_ok-sent.ensures.marks in
     let P = is_included w.0 in
     let Q = is_excluded w.0 in
     let e = c.deref_mut.ensures.value ∙ w.2 in
@@ -39,11 +39,11 @@ write_sent-requires-clause-set g c =
     let set = c.deref-2.ensures.value ∙ with_items_is c.in_ok-sent.set c.part.new.set wide ∙ either_marks vs P Q c.deref_mut.result.now c.deref_mut-2.result.now e f c.part.new.set equal c.part.ensures.set in
     (λ made. P made || Q made, set)
 
-pub returns-in_err-write_sent : goal.returns-in_err-write_sent
-returns-in_err-write_sent g c =
+pub returns-in_err-write_sent-clause-range : goal.returns-in_err-write_sent-clause-range
+returns-in_err-write_sent-clause-range g c =
     let r = c.args.repo.now.1 in
     let vs = values_of r in
-    let w = c.in_ok-sent.ensures in
+    let w = c.in_ok-sent.ensures.marks in
     let P = is_included w.0 in
     let Q = is_excluded w.0 in
     let e = c.deref_mut.ensures.value ∙ w.2 in
@@ -60,11 +60,11 @@ returns-in_err-write_sent g c =
     let stop = c.in_err-write_sent.ensures (λ made. P made && not (Q made)) (λ made. P made || Q made) sent set in
     rw (p.1, p.2) (w.0, w.1, range_sent (g.N.Namer.name_of c.args.repo.now.0) c.args.closed (history_of r) w.0 (g.W.Sink.taken c.args.sink.now) (g.W.Sink.taken c.write_sent.new.sink) (Err fault) stop)
 
-pub returns : goal.returns
-returns g c =
+pub returns-clause-range : goal.returns-clause-range
+returns-clause-range g c =
     let r = c.args.repo.now.1 in
     let vs = values_of r in
-    let w = c.in_ok-sent.ensures in
+    let w = c.in_ok-sent.ensures.marks in
     let P = is_included w.0 in
     let Q = is_excluded w.0 in
     let e = c.deref_mut.ensures.value ∙ w.2 in

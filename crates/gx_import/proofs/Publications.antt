@@ -89,13 +89,13 @@ module _ (asks : Features) (name : Kind → Bytes → Bytes) where
       replays commands last = forward old new commands n s was now last (length new.records - length old.records) count h.0 h.1.history counts (adds commands last)
 
       by : (c : Option Coming) → EndsAs asks name old c n s was now → Imports asks name old new c was now (Ok (record { commands = n; objects = length new.records - length old.records; refs = count }))
-      by None last = (only last.0, tt, replays (only last.0) last.1)
+      by None last = (only last.0, last.2, replays (only last.0) last.1)
       by (Some c) last = subst (λ o. Replays asks name old new (commands_asked_from asks c) o was now (Ok (record { commands = n; objects = length new.records - length old.records; refs = count }))) (sym (imported_is asks name (history_of old) c)) (replays (commands_asked_from asks c) last)
 
   -- one that isn't published
   pub imports_none : {A : Type 0} (old new last : Records) (tables : Tables A) (coming : Option Coming) (n : ℕ) (s : State) (was now : Option Taken) → EndsAs asks name old coming n s was now → (count : ℕ) → Leaves new count s.kept → (e : Fault) → Publishes name s last tables (Err e)
       → Imports asks name old new coming was now (Err (record { command = n + 1; kind = e; checkpoints = count }))
-  imports_none old new last tables None n s was now k count leaves e h = (only k.0, tt, not_published old new last tables (only k.0) n s was now k.1 count leaves e h)
+  imports_none old new last tables None n s was now k count leaves e h = (only k.0, k.2, not_published old new last tables (only k.0) n s was now k.1 count leaves e h)
   imports_none old new last tables (Some coming) n s was now k count leaves e h =
       subst (λ o. Replays asks name old new (commands_asked_from asks coming) o was now (Err (record { command = n + 1; kind = e; checkpoints = count }))) (sym (imported_is asks name (history_of old) coming))
       (not_published old new last tables (commands_asked_from asks coming) n s was now k count leaves e h)

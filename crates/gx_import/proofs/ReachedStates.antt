@@ -21,7 +21,8 @@ use Rattle.gx_model.proofs.Replay.GitlinkSteps.{IsFreeState, start_free, step_fr
 use Rattle.gx_model.specs.Texts.Sinks.{FailedWithin, Taken, Took, TookFront}
 use Rattle.gx_text.specs.Devices.{Coming}
 use Rattle.gx_stream.specs.Heard.{heard}
-use Rattle.gx_command.specs.Reading.{Reads, commands_asked_from}
+use Rattle.gx_command.specs.Reading.{AreOfItems, MayCome, Reads, Seen, commands_asked_from}
+use Rattle.gx_command.proofs.ExplainedCommands.{some_follow}
 use Rattle.gx_command.specs.Views.{shown_command}
 use Rattle.gx_command.specs.declared.commands.Command as read
 use Rattle.gx_command.specs.declared.fault.CommandFault.{CommandFault}
@@ -36,6 +37,7 @@ use Rattle.gx_import.proofs.Losses.{memory_forward, none_lost, none_lost_by, rea
 use Rattle.gx_import.specs.declared.explanation.Explanation.{Explanation}
 use Rattle.std.specs.Prelude.{MatchOption}
 use Rattle.gx_import.specs.Imports.{Imports, IsCutAt, Leaves, LeavesBefore, Replays, cut_off, last_number, line_of, only, progress_of, replayed_on}
+use Rattle.gx_import.specs.Reading.{GivesNext, IsAskedOf}
 use Rattle.gx_import.specs.Replaying.{EndsAs, IsLast}
 use Rattle.gx_import.specs.Objects.{IsOf, IsTagOf}
 use Rattle.gx_import.specs.Rows.{AreBoth, AreRows}
@@ -181,26 +183,30 @@ module _ (asks : Features) (name : Kind → Bytes → Bytes) where
           ]
       stopped r now_r tables e h = refused_as e h
 
--- where a replay is in the commands that a source gives, or, where it tells nothing, in those that were answered so far
+-- where a replay is in the commands that a source gives, or, where it tells nothing, in those of some items
 module _ (asks : Features) (name : Kind → Bytes → Bytes) where
-  abbrev pub IsAt : Records → Option Coming → ℕ → State → Option Commands → Option Taken → Option Taken → Type 0
-  IsAt old None n s ahead was now = (before : List Command) × HasReached asks name (history_of old) before n s was now
+  abbrev pub IsAt : Records → Option Coming → ℕ → State → Seen → Option Taken → Option Taken → Type 0
+  IsAt old None n s ahead was now =
+      (before : List Command) × HasReached asks name (history_of old) before n s was now × ((left : Commands) → MayCome ahead left → AreOfItems asks (behind before left))
   IsAt old (Some coming) n s ahead was now =
-      (before : List Command) × (left : Commands) × (ahead ≡ Some left) × (commands_asked_from asks coming ≡ behind before left) × HasReached asks name (history_of old) before n s was now
+      (before : List Command) × (left : Commands) × (ahead.commands ≡ Some left) × (commands_asked_from asks coming ≡ behind before left) × HasReached asks name (history_of old) before n s was now
 
-  pub at_start : (is_forced : Bool) (old : Records) (coming : Option Coming) (ahead : Option Commands) (was : Option Taken) → asks.force ≡ is_forced → ahead ≡ option_map (commands_asked_from asks) coming
+  pub at_start : (is_forced : Bool) (old : Records) (coming : Option Coming) (ahead : Seen) (was : Option Taken) → asks.force ≡ is_forced → IsAskedOf asks coming ahead
       → IsAt old coming 0 (starting is_forced (history_of old)) ahead was was
-  at_start is_forced old coming ahead was same e = subst (λ b. IsAt old coming 0 (starting b (history_of old)) ahead was was) same (by coming e) where
-    by : (c : Option Coming) → ahead ≡ option_map (commands_asked_from asks) c → IsAt old c 0 (begun asks (history_of old)) ahead was was
-    by None e = ([], reached_start asks name (history_of old) was)
-    by (Some c) e = ([], commands_asked_from asks c, e, refl, reached_start asks name (history_of old) was)
+  at_start is_forced old coming ahead was same e = subst (λ b. IsAt old coming 0 (starting b (history_of old)) ahead was was) same (by coming e.commands) where
+    by : (c : Option Coming) → ahead.commands ≡ option_map (commands_asked_from asks) c → IsAt old c 0 (begun asks (history_of old)) ahead was was
+    by None is = ([], reached_start asks name (history_of old) was, e.items)
+    by (Some c) is = ([], commands_asked_from asks c, is, refl, reached_start asks name (history_of old) was)
 
-  pub at_next : {A : Type 0} (old r new : Records) (tables : Tables A) (coming : Option Coming) (n : ℕ) (s : State) (c : read.Command A) (ahead later : Option Commands) (was mid now : Option Taken)
-      → IsAt old coming n s ahead was mid → Reads ahead later (Ok (Some c)) → (h : Applies name r new tables s (shown_command c) mid now (Ok tt)) → IsAt old coming (n + 1) h.0 later was now
-  at_next old r new tables None n s c ahead later was mid now k reads h =
-      (k.0 ++ shown_command c ∷ [], reached_next asks name (history_of old) k.0 n s (shown_command c) was mid now k.1 h.0 h.1 h.2 h.4.progress h.4.held h.5)
+  pub at_next : {A : Type 0} (old r new : Records) (tables : Tables A) (coming : Option Coming) (n : ℕ) (s : State) (c : read.Command A) (ahead later : Seen) (was mid now : Option Taken)
+      → IsAt old coming n s ahead was mid → GivesNext ahead later (Ok (Some c)) → (h : Applies name r new tables s (shown_command c) mid now (Ok tt)) → IsAt old coming (n + 1) h.0 later was now
+  at_next old r new tables None n s c ahead later was mid now k reads h = (
+    k.0 ++ shown_command c ∷ [],
+    reached_next asks name (history_of old) k.0 n s (shown_command c) was mid now k.1 h.0 h.1 h.2 h.4.progress h.4.held h.5,
+    λ left m. subst (AreOfItems asks) (sym (behind_next k.0 (shown_command c) left)) (k.2 (with_command (shown_command c) left) (reads.explains left m)),
+  )
   at_next {A} old r new tables (Some coming) n s c ahead later was mid now k reads h =
-      let q = subst (λ o. Reads {A = A} o later (Ok (Some c))) k.2 reads in
+      let q = subst (λ o. Reads {A = A} o later.commands (Ok (Some c))) k.2 reads.reads in
       let whole = k.3 ∙ ap (behind k.0) q.1 ∙ sym (behind_next k.0 (shown_command c) q.0) in
       (k.0 ++ shown_command c ∷ [], q.0, q.2, whole, reached_next asks name (history_of old) k.0 n s (shown_command c) was mid now k.4 h.0 h.1 h.2 h.4.progress h.4.held h.5)
 
@@ -211,25 +217,32 @@ module _ (asks : Features) (name : Kind → Bytes → Bytes) where
       subst (λ o. Replays asks name old last (commands_asked_from asks coming) o was now (Err fault)) (sym (imported_is asks name (history_of old) coming))
       (subst (λ cs. Replays asks name old last cs (replayed_on asks name old cs) was now (Err fault)) (sym e) h)
 
-  pub at_stopped : {A : Type 0} (old last r new : Records) (tables : Tables A) (coming : Option Coming) (n : ℕ) (s : State) (c : read.Command A) (ahead later : Option Commands) (was mid now : Option Taken)
-      → IsAt old coming n s ahead was mid → Reads ahead later (Ok (Some c)) → (e : Fault) → Applies name r new tables s (shown_command c) mid now (Err e)
+  pub at_stopped : {A : Type 0} (old last r new : Records) (tables : Tables A) (coming : Option Coming) (n : ℕ) (s : State) (c : read.Command A) (ahead later : Seen) (was mid now : Option Taken)
+      → IsAt old coming n s ahead was mid → GivesNext ahead later (Ok (Some c)) → (e : Fault) → Applies name r new tables s (shown_command c) mid now (Err e)
       → (count : ℕ) → Leaves last count s.kept → Imports asks name old last coming was now (Err (record { command = n + 1; kind = e; checkpoints = count }))
   at_stopped old last r new tables None n s c ahead later was mid now k reads e h count leaves =
-      let left = stops None in
-      (behind k.0 (with_command (shown_command c) left), tt, stopped asks name old last k.0 n s was mid k.1 count leaves (shown_command c) left now r new tables e h)
+      let some = some_follow later.over later.known in
+      let left = some.0 in
+      (behind k.0 (with_command (shown_command c) left), k.2 (with_command (shown_command c) left) (reads.explains left some.1), stopped asks name old last k.0 n s was mid k.1 count leaves (shown_command c) left now r new tables e h)
   at_stopped {A} old last r new tables (Some coming) n s c ahead later was mid now k reads e h count leaves =
-      let q = subst (λ o. Reads {A = A} o later (Ok (Some c))) k.2 reads in
+      let q = subst (λ o. Reads {A = A} o later.commands (Ok (Some c))) k.2 reads.reads in
       told old last coming (behind k.0 (with_command (shown_command c) q.0)) was now (record { command = n + 1; kind = e; checkpoints = count }) (k.3 ∙ ap (behind k.0) q.1)
       (stopped asks name old last k.0 n s was mid k.4 count leaves (shown_command c) q.0 now r new tables e h)
 
-  pub at_refused : (A : Type 0) (old last : Records) (coming : Option Coming) (n : ℕ) (s : State) (ahead later : Option Commands) (was now : Option Taken) → IsAt old coming n s ahead was now
-      → (f : CommandFault) → Reads {A = A} ahead later (Err f) → (count : ℕ) → Leaves last count s.kept
+  pub at_refused : (A : Type 0) (old last : Records) (coming : Option Coming) (n : ℕ) (s : State) (ahead later : Seen) (was now : Option Taken) → IsAt old coming n s ahead was now
+      → (f : CommandFault) → GivesNext {A = A} ahead later (Err f) → (count : ℕ) → Leaves last count s.kept
       → Imports asks name old last coming was now (Err (record { command = n + 1; kind = of_command f; checkpoints = count }))
   at_refused A old last None n s ahead later was now k f reads count leaves =
+      let goal : Fault → Type 0 = λ kind. Imports asks name old last None was now (Err (record { command = n + 1; kind = kind; checkpoints = count })) in
       let left = stops (Some (of_command f)) in
-      (behind k.0 left, (f, refl), fault_read asks name old last k.0 n s was now k.1 count leaves left f refl)
+      elim reads.explains as (λ _. goal (of_command f)) [
+        | inl e ↦
+            let some = some_follow ahead.over ahead.known in
+            subst (λ g. goal (of_command g)) (sym e) (behind k.0 some.0, k.2 some.0 some.1, out_of_memory asks name old last k.0 n s was now k.1 count leaves some.0)
+        | inr m ↦ (behind k.0 left, k.2 left m, fault_read asks name old last k.0 n s was now k.1 count leaves left f refl)
+      ]
   at_refused A old last (Some coming) n s ahead later was now k f reads count leaves =
-      let q = subst (λ o. Reads {A = A} o later (Err f)) k.2 reads in
+      let q = subst (λ o. Reads {A = A} o later.commands (Err f)) k.2 reads.reads in
       let goal : Fault → Type 0 = λ kind. Imports asks name old last (Some coming) was now (Err (record { command = n + 1; kind = kind; checkpoints = count })) in
       elim q.1 as (λ _. goal (of_command f)) [
         | inl e ↦
@@ -238,11 +251,12 @@ module _ (asks : Features) (name : Kind → Bytes → Bytes) where
         | inr e ↦ told old last coming (behind k.0 k.1) was now (record { command = n + 1; kind = of_command f; checkpoints = count }) k.3 (fault_read asks name old last k.0 n s was now k.4 count leaves k.1 f e)
       ]
 
-  pub at_end : (A : Type 0) (old : Records) (coming : Option Coming) (n : ℕ) (s : State) (ahead later : Option Commands) (was now : Option Taken) → IsAt old coming n s ahead was now
-      → Reads {A = A} ahead later (Ok None) → EndsAs asks name old coming n s was now
-  at_end A old None n s ahead later was now k reads = (k.0, reached_last asks name old k.0 n s was now k.1)
+  pub at_end : (A : Type 0) (old : Records) (coming : Option Coming) (n : ℕ) (s : State) (ahead later : Seen) (was now : Option Taken) → IsAt old coming n s ahead was now
+      → GivesNext {A = A} ahead later (Ok None) → EndsAs asks name old coming n s was now
+  at_end A old None n s ahead later was now k reads =
+      (k.0, reached_last asks name old k.0 n s was now k.1, subst (λ list. AreOfItems asks (only list)) (append-nil k.0) (k.2 (stops None) reads.explains))
   at_end A old (Some coming) n s ahead later was now k reads =
-      let q = subst (λ o. Reads {A = A} o later (Ok None)) k.2 reads in
+      let q = subst (λ o. Reads {A = A} o later.commands (Ok None)) k.2 reads.reads in
       let all = k.3 ∙ ap (behind k.0) q.0 in
       record {
         outcome = ap (replayed_on asks name old) all ∙ k.4.outcome (stops None);
@@ -256,13 +270,14 @@ module _ (asks : Features) (name : Kind → Bytes → Bytes) where
   -- ---- what is told of a refusal
 
   -- of a command that is refused
-  pub told_stopped : {A B : Type 0} (old : Records) (coming : Option Coming) (n : ℕ) (s : State) (c : read.Command A) (ahead later : Option Commands) (was now : Option Taken)
-      → IsAt old coming n s ahead was now → Reads ahead later (Ok (Some c)) → (e : Fault) (explanation : Explanation B) → TellsAll name {X = Unit {0}} s (shown_command c) (Err e) explanation
+  pub told_stopped : {A B : Type 0} (old : Records) (coming : Option Coming) (n : ℕ) (s : State) (c : read.Command A) (ahead later : Seen) (was now : Option Taken)
+      → IsAt old coming n s ahead was now → GivesNext ahead later (Ok (Some c)) → (e : Fault) (explanation : Explanation B) → TellsAll name {X = Unit {0}} s (shown_command c) (Err e) explanation
       → (count : ℕ) → ExplainsFault name asks old coming (record { command = n + 1; kind = e; checkpoints = count }) explanation
   told_stopped old None n s c ahead later was now k reads e explanation h count =
-      (behind k.0 (with_command (shown_command c) (stops None)), tt, record { before = k.0; after = shown_command c ∷ []; all = refl; number = sym (ap (λ m. m + 1) k.1.count); state = s; reached = k.1.reached; tells = h })
+      let some = some_follow later.over later.known in
+      (behind k.0 (with_command (shown_command c) some.0), k.2 (with_command (shown_command c) some.0) (reads.explains some.0 some.1), record { before = k.0; after = shown_command c ∷ some.0.list; all = refl; number = sym (ap (λ m. m + 1) k.1.count); state = s; reached = k.1.reached; tells = h })
   told_stopped {A} old (Some coming) n s c ahead later was now k reads e explanation h count =
-      let q = subst (λ o. Reads {A = A} o later (Ok (Some c))) k.2 reads in
+      let q = subst (λ o. Reads {A = A} o later.commands (Ok (Some c))) k.2 reads.reads in
       record { before = k.0; after = shown_command c ∷ q.0.list; all = ap (λ cs. cs.list) (k.3 ∙ ap (behind k.0) q.1); number = sym (ap (λ m. m + 1) k.4.count); state = s; reached = k.4.reached; tells = h }
 
   -- where memory ran out, nothing needs to be told of the next command
@@ -275,13 +290,19 @@ module _ (asks : Features) (name : Kind → Bytes → Bytes) where
   )
 
   -- of the reader's refusal
-  pub told_refused : (A : Type 0) {B : Type 0} (old : Records) (coming : Option Coming) (n : ℕ) (s : State) (ahead later : Option Commands) (was now : Option Taken) → IsAt old coming n s ahead was now
-      → (f : CommandFault) → Reads {A = A} ahead later (Err f) → (explanation : Explanation B) → TellsNothing explanation → (count : ℕ)
+  pub told_refused : (A : Type 0) {B : Type 0} (old : Records) (coming : Option Coming) (n : ℕ) (s : State) (ahead later : Seen) (was now : Option Taken) → IsAt old coming n s ahead was now
+      → (f : CommandFault) → GivesNext {A = A} ahead later (Err f) → (explanation : Explanation B) → TellsNothing explanation → (count : ℕ)
       → ExplainsFault name asks old coming (record { command = n + 1; kind = of_command f; checkpoints = count }) explanation
   told_refused A old None n s ahead later was now k f reads explanation blank count =
-      (behind k.0 (stops (Some (of_command f))), (f, refl), record { before = k.0; after = []; all = refl; number = sym (ap (λ m. m + 1) k.1.count); state = s; reached = k.1.reached; tells = (blank.change, none_lost name s (of_command f) explanation.loss blank.loss (read_forward f), blank.asked) })
+      elim reads.explains as (λ _. ExplainsFault name asks old None (record { command = n + 1; kind = of_command f; checkpoints = count }) explanation) [
+        | inl e ↦
+            let some = some_follow ahead.over ahead.known in
+            let memory : OutOfMemory ≡ of_command f = sym (ap of_command e) in
+            (behind k.0 some.0, k.2 some.0 some.1, record { before = k.0; after = some.0.list; all = refl; number = sym (ap (λ m. m + 1) k.1.count); state = s; reached = k.1.reached; tells = subst (λ g. TellsNext name s some.0.list g explanation) memory (memory_told s some.0.list explanation blank) })
+        | inr m ↦ (behind k.0 (stops (Some (of_command f))), k.2 (stops (Some (of_command f))) m, record { before = k.0; after = []; all = refl; number = sym (ap (λ m. m + 1) k.1.count); state = s; reached = k.1.reached; tells = (blank.change, none_lost name s (of_command f) explanation.loss blank.loss (read_forward f), blank.asked) })
+      ]
   told_refused A old (Some coming) n s ahead later was now k f reads explanation blank count =
-      let q = subst (λ o. Reads {A = A} o later (Err f)) k.2 reads in
+      let q = subst (λ o. Reads {A = A} o later.commands (Err f)) k.2 reads.reads in
       elim q.1 as (λ _. ExplainsFault name asks old (Some coming) (record { command = n + 1; kind = of_command f; checkpoints = count }) explanation) [
         | inl e ↦
             let memory : OutOfMemory ≡ of_command f = sym (ap of_command e) in
@@ -293,7 +314,7 @@ module _ (asks : Features) (name : Kind → Bytes → Bytes) where
   pub told_last : {B : Type 0} (old : Records) (coming : Option Coming) (n : ℕ) (s : State) (was now : Option Taken) → EndsAs asks name old coming n s was now → (kind : Fault) (explanation : Explanation B) → (explanation.change ≡ None) × TellsLoss name s kind explanation.loss × (explanation.asked ≡ None) → (count : ℕ)
       → ExplainsFault name asks old coming (record { command = n + 1; kind = kind; checkpoints = count }) explanation
   told_last old None n s was now k kind explanation blank count =
-      (only k.0, tt, record { before = k.0; after = []; all = sym (append-nil k.0); number = sym (ap (λ m. m + 1) k.1.count); state = s; reached = k.1.reached; tells = blank })
+      (only k.0, k.2, record { before = k.0; after = []; all = sym (append-nil k.0); number = sym (ap (λ m. m + 1) k.1.count); state = s; reached = k.1.reached; tells = blank })
   told_last old (Some coming) n s was now k kind explanation blank count =
       record { before = (commands_asked_from asks coming).list; after = []; all = sym (append-nil (commands_asked_from asks coming).list); number = sym (ap (λ m. m + 1) k.count); state = s; reached = k.reached; tells = blank }
 

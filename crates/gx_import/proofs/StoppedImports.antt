@@ -17,7 +17,8 @@ use Rattle.gx_model.specs.Streams.Commands.{Asks, Blob, Checkpoint, Command, Don
 use Rattle.gx_text.specs.Devices.{Coming}
 use Rattle.gx_command.specs.Reading.{commands_asked_from}
 use Rattle.gx_import.specs.Imports.{Imports, LeavesBefore}
-use Rattle.gx_import.specs.Stopping.{IsCutShort, StopsReplay, checkpoints_in, is_checkpoint}
+use Rattle.gx_model.specs.Laws.RefusedReplays.{checkpoints_in, is_checkpoint}
+use Rattle.gx_import.specs.Stopping.{IsCutShort, StopsReplay}
 use Rattle.gx_import.specs.declared.fault.ImportFault.{ImportFault}
 use Rattle.gx_import.proofs.KeptCheckpoints.{given_checkpoint}
 use Rattle.gx_import.proofs.NoClashes.{none_clashes}

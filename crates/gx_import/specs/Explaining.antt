@@ -1,7 +1,6 @@
 -- What the explanation of a refusal tells: which change of a commit is refused, what was asked for in vain, or which ref would
 -- lose a commit. Source: git-fast-import(1), "from", "merge", "filemodify" to "filedeleteall", and "force".
 use Rattle.std.specs.Prelude.{◌≡◌, ◌⊎◌, ℕ, ◌+◌, Bool, List, [], ◌∷◌, ◌++◌, length, Option, Some, None, Result, Ok, Err, MatchOption}
-use Rattle.std.specs.Option.{option_map}
 use Rattle.gx_model.specs.declared.objects.Kind.{Kind}
 use Rattle.gx_model.specs.declared.faults.Fault.{Fault}
 use Rattle.gx_model.specs.declared.faults.Fault.TheVariants.{NameHeld, OutOfMemory}
@@ -17,12 +16,12 @@ use Rattle.gx_model.specs.Streams.Commands.{Change, Clear, Command, CommitParts,
 use Rattle.gx_model.specs.Replay.{State, all_changed, all_committed, begun, changed, first_parent, starting_files}
 use Rattle.gx_model.specs.Laws.ExportLaws.{steps}
 use Rattle.gx_text.specs.Devices.{Coming}
-use Rattle.gx_command.specs.Reading.{commands_asked_from}
+use Rattle.gx_command.specs.Reading.{AreOfItems, Seen, commands_asked_from}
 use Rattle.gx_repo.specs.Repositories.{Repository}
 use Rattle.gx_import.specs.Additions.{Clash, blob_added}
 use Rattle.gx_import.specs.Asking.{AsksInVain, TellsVain}
-use Rattle.gx_import.specs.Imports.{AreRead}
 use Rattle.gx_import.specs.Losing.{TellsLoss, TellsLossBy}
+use Rattle.gx_import.specs.Reading.{IsAskedOf}
 use Rattle.gx_import.specs.declared.explanation.Explanation.{Explanation}
 use Rattle.gx_import.specs.declared.fault.ImportFault.{ImportFault}
 
@@ -114,10 +113,9 @@ module _ (name : Kind → Bytes → Bytes) where
     pub reached : steps name (begun asks (history_of old)) before ≡ Ok state
     pub tells : TellsNext state after fault.kind told
 
-  -- What is told of the commands that the source gives. Where it tells nothing, there are commands that a reader gives, and
-  -- it is told of them.
+  -- What is told of the commands that the source gives. Where it tells nothing, there are items, and it is told of their commands.
   abbrev pub ExplainsFault : {A : Type 0} → Features → Records → Option Coming → ImportFault → Explanation A → Type 0
-  ExplainsFault asks old None fault told = (commands : Commands) × AreRead commands × Explains asks old commands.list fault told
+  ExplainsFault asks old None fault told = (commands : Commands) × AreOfItems asks commands × Explains asks old commands.list fault told
   ExplainsFault asks old (Some coming) fault told = Explains asks old (commands_asked_from asks coming).list fault told
 
   -- an import that is accepted tells nothing
@@ -132,7 +130,6 @@ module _ {N : Type 0} (names : N → Kind → Bytes → Bytes) {X A : Type 0} wh
 
   -- The same over each source whose commands a reader has before it gives any, and with each features that ask for these and
   -- let branches lose commits just where the tables do at the start.
-  abbrev pub ExplainsRead : Repository N → Bool → Option Commands → Result X ImportFault → Explanation A → Type 0
-  ExplainsRead old is_forced commands answer told =
-      (asks : Features) (coming : Option Coming) → asks.force ≡ is_forced → commands ≡ option_map (commands_asked_from asks) coming
-      → ExplainsAsked asks old coming answer told
+  abbrev pub ExplainsRead : Repository N → Bool → Seen → Result X ImportFault → Explanation A → Type 0
+  ExplainsRead old is_forced reader answer told =
+      (asks : Features) (coming : Option Coming) → asks.force ≡ is_forced → IsAskedOf asks coming reader → ExplainsAsked asks old coming answer told

@@ -1,6 +1,6 @@
 -- What the import of an export's text makes of an empty repository.
 -- Source: git-fast-export(1) and git-fast-import(1).
-use Rattle.std.specs.Prelude.{◌≡◌, ◌⊎◌, Option, Some, None, Result, Ok, Err, false, ⊤}
+use Rattle.std.specs.Prelude.{◌≡◌, ◌⊎◌, ◌+◌, length, Option, Some, None, Result, Ok, Err, false, ⊤}
 use Rattle.std.specs.List.{AllByRecursion}
 use Rattle.gx_model.specs.declared.objects.Kind.{Kind}
 use Rattle.gx_model.specs.Texts.{Bytes}
@@ -10,12 +10,12 @@ use Rattle.gx_model.specs.Records.Sound.{AnyByRecursion, IsSound}
 use Rattle.gx_model.specs.Export.{export_text}
 use Rattle.gx_model.specs.declared.features.Features.{Features}
 use Rattle.gx_model.specs.Laws.ExportLaws.{HasNoNullGitlink, IsAgain}
-use Rattle.gx_model.specs.Streams.Gitlinks.{HoldsNoNullGitlink}
+use Rattle.gx_model.specs.Streams.Gitlinks.{HoldsNoNullGitlink, commands_before_null}
 use Rattle.gx_text.specs.Devices.{Coming}
 use Rattle.gx_stream.specs.Heard.{heard}
 use Rattle.gx_repo.specs.Repositories.{Repository}
 use Rattle.gx_import.specs.declared.fault.ImportFault.{ImportFault}
-use Rattle.gx_model.specs.declared.faults.Fault.TheVariants.{NameHeld, OutOfMemory, Unsupported, WriteFailed}
+use Rattle.gx_model.specs.declared.faults.Fault.TheVariants.{OutOfMemory, Unsupported, WriteFailed}
 use Rattle.gx_import.specs.declared.report.Report.{Report}
 
 -- where no commit had a gitlink of forty zeros, none has one
@@ -54,16 +54,19 @@ ImportsExport name old new None result = ⊤
 ImportsExport name old new (Some coming) result =
     (exported : Records) → IsSound name exported → HasNoNullGitlink (history_of exported) → GivesExport exported coming → old ≡ empty_repository → ExportedOr exported new result
 
--- refused as not supported, or memory ran out, the sink of progress texts failed, or a value had the name of another one
-abbrev pub UnsupportedOr : Result Report ImportFault → Type 0
-UnsupportedOr (Ok report) = ⊥
-UnsupportedOr (Err fault) = (fault.kind ≡ Unsupported) ⊎ ((fault.kind ≡ OutOfMemory) ⊎ ((fault.kind ≡ WriteFailed) ⊎ (fault.kind ≡ NameHeld)))
+-- The first command of the exported history that brings a gitlink of forty zeros is refused as not supported, or memory ran out, or
+-- the sink of progress texts failed.
+abbrev pub UnsupportedOr : Records → Result Report ImportFault → Type 0
+UnsupportedOr exported (Ok report) = ⊥
+UnsupportedOr exported (Err fault) =
+    ((fault.kind ≡ Unsupported) × (fault.command ≡ length (commands_before_null (history_of exported)) + 1))
+    ⊎ ((fault.kind ≡ OutOfMemory) ⊎ (fault.kind ≡ WriteFailed))
 
 -- Where refs of a sound repository under this namer reach a gitlink of forty zeros, an empty one refuses its export.
 abbrev pub RefusesItsExport : (Kind → Bytes → Bytes) → Records → Option Coming → Result Report ImportFault → Type 0
 RefusesItsExport name old None result = ⊤
 RefusesItsExport name old (Some coming) result =
-    (exported : Records) → IsSound name exported → (HasNoNullGitlink (history_of exported) → ⊥) → GivesExport exported coming → old ≡ empty_repository → UnsupportedOr result
+    (exported : Records) → IsSound name exported → (HasNoNullGitlink (history_of exported) → ⊥) → GivesExport exported coming → old ≡ empty_repository → UnsupportedOr exported result
 
 module _ {N : Type 0} (names : N → Kind → Bytes → Bytes) where
   -- an empty repository imports the export of any sound one whose refs reach no gitlink of forty zeros

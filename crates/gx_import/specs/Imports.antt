@@ -1,6 +1,6 @@
 -- What an import answers, and what it makes of the repository and the sink.
 -- Source: git-fast-import(1).
-use Rattle.std.specs.Prelude.{◌≡◌, ◌⊎◌, ℕ, ◌+◌, ◌≤◌, List, [], ◌∷◌, ◌++◌, length, codes, Option, Some, None, Result, Ok, Err, IfSome}
+use Rattle.std.specs.Prelude.{◌≡◌, ◌⊎◌, ℕ, ◌+◌, ◌≤◌, List, [], ◌∷◌, ◌++◌, length, codes, Option, Some, None, Result, Ok, Err}
 use Rattle.gx_model.specs.declared.objects.Kind.{Kind}
 use Rattle.gx_model.specs.declared.faults.Fault.TheVariants as model_fault
 use Rattle.gx_model.specs.Texts.{Bytes}
@@ -14,9 +14,7 @@ use Rattle.gx_model.specs.Replay.{Kept, Outcome, finished, begun, refused, impor
 use Rattle.gx_model.specs.Texts.Sinks.{FailedWithin, Taken, Took, TookFront}
 use Rattle.gx_text.specs.Devices.{Coming}
 use Rattle.gx_stream.specs.Heard.{heard}
-use Rattle.gx_command.specs.CommandFaults as reader
-use Rattle.gx_command.specs.Reading.{commands_asked_from}
-use Rattle.gx_command.specs.declared.fault.CommandFault.{CommandFault}
+use Rattle.gx_command.specs.Reading.{AreOfItems, commands_asked_from}
 use Rattle.gx_repo.specs.Repositories.{Repository}
 use Rattle.gx_import.specs.Additions.{ClashesAt}
 use Rattle.gx_import.specs.declared.fault.ImportFault.{ImportFault}
@@ -36,10 +34,6 @@ last_number (refused number fault text kept) = number
 -- a report as the model has it
 abbrev pub report_of : Report → model.Report
 report_of report = record { commands = report.commands; objects = report.objects; refs = report.refs }
-
--- commands that a reader gives: where a fault ends them, it is one of a reader's
-abbrev pub AreRead : Commands → Type 0
-AreRead commands = IfSome commands.fault (λ fault. (why : CommandFault) × (fault ≡ reader.fault_of why))
 
 -- these commands alone, with no fault behind them
 abbrev pub only : List Command → Commands
@@ -105,15 +99,15 @@ module _ (asks : Features) (name : Kind → Bytes → Bytes) where
       ⊎ Interrupts old new commands outcome was now fault
 
   -- What an import does where the source tells its bytes is what the replay of their commands gives. Where it tells nothing,
-  -- there are commands that a reader gives, and what the import does is what their replay gives.
+  -- there are items, and what the import does is what the replay of their commands gives.
   abbrev pub Imports : Records → Records → Option Coming → Option Taken → Option Taken → Result Report ImportFault → Type 0
-  Imports old new None was now result = (commands : Commands) × AreRead commands × Replays old new commands (replayed_on old commands) was now result
+  Imports old new None was now result = (commands : Commands) × AreOfItems asks commands × Replays old new commands (replayed_on old commands) was now result
   Imports old new (Some coming) was now result =
       Replays old new (commands_asked_from asks coming) (imported_asked asks name (history_of old) (heard coming).bytes (heard coming).fails) was now result
 
   -- the new repository stands for the history that the replay of what the source gives makes of the old one's
   abbrev pub StandsForReplay : Records → Records → Option Coming → Type 0
-  StandsForReplay old new None = (commands : Commands) × AreRead commands × StandsForIts name (replayed_on old commands) new
+  StandsForReplay old new None = (commands : Commands) × AreOfItems asks commands × StandsForIts name (replayed_on old commands) new
   StandsForReplay old new (Some coming) = StandsForIts name (imported_asked asks name (history_of old) (heard coming).bytes (heard coming).fails) new
 
 -- the new repository stands for the history of that replay

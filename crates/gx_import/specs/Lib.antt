@@ -12,6 +12,7 @@ pub mod RefChanges
 pub mod Publishing
 pub mod Imports
 pub mod Losing
+pub mod Reading
 pub mod Asking
 pub mod Explaining
 pub mod Telling

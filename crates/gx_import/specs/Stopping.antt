@@ -1,31 +1,22 @@
 -- What stops an import of commands that their replay accepts.
 -- Source: git-fast-import(1).
-use Rattle.std.specs.Prelude.{◌≡◌, ◌⊎◌, ◌-◌, ℕ, Bool, true, false, List, length, take, Option, Some, None, ⊤}
-use Rattle.std.specs.List.{filter}
+use Rattle.std.specs.Prelude.{◌≡◌, ◌⊎◌, ◌-◌, List, length, take, Option, Some, None, ⊤}
 use Rattle.gx_model.specs.declared.objects.Kind.{Kind}
 use Rattle.gx_model.specs.declared.faults.Fault.TheVariants.{OutOfMemory, WriteFailed}
 use Rattle.gx_model.specs.declared.features.Features.{Features}
 use Rattle.gx_model.specs.Texts.{Bytes}
 use Rattle.gx_model.specs.Histories.{History, Records}
 use Rattle.gx_model.specs.Laws.RangeLaws.{AreToldByName}
+use Rattle.gx_model.specs.Laws.RefusedReplays.{checkpoints_in}
 use Rattle.gx_model.specs.Records.HistoryOf.{history_of}
 use Rattle.gx_model.specs.Replay as model
 use Rattle.gx_model.specs.Replay.{finished, imported_asked}
-use Rattle.gx_model.specs.Streams.Commands.{Checkpoint, Command, no_features}
+use Rattle.gx_model.specs.Streams.Commands.{Command, no_features}
 use Rattle.gx_text.specs.Devices.{Coming}
 use Rattle.gx_stream.specs.Heard.{heard}
 use Rattle.gx_command.specs.Reading.{commands_asked_from}
 use Rattle.gx_repo.specs.Repositories.{Repository}
 use Rattle.gx_import.specs.declared.fault.ImportFault.{ImportFault}
-
--- whether a command asks for a checkpoint
-abbrev pub is_checkpoint : Command → Bool
-is_checkpoint Checkpoint = true
-is_checkpoint _ = false
-
--- how many of these commands ask for a checkpoint
-abbrev pub checkpoints_in : List Command → ℕ
-checkpoints_in commands = length (filter is_checkpoint commands)
 
 -- memory ran out, or the sink of progress texts failed, after as many checkpoints as the commands before it ask for
 abbrev pub IsCutShort : List Command → ImportFault → Type 0

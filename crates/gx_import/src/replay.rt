@@ -46,9 +46,8 @@ pub(crate) fn replay_commands<N: Namer, A: Allocator + Copy, R: Source, W: Sink>
     ensures extends { Extends repo.old.1.records repo.new.1.records }
     ensures count { IfOk result (λ commands. commands ≤ 2 ^ 63 - 1) }
     ensures replayed { ReplaysRead N.name_of W.taken repo.old repo.new tables.old.is_forced tables.new
-        checkpoints.new reader.old.commands sink.old sink.new result }
-    ensures explained { ExplainsRead N.name_of repo.old tables.old.is_forced reader.old.commands result
-        told.new }
+        checkpoints.new reader.old sink.old sink.new result }
+    ensures explained { ExplainsRead N.name_of repo.old tables.old.is_forced reader.old result told.new }
     ensures left { IsLeft repo.old.1 repo.new.1 checkpoints.new }
     ensures counted { IfErr result (λ fault. fault.checkpoints ≡ checkpoints.new.count) }
     ensures gitlinks { OnOk result (MakesNoNullGitlink repo.old.1 repo.new.1) }
@@ -76,7 +75,7 @@ fn next_command<R: Source, A: Allocator + Copy>(
     checkpoints: u64,
 ) -> Result<Option<Command<A>>, ImportFault>
     requires room { commands < 2 ^ 64 - 1 }
-    ensures reads { ReadsNext commands checkpoints reader.old.commands reader.new.commands result }
+    ensures reads { ReadsNext commands checkpoints reader.old reader.new result }
     ensures falls { FallsNext reader.old.most reader.new.most result }
     ensures gitlinks { ReadsNoNullGitlink result }
 {

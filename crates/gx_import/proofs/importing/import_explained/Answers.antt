@@ -70,7 +70,7 @@ returns-in-Ok-clause-nulls g c = λ leaves.
     let coming = g.R.Source.coming c.args.source in
     let was = g.W.Sink.taken c.args.sink.now in
     let now = g.W.Sink.taken c.replay_into.new.sink in
-    null_refused name (c.histories_of_records.ensures name (g.met.N.Namer.is_namer c.args.repo.now.0)) c.nulls_are_refused.ensures c.features_are_asked.ensures.exports c.args.features leaves c.args.repo.now.1 new coming was now (Ok c.in-Ok.report)
+    null_refused name (c.histories_of_records.ensures name (g.met.N.Namer.is_namer c.args.repo.now.0)) (c.names_tell_values.ensures name (g.met.N.Namer.is_namer c.args.repo.now.0)) c.nulls_are_refused.ensures.commands c.nulls_are_refused.ensures.refused c.nulls_are_refused.ensures.before c.features_are_asked.ensures.exports c.args.features leaves c.args.repo.now.1 new coming was now (Ok c.in-Ok.report)
     c.in-Ok.ensures.replayed
 
 pub returns-clause-nulls : goal.returns-clause-nulls
@@ -80,7 +80,7 @@ returns-clause-nulls g c = λ leaves.
     let coming = g.R.Source.coming c.args.source in
     let was = g.W.Sink.taken c.args.sink.now in
     let now = g.W.Sink.taken c.replay_into.new.sink in
-    null_refused name (c.histories_of_records.ensures name (g.met.N.Namer.is_namer c.args.repo.now.0)) c.nulls_are_refused.ensures c.features_are_asked.ensures.exports c.args.features leaves c.args.repo.now.1 last coming was now (Err c.in-Err.fault)
+    null_refused name (c.histories_of_records.ensures name (g.met.N.Namer.is_namer c.args.repo.now.0)) (c.names_tell_values.ensures name (g.met.N.Namer.is_namer c.args.repo.now.0)) c.nulls_are_refused.ensures.commands c.nulls_are_refused.ensures.refused c.nulls_are_refused.ensures.before c.features_are_asked.ensures.exports c.args.features leaves c.args.repo.now.1 last coming was now (Err c.in-Err.fault)
     c.in-Err.ensures.replayed
 
 pub returns-in-Ok-clause-extends : goal.returns-in-Ok-clause-extends

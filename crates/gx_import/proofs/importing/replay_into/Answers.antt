@@ -19,12 +19,12 @@ replay_commands-requires g c = record { blank = c.requires.blank; empty = c.requ
 
 pub publish-requires : goal.publish-requires
 publish-requires g c =
-    let k = c.in_ok-commands.ensures.replayed c.args.features (g.R.Source.coming c.args.source) (sym c.requires.forced) c.asking-reader.ensures.commands in
-    record { blank = (c.in_ok-commands.ensures.explained c.args.features (g.R.Source.coming c.args.source) (sym c.requires.forced) c.asking-reader.ensures.commands).loss; stands = (k.0, subst (λ n. Stands (g.N.Namer.name_of n) c.replay_commands.new.repo.1 c.replay_commands.new.tables k.0) {y = c.replay_commands.new.repo.0} (sym {a = c.replay_commands.new.repo.0} c.replay_commands.ensures.namer) k.1) }
+    let k = c.in_ok-commands.ensures.replayed c.args.features (g.R.Source.coming c.args.source) (sym c.requires.forced) (record { commands = c.asking-reader.ensures.commands; items = c.asking-reader.ensures.explains }) in
+    record { blank = (c.in_ok-commands.ensures.explained c.args.features (g.R.Source.coming c.args.source) (sym c.requires.forced) (record { commands = c.asking-reader.ensures.commands; items = c.asking-reader.ensures.explains })).loss; stands = (k.0, subst (λ n. Stands (g.N.Namer.name_of n) c.replay_commands.new.repo.1 c.replay_commands.new.tables k.0) {y = c.replay_commands.new.repo.0} (sym {a = c.replay_commands.new.repo.0} c.replay_commands.ensures.namer) k.1) }
 
 pub returns-in-Err-clause-replayed : goal.returns-in-Err-clause-replayed
 returns-in-Err-clause-replayed g c =
-    let k = c.in_ok-commands.ensures.replayed c.args.features (g.R.Source.coming c.args.source) (sym c.requires.forced) c.asking-reader.ensures.commands in
+    let k = c.in_ok-commands.ensures.replayed c.args.features (g.R.Source.coming c.args.source) (sym c.requires.forced) (record { commands = c.asking-reader.ensures.commands; items = c.asking-reader.ensures.explains }) in
     let stands = subst (λ n. Stands (g.N.Namer.name_of n) c.replay_commands.new.repo.1 c.replay_commands.new.tables k.0) {y = c.replay_commands.new.repo.0} (sym {a = c.replay_commands.new.repo.0} c.replay_commands.ensures.namer) k.1 in
     let left = left_of c.replay_commands.new.checkpoints c.publish.new.repo.1 in
     let leaves = subst (λ (r : g.row.N.Denot × Records). Leaves (left_of c.replay_commands.new.checkpoints r.1) c.replay_commands.new.checkpoints.count k.0.kept) (sym c.in-Err.ensures.unchanged) k.2 in
@@ -45,7 +45,7 @@ returns-in-Err-clause-gitlinks g c = λ none.
 
 pub returns-clause-replayed : goal.returns-clause-replayed
 returns-clause-replayed g c =
-    let k = c.in_ok-commands.ensures.replayed c.args.features (g.R.Source.coming c.args.source) (sym c.requires.forced) c.asking-reader.ensures.commands in
+    let k = c.in_ok-commands.ensures.replayed c.args.features (g.R.Source.coming c.args.source) (sym c.requires.forced) (record { commands = c.asking-reader.ensures.commands; items = c.asking-reader.ensures.explains }) in
     let name = g.N.Namer.name_of c.args.repo.now.0 in
     let old = c.args.repo.now.1 in
     let new = c.publish.new.repo.1 in
@@ -77,26 +77,26 @@ returns-clause-gitlinks g c = λ none.
 pub returns-in_err-commands-clause-replayed : goal.returns-in_err-commands-clause-replayed
 returns-in_err-commands-clause-replayed g c =
     let p = err_from_is_err_and c.from_residual.result c.from_residual.ensures.1 in
-    rw (p.1, p.2) (c.in_err-commands.ensures.replayed c.args.features (g.R.Source.coming c.args.source) (sym c.requires.forced) c.asking-reader.ensures.commands)
+    rw (p.1, p.2) (c.in_err-commands.ensures.replayed c.args.features (g.R.Source.coming c.args.source) (sym c.requires.forced) (record { commands = c.asking-reader.ensures.commands; items = c.asking-reader.ensures.explains }))
 
 -- ---- what is told
 
 pub returns-in_err-commands-clause-explained : goal.returns-in_err-commands-clause-explained
 returns-in_err-commands-clause-explained g c =
     let p = err_from_is_err_and c.from_residual.result c.from_residual.ensures.1 in
-    rw (p.1, p.2) (c.in_err-commands.ensures.explained c.args.features (g.R.Source.coming c.args.source) (sym c.requires.forced) c.asking-reader.ensures.commands)
+    rw (p.1, p.2) (c.in_err-commands.ensures.explained c.args.features (g.R.Source.coming c.args.source) (sym c.requires.forced) (record { commands = c.asking-reader.ensures.commands; items = c.asking-reader.ensures.explains }))
 
 pub returns-in-Err-clause-explained : goal.returns-in-Err-clause-explained
 returns-in-Err-clause-explained g c =
-    let k = c.in_ok-commands.ensures.replayed c.args.features (g.R.Source.coming c.args.source) (sym c.requires.forced) c.asking-reader.ensures.commands in
+    let k = c.in_ok-commands.ensures.replayed c.args.features (g.R.Source.coming c.args.source) (sym c.requires.forced) (record { commands = c.asking-reader.ensures.commands; items = c.asking-reader.ensures.explains }) in
     let stands = subst (λ n. Stands (g.N.Namer.name_of n) c.replay_commands.new.repo.1 c.replay_commands.new.tables k.0) {y = c.replay_commands.new.repo.0} (sym {a = c.replay_commands.new.repo.0} c.replay_commands.ensures.namer) k.1 in
     let told : Explanation g.row.A.Denot = record { change = c.replay_commands.new.told.change; path = c.replay_commands.new.told.path; asked = c.replay_commands.new.told.asked; loss = c.publish.new.loss } in
     let loss = subst (λ n. TellsLoss (g.N.Namer.name_of n) k.0 c.in-Err.kind c.publish.new.loss) {y = c.args.repo.now.0} c.replay_commands.ensures.namer (c.in-Err.ensures.loss k.0 stands) in
-    told_last c.args.features (g.N.Namer.name_of c.args.repo.now.0) c.args.repo.now.1 (g.R.Source.coming c.args.source) c.in_ok-commands.commands k.0 (g.W.Sink.taken c.args.sink.now) (g.W.Sink.taken c.replay_commands.new.sink) k.3 c.in-Err.kind told ((c.in_ok-commands.ensures.explained c.args.features (g.R.Source.coming c.args.source) (sym c.requires.forced) c.asking-reader.ensures.commands).change, loss, (c.in_ok-commands.ensures.explained c.args.features (g.R.Source.coming c.args.source) (sym c.requires.forced) c.asking-reader.ensures.commands).asked)
+    told_last c.args.features (g.N.Namer.name_of c.args.repo.now.0) c.args.repo.now.1 (g.R.Source.coming c.args.source) c.in_ok-commands.commands k.0 (g.W.Sink.taken c.args.sink.now) (g.W.Sink.taken c.replay_commands.new.sink) k.3 c.in-Err.kind told ((c.in_ok-commands.ensures.explained c.args.features (g.R.Source.coming c.args.source) (sym c.requires.forced) (record { commands = c.asking-reader.ensures.commands; items = c.asking-reader.ensures.explains })).change, loss, (c.in_ok-commands.ensures.explained c.args.features (g.R.Source.coming c.args.source) (sym c.requires.forced) (record { commands = c.asking-reader.ensures.commands; items = c.asking-reader.ensures.explains })).asked)
     c.replay_commands.new.checkpoints.count
 
 pub returns-clause-explained : goal.returns-clause-explained
 returns-clause-explained g c =
-    let k = c.in_ok-commands.ensures.replayed c.args.features (g.R.Source.coming c.args.source) (sym c.requires.forced) c.asking-reader.ensures.commands in
+    let k = c.in_ok-commands.ensures.replayed c.args.features (g.R.Source.coming c.args.source) (sym c.requires.forced) (record { commands = c.asking-reader.ensures.commands; items = c.asking-reader.ensures.explains }) in
     let stands = subst (λ n. Stands (g.N.Namer.name_of n) c.replay_commands.new.repo.1 c.replay_commands.new.tables k.0) {y = c.replay_commands.new.repo.0} (sym {a = c.replay_commands.new.repo.0} c.replay_commands.ensures.namer) k.1 in
-    record { change = (c.in_ok-commands.ensures.explained c.args.features (g.R.Source.coming c.args.source) (sym c.requires.forced) c.asking-reader.ensures.commands).change; asked = (c.in_ok-commands.ensures.explained c.args.features (g.R.Source.coming c.args.source) (sym c.requires.forced) c.asking-reader.ensures.commands).asked; loss = c.in_default.ensures.loss k.0 stands }
+    record { change = (c.in_ok-commands.ensures.explained c.args.features (g.R.Source.coming c.args.source) (sym c.requires.forced) (record { commands = c.asking-reader.ensures.commands; items = c.asking-reader.ensures.explains })).change; asked = (c.in_ok-commands.ensures.explained c.args.features (g.R.Source.coming c.args.source) (sym c.requires.forced) (record { commands = c.asking-reader.ensures.commands; items = c.asking-reader.ensures.explains })).asked; loss = c.in_default.ensures.loss k.0 stands }

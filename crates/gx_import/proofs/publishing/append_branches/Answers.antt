@@ -30,7 +30,7 @@ loop-name-init g c =
 
 pub append_branch-requires-clause-target : goal.append_branch-requires-clause-target
 append_branch-requires-clause-target g c =
-    found_target c.args.repo.now.1 c.as_slice.result.now (g.N.Namer.name_of c.args.repo.now.0) c.sound.ensures c.ref_near-next.result.1 c.ref_near-next.ensures
+    found_target c.args.repo.now.1 c.as_slice.result.now (g.N.Namer.name_of c.args.repo.now.0) c.sound.ensures c.ref_near-next.result.1 c.ref_near-next.ensures.object
 
 pub append_branch-requires-clause-commit : goal.append_branch-requires-clause-commit
 append_branch-requires-clause-commit g c =
@@ -49,14 +49,14 @@ returns-then-not-branch-clause-forward g c = λ s h.
     let row : Bytes × Tip g.row.A.Denot = (c.in-Some.name.now.items, c.in-Some.tip.now) in
     let others = map row_of c.next.new.self in
     let asked = first_asked name s row others left in
-    let held = c.ref_near-next.ensures ∙ ap (λ n. lookup (same_bytes n) r.refs) c.as_slice.ensures.value in
+    let held = c.ref_near-next.ensures.object ∙ ap (λ n. lookup (same_bytes n) r.refs) c.as_slice.ensures.value in
     let is = c.in_ok-append_branch.ensures.forward asked.made (subst (λ (z : History). AreBoth (IsCommitOf name z.values) asked.made c.in-Some.tip.now.commit) (sym h.history) asked.is_made) in
     sym (not_forward name s row others asked (movable_is r row.0 s h.history c.args.tables.now.is_forced h.forced c.ref_near-next.result.1 held asked.made ∙ sym is ∙ c.if-not-branch.true))
 
 -- the same is asked of the branch that isn't forward
 pub loss_of-requires-clause-target : goal.loss_of-requires-clause-target
 loss_of-requires-clause-target g c =
-    found_target c.args.repo.now.1 c.as_slice.result.now (g.N.Namer.name_of c.args.repo.now.0) c.sound.ensures c.ref_near-next.result.1 c.ref_near-next.ensures
+    found_target c.args.repo.now.1 c.as_slice.result.now (g.N.Namer.name_of c.args.repo.now.0) c.sound.ensures c.ref_near-next.result.1 c.ref_near-next.ensures.object
 
 pub loss_of-requires-clause-commit : goal.loss_of-requires-clause-commit
 loss_of-requires-clause-commit g c =
@@ -75,7 +75,7 @@ returns-then-not-branch-clause-loss g c = λ s h.
     let row : Bytes × Tip g.row.A.Denot = (c.in-Some.name.now.items, c.in-Some.tip.now) in
     let asked = first_asked name s row (map row_of c.next.new.self) left in
     let object = c.ref_near-next.result.1 in
-    let held = c.ref_near-next.ensures ∙ ap (λ n. lookup (same_bytes n) r.refs) c.as_slice.ensures.value in
+    let held = c.ref_near-next.ensures.object ∙ ap (λ n. lookup (same_bytes n) r.refs) c.as_slice.ensures.value in
     let both = subst (λ (z : History). AreBoth (IsCommitOf name z.values) asked.made c.in-Some.tip.now.commit) (sym h.history) asked.is_made in
     let fails = sym (c.in_ok-append_branch.ensures.forward asked.made both) ∙ c.if-not-branch.true in
     let forward = is_forward (option_map (target_of r) object) asked.made in
@@ -94,8 +94,8 @@ loop-name-preserved g c =
     let now = map shown_update c.append_branch.new.changes.items in
     let row : Bytes × Tip g.row.A.Denot = (c.in-Some.name.now.items, c.in-Some.tip.now) in
     let others = map row_of c.next.new.self in
-    let near = c.ref_near-next.ensures ∙ ap (λ n. lookup (same_bytes n) r.refs) (c.as_slice.ensures.value ∙ sym c.as_slice-in-loop-name.ensures.value) in
-    let held = c.ref_near-next.ensures ∙ ap (λ n. lookup (same_bytes n) r.refs) c.as_slice.ensures.value in (
+    let near = c.ref_near-next.ensures.object ∙ ap (λ n. lookup (same_bytes n) r.refs) (c.as_slice.ensures.value ∙ sym c.as_slice-in-loop-name.ensures.value) in
+    let held = c.ref_near-next.ensures.object ∙ ap (λ n. lookup (same_bytes n) r.refs) c.as_slice.ensures.value in (
       one_appended (is_moved r.refs) was now row.0 row.1.commit (branch_changes others)
           (subst (λ n. now ≡ was ++ filter (is_moved r.refs) (branch_then n row.1.commit [])) c.as_slice-in-loop-name.ensures.value (c.in_ok-append_branch.ensures.appended r.refs near c.if-not-branch.false))
           ∙ sym (ap (λ rows. was ++ filter (is_moved r.refs) (branch_changes (map row_of rows))) c.in-Some.ensures.steps)

@@ -18,7 +18,7 @@ loop-name-preserved g c =
     let now = map shown_update c.append_tag.new.changes.items in
     let n = c.in-Some.name.now.items in
     let object = c.in-Some.object.now in
-    let held = c.ref_near-next.ensures ∙ ap (λ m. lookup (same_bytes m) refs) c.as_slice.ensures.value in
+    let held = c.ref_near-next.ensures.object ∙ ap (λ m. lookup (same_bytes m) refs) c.as_slice.ensures.value in
     let appended = subst (λ m. now ≡ was ++ filter (is_due_by branches (option_map (λ (called : Name). called.bytes) c.ref_near-next.result.1)) ((m, object.bytes) ∷ [])) c.as_slice-in-loop-name.ensures.value c.in_ok-append_tag.ensures in
     let named = subst (λ h. now ≡ was ++ filter (is_due_by branches h) ((n, object.bytes) ∷ [])) held appended in
     one_appended (is_due branches refs) was now n (Some object) (tag_changes (map row_of c.next.new.self)) named

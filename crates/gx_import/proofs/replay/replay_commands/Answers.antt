@@ -34,7 +34,7 @@ loop-command-init g c =
       stands = (
         starting c.args.tables.now.is_forced (history_of c.args.repo.now.1),
         stand_empty name c.args.repo.now.1 c.args.tables.now c.requires.empty,
-        λ asks coming same is. at_start asks name c.args.tables.now.is_forced c.args.repo.now.1 coming c.args.reader.now.commands (g.W.Sink.taken c.args.sink.now) same is,
+        λ asks coming same is. at_start asks name c.args.tables.now.is_forced c.args.repo.now.1 coming c.args.reader.now (g.W.Sink.taken c.args.sink.now) same is,
         λ is none. starting_free c.args.tables.now.is_forced (history_of c.args.repo.now.1) is none,
         kept_start c.args.repo.now.1 c.args.checkpoints.now c.requires.none,
       );
@@ -58,7 +58,7 @@ returns-in_err-command-clause-replayed g c = λ asks coming same is.
     let was = g.W.Sink.taken c.args.sink.now in
     let now = g.W.Sink.taken c.loop-command.sink in
     let q = c.in_err-command.ensures.reads in
-    let h = at_refused asks (g.N.Namer.name_of c.loop-command.repo.0) g.row.A.Denot old last coming c.loop-command.commands inv.stands.0 c.loop-command.reader.commands c.next_command.new.reader.commands was now (inv.stands.2 asks coming same is) q.0 q.2 c.loop-command.checkpoints.count inv.stands.4 in
+    let h = at_refused asks (g.N.Namer.name_of c.loop-command.repo.0) g.row.A.Denot old last coming c.loop-command.commands inv.stands.0 c.loop-command.reader c.next_command.new.reader was now (inv.stands.2 asks coming same is) q.0 q.2 c.loop-command.checkpoints.count inv.stands.4 in
     rw (p.1, p.2) (subst (λ f. Imports asks (g.N.Namer.name_of c.args.repo.now.0) old last coming was now (Err f)) (sym q.1) (subst (λ n. Imports asks (g.N.Namer.name_of n) old last coming was now (Err (record { command = c.loop-command.commands + 1; kind = of_command q.0; checkpoints = c.loop-command.checkpoints.count }))) inv.namer h))
 
 pub overflow_add-commands : goal.overflow_add-commands
@@ -83,7 +83,7 @@ returns-in-Err-clause-replayed g c = λ asks coming same is.
     let now = g.W.Sink.taken c.apply.new.sink in
     let name = g.N.Namer.name_of c.loop-command.repo.0 in
     let reads = rw c.in-Some.is at c.in_ok-command.ensures.reads in
-    let h = at_stopped asks name old last c.loop-command.repo.1 c.apply.new.repo.1 c.apply.new.tables coming c.loop-command.commands inv.stands.0 c.in-Some.command c.loop-command.reader.commands c.next_command.new.reader.commands was mid now (inv.stands.2 asks coming same is) reads c.in-Err.kind (c.in-Err.ensures.steps inv.stands.0 inv.stands.1) c.apply.new.checkpoints.count (c.in-Err.ensures.keeps inv.stands.0 inv.stands.1 inv.stands.4) in
+    let h = at_stopped asks name old last c.loop-command.repo.1 c.apply.new.repo.1 c.apply.new.tables coming c.loop-command.commands inv.stands.0 c.in-Some.command c.loop-command.reader c.next_command.new.reader was mid now (inv.stands.2 asks coming same is) reads c.in-Err.kind (c.in-Err.ensures.steps inv.stands.0 inv.stands.1) c.apply.new.checkpoints.count (c.in-Err.ensures.keeps inv.stands.0 inv.stands.1 inv.stands.4) in
     subst (λ n. Imports asks (g.N.Namer.name_of n) old last coming was now (Err (record { command = c.loop-command.commands + 1; kind = c.in-Err.kind; checkpoints = c.apply.new.checkpoints.count }))) inv.namer h
 
 pub loop-command-preserved : goal.loop-command-preserved
@@ -109,8 +109,8 @@ loop-command-preserved g c =
       stands = (
         h.0,
         subst (λ n. Stands (g.N.Namer.name_of n) c.apply.new.repo.1 c.apply.new.tables h.0) (sym c.apply.ensures.namer) h.3,
-        λ asks coming same is. subst (λ n. IsAt asks (g.N.Namer.name_of n) old coming (c.loop-command.commands + 1) h.0 c.next_command.new.reader.commands was now) (sym c.apply.ensures.namer)
-            (at_next asks name old c.loop-command.repo.1 c.apply.new.repo.1 c.apply.new.tables coming c.loop-command.commands inv.stands.0 c.in-Some.command c.loop-command.reader.commands c.next_command.new.reader.commands was mid now (inv.stands.2 asks coming same is) reads h),
+        λ asks coming same is. subst (λ n. IsAt asks (g.N.Namer.name_of n) old coming (c.loop-command.commands + 1) h.0 c.next_command.new.reader was now) (sym c.apply.ensures.namer)
+            (at_next asks name old c.loop-command.repo.1 c.apply.new.repo.1 c.apply.new.tables coming c.loop-command.commands inv.stands.0 c.in-Some.command c.loop-command.reader c.next_command.new.reader was mid now (inv.stands.2 asks coming same is) reads h),
         λ is none. step_keeps name inv.stands.0 h.0 (shown_command c.in-Some.command) h.2 (inv.stands.3 is none) brings,
         c.in_default-apply.ensures.keeps inv.stands.0 inv.stands.1 inv.stands.4 h.0 h.2,
       );
@@ -132,7 +132,7 @@ returns-clause-replayed g c = λ asks coming same is.
     let was = g.W.Sink.taken c.args.sink.now in
     let now = g.W.Sink.taken c.loop-command.sink in
     let reads = rw c.in_default.is at c.in_ok-command.ensures.reads in
-    let h = at_end asks (g.N.Namer.name_of c.loop-command.repo.0) g.row.A.Denot old coming c.loop-command.commands inv.stands.0 c.loop-command.reader.commands c.next_command.new.reader.commands was now (inv.stands.2 asks coming same is) reads in
+    let h = at_end asks (g.N.Namer.name_of c.loop-command.repo.0) g.row.A.Denot old coming c.loop-command.commands inv.stands.0 c.loop-command.reader c.next_command.new.reader was now (inv.stands.2 asks coming same is) reads in
     subst (λ n. (s : State) × Stands (g.N.Namer.name_of n) c.loop-command.repo.1 c.loop-command.tables s × Keeps c.loop-command.repo.1 c.loop-command.checkpoints s × EndsAs asks (g.N.Namer.name_of n) old coming c.loop-command.commands s was now) inv.namer (inv.stands.0, inv.stands.1, inv.stands.4, h)
 
 pub returns-clause-gitlinks : goal.returns-clause-gitlinks
@@ -183,7 +183,7 @@ returns-in_err-command-clause-explained g c = λ asks coming same is.
     let was = g.W.Sink.taken c.args.sink.now in
     let now = g.W.Sink.taken c.loop-command.sink in
     let q = c.in_err-command.ensures.reads in
-    let h = told_refused asks (g.N.Namer.name_of c.loop-command.repo.0) g.row.A.Denot old coming c.loop-command.commands inv.stands.0 c.loop-command.reader.commands c.next_command.new.reader.commands was now (inv.stands.2 asks coming same is) q.0 q.2 told inv.blank c.loop-command.checkpoints.count in
+    let h = told_refused asks (g.N.Namer.name_of c.loop-command.repo.0) g.row.A.Denot old coming c.loop-command.commands inv.stands.0 c.loop-command.reader c.next_command.new.reader was now (inv.stands.2 asks coming same is) q.0 q.2 told inv.blank c.loop-command.checkpoints.count in
     let fault : ImportFault = record { command = c.loop-command.commands + 1; kind = of_command q.0; checkpoints = c.loop-command.checkpoints.count } in
     rw (p.1, p.2) (subst (λ f. ExplainsFault (g.N.Namer.name_of c.args.repo.now.0) asks old coming f told) (sym q.1) (subst (λ n. ExplainsFault (g.N.Namer.name_of n) asks old coming fault told) inv.namer h))
 
@@ -196,7 +196,7 @@ returns-in-Err-clause-explained g c = λ asks coming same is.
     let mid = g.W.Sink.taken c.loop-command.sink in
     let name = g.N.Namer.name_of c.loop-command.repo.0 in
     let reads = rw c.in-Some.is at c.in_ok-command.ensures.reads in
-    let h = told_stopped asks name old coming c.loop-command.commands inv.stands.0 c.in-Some.command c.loop-command.reader.commands c.next_command.new.reader.commands was mid (inv.stands.2 asks coming same is) reads c.in-Err.kind told (c.in-Err.ensures.told inv.stands.0 inv.stands.1) c.apply.new.checkpoints.count in
+    let h = told_stopped asks name old coming c.loop-command.commands inv.stands.0 c.in-Some.command c.loop-command.reader c.next_command.new.reader was mid (inv.stands.2 asks coming same is) reads c.in-Err.kind told (c.in-Err.ensures.told inv.stands.0 inv.stands.1) c.apply.new.checkpoints.count in
     subst (λ n. ExplainsFault (g.N.Namer.name_of n) asks old coming (record { command = c.loop-command.commands + 1; kind = c.in-Err.kind; checkpoints = c.apply.new.checkpoints.count }) told) inv.namer h
 
 pub returns-clause-explained : goal.returns-clause-explained

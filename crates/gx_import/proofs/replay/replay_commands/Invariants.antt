@@ -1,7 +1,5 @@
 use Rattle.std.proofs.Common.{◌≡◌, ◌+◌, ◌-◌, ◌^◌, ◌≤◌}
-use Rattle.std.specs.Option.{option_map}
 use Rattle.gx_text.specs.Devices.{Coming}
-use Rattle.gx_command.specs.Reading.{commands_asked_from}
 use Rattle.gx_model.specs.declared.features.Features.{Features}
 use Rattle.gx_model.specs.Streams.Gitlinks.{HoldsNoNullGitlink}
 use Rattle.gx_model.specs.Histories.{IsHistory}
@@ -11,6 +9,7 @@ use Rattle.gx_model.proofs.Replay.GitlinkSteps.{IsFreeState}
 use Rattle.std.specs.Prelude.{Option}
 use Rattle.gx_import.specs.Explaining.{TellsNothing}
 use Rattle.gx_import.specs.Keeping.{IsLeft, Keeps}
+use Rattle.gx_import.specs.Reading.{IsAskedOf}
 use Rattle.gx_import.specs.Standing.{AreTipsAtHome, Extends, Stands}
 use Rattle.gx_import.proofs.ReachedStates.{IsAt}
 use Rattle.gx_import.proofs.replay.replay_commands.Given as goal
@@ -25,8 +24,8 @@ invariant-loop-command g l = record {
   counted : l.checkpoints.count ≤ l.commands;
   left : IsLeft l.fn.repo.1 l.repo.1 l.checkpoints;
   stands : (s : State) × Stands (g.N.Namer.name_of l.repo.0) l.repo.1 l.tables s
-      × ((asks : Features) (coming : Option Coming) → asks.force ≡ l.fn.tables.is_forced → l.fn.reader.commands ≡ option_map (commands_asked_from asks) coming
-      → IsAt asks (g.N.Namer.name_of l.repo.0) l.fn.repo.1 coming l.commands s l.reader.commands (g.W.Sink.taken l.fn.sink) (g.W.Sink.taken l.sink))
+      × ((asks : Features) (coming : Option Coming) → asks.force ≡ l.fn.tables.is_forced → IsAskedOf asks coming l.fn.reader
+      → IsAt asks (g.N.Namer.name_of l.repo.0) l.fn.repo.1 coming l.commands s l.reader (g.W.Sink.taken l.fn.sink) (g.W.Sink.taken l.sink))
       × (IsHistory (history_of l.fn.repo.1) → HoldsNoNullGitlink (history_of l.fn.repo.1) → IsFreeState s)
       × Keeps l.repo.1 l.checkpoints s;
 }

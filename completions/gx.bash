@@ -97,7 +97,7 @@ __gx_options() {
     batch) __gx_answer '' "$1" --check --command --format -z --help ;;
     adapt) __gx_answer '' "$1" --drop-signatures --help ;;
     import) __gx_answer '' "$1" --done --force --report --explain --help ;;
-    try) __gx_answer '' "$1" --done --force --explain --help ;;
+    try | check) __gx_answer '' "$1" --done --force --explain --help ;;
     gc) __gx_answer '' "$1" --report --help ;;
     export) __gx_answer '' "$1" --changes --no-done --help ;;
     log) __gx_answer '' "$1" --all --stdin --format --reverse --max-count -n --parents --help ;;
@@ -123,7 +123,7 @@ __gx_words_of_command() {
 }
 
 _gx() {
-  local -a words commands=(blobs try adapt where init import drop gc export show ls archive batch refs log rev-parse)
+  local -a words commands=(blobs try check adapt where init import drop gc export show ls archive batch refs log rev-parse)
   COMPREPLY=()
   # behind < and > bash completes files by itself
   [[ ${COMP_WORDS[COMP_CWORD - 1]} != *[\<\>]* ]] || return 0

@@ -56,7 +56,7 @@ line() {
   fi
 }
 
-line 'gx ' blobs try adapt where init import drop gc export show ls archive batch refs log rev-parse help --help
+line 'gx ' blobs try check adapt where init import drop gc export show ls archive batch refs log rev-parse help --help
 line 'gx -' --help --explain --version
 line 'gx --explain im' import
 line 'gx --explain import st' store
@@ -66,6 +66,9 @@ line 'gx help l' ls log
 line 'gx blobs '
 line 'gx try '
 line 'gx try -' --done --force --explain --help
+line 'gx c' check
+line 'gx check '
+line 'gx check -' --done --force --explain --help
 line 'gx import --f' --force
 line 'gx import --e' --explain
 line 'gx a' adapt archive

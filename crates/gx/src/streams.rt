@@ -12,8 +12,8 @@ use crate::stores::files::read_store;
 use devices::{Noted, flushed};
 use explanation::explained;
 use gx_cli::{
-    CliFault, Explanation, Features, Line, Outcome, adapt_stream, find_fault, serve_owned,
-    try_revision,
+    CliFault, Explanation, Features, Line, Outcome, adapt_stream, check_stream, find_fault,
+    serve_owned, try_revision,
 };
 use gx_object::Sha1Namer;
 use gx_text::{FromRead, IntoWrite};
@@ -125,11 +125,21 @@ pub(crate) fn adapt(run: &Run<'_>, drop_signatures: bool) -> Result<(), CliFault
     }
 }
 
-/// Imports standard input into an empty store of which nothing is kept, and shows how far that is. What a revision names there is
-/// printed; with none, all that is asked is why the import is refused.
+/// What is asked of a stream whose import into an empty store is tried.
+#[derive(Clone, Copy)]
+pub(crate) enum Trial<'a> {
+    /// What a revision gives there.
+    Revision(&'a str),
+    /// Whether it comes back by its export.
+    Check,
+    /// Why it is refused.
+    Fault,
+}
+
+/// Imports standard input into an empty store of which nothing is kept, and shows how far that is. What is asked of it is printed.
 pub(crate) fn try_stream(
     run: &Run<'_>,
-    revision: Option<&str>,
+    trial: Trial<'_>,
     features: Features,
     state: RandomState,
 ) -> Result<(), CliFault> {
@@ -138,19 +148,16 @@ pub(crate) fn try_stream(
     let mut input = Traced::input(run, &progress);
     let mut told = Explanation::none();
     let source = FromRead::new(&mut input);
-    let answer = match revision {
-        Some(revision) => try_revision(
-            alloc,
-            Sha1Namer,
-            revision.as_bytes(),
-            source,
-            &mut IntoWrite::new(Beside::new(&progress)),
-            features,
-            state,
-            &mut told,
-        ),
-        None => find_fault(alloc, Sha1Namer, source, features, state, &mut told),
+    let mut sink = IntoWrite::new(Beside::new(&progress));
+    let (sink, told) = (&mut sink, &mut told);
+    let answer = match trial {
+        Trial::Revision(revision) => {
+            let word = revision.as_bytes();
+            try_revision(alloc, Sha1Namer, word, source, sink, features, state, told)
+        }
+        Trial::Check => check_stream(alloc, Sha1Namer, source, sink, features, state, told),
+        Trial::Fault => find_fault(alloc, Sha1Namer, source, features, state, told),
     };
     progress.clear();
-    explained(run, &input, answer, &told)
+    explained(run, &input, answer, told)
 }

@@ -17,6 +17,8 @@ pub mod FormattedLines
 pub mod ReadStores
 pub mod RoundTrips
 pub mod ChangesTrips
+pub mod CheckedTrips
+pub mod Replies
 pub mod Gathered
 pub mod GatheredLines
 pub mod SentRanges

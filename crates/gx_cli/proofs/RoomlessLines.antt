@@ -46,6 +46,7 @@ module _ (name : Kind → Bytes → Bytes) {A : Type 0} (o : Outcome A) (was : O
   pub roomless_served : (l : Line) (store : Bytes) (coming : Option Coming) (f : CliFault) → without_room l ≡ Some f → IsRefused f o → Serves name l store coming was was o
   roomless_served line.Blobs store coming f e h = absurd (cc)
   roomless_served (line.Try word done force explain) store coming f e h = absurd (cc)
+  roomless_served (line.Check done force explain) store coming f e h = absurd (cc)
   roomless_served (line.Adapt drops) store coming f e h = absurd (cc)
   roomless_served (line.Where command) store coming f e h = absurd (cc)
   roomless_served (line.WhereFault done force) store coming f e h = absurd (cc)
@@ -65,6 +66,7 @@ module _ (name : Kind → Bytes → Bytes) {A : Type 0} (o : Outcome A) where
   pub unread_served : (other store : Bytes) (coming : Option Coming) (l : Line) (was now : Option Taken) → without_room l ≡ None → Serves name l other coming was now o → Serves name l store coming was now o
   unread_served other store coming line.Blobs was now e h = h
   unread_served other store coming (line.Try word done force explain) was now e h = h
+  unread_served other store coming (line.Check done force explain) was now e h = h
   unread_served other store coming (line.Adapt drops) was now e h = h
   unread_served other store coming (line.Where command) was now e h = h
   unread_served other store coming (line.WhereFault done force) was now e h = h

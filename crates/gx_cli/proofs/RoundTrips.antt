@@ -6,20 +6,21 @@ use Rattle.std.proofs.lemmas.Bool.Decides.{nat_tests}
 use Rattle.gx_model.specs.declared.objects.Kind.{Kind}
 use Rattle.gx_model.specs.Texts.{Bytes}
 use Rattle.gx_model.specs.Changes.{changes_text}
+use Rattle.gx_model.specs.declared.features.Features.{Features}
 use Rattle.gx_model.specs.Histories.{History, Records, empty_repository}
 use Rattle.gx_model.specs.Streams.Commands.{no_features}
 use Rattle.gx_model.specs.Records.HistoryOf.{history_of}
-use Rattle.gx_model.specs.Texts.Paths.{Path}
-use Rattle.gx_model.specs.Revisions.{Revision}
 use Rattle.gx_model.specs.Records.Sound.{IsSound}
 use Rattle.gx_model.specs.Export.{export_text}
 use Rattle.gx_model.specs.Streams.Gitlinks.{HoldsNoNullGitlink, HoldsTellsHas}
 use Rattle.gx_model.specs.Texts.Sinks.{Taken, Took}
 use Rattle.gx_text.specs.Devices.{Coming}
 use Rattle.gx_stream.specs.Heard.{heard_upto}
-use Rattle.gx_import.specs.Exported.{ExportedOr, ImportsExport, KeepsNoNullGitlink}
-use Rattle.gx_import.specs.Imports.{Imports, report_of}
+use Rattle.gx_import.specs.Explaining.{TellsNothing}
+use Rattle.gx_import.specs.Exported.{ExportedOr, ImportsExport}
+use Rattle.gx_import.specs.Imports.{Imports}
 use Rattle.gx_import.specs.Stopping.{StopsReplay}
+use Rattle.gx_import.specs.declared.explanation.Explanation.{Explanation}
 use Rattle.gx_import.specs.declared.report.Report.{Report}
 use Rattle.gx_import.specs.declared.fault.ImportFault.{ImportFault}
 use Rattle.gx_export.specs.Outputs.{StopsAt, most}
@@ -28,10 +29,12 @@ use Rattle.gx_export.specs.declared.fault.ExportFault.TheVariants.{WriteFailed}
 use Rattle.gx_line.specs.declared.command_line.ExportForm.{ExportForm}
 use Rattle.gx_line.specs.declared.command_line.ExportForm.TheVariants.{Changes, FullTree}
 use Rattle.gx_cli.specs.Again.{FormsAreImported, LeaveForm}
+use Rattle.gx_cli.specs.Explained.{ExplainsCommand}
 use Rattle.gx_cli.specs.Forms.{ExportsAs, text_as}
 use Rattle.gx_cli.specs.Headline.{ComesBack, ComesBackOr, GivesText, Returns, RoundTrips}
 use Rattle.gx_cli.specs.declared.fault.CliFault.{CliFault}
 use Rattle.gx_cli.specs.declared.fault.CliFault.TheVariants.{Export, Import, OutOfMemory}
+use Rattle.gx_cli.specs.declared.questions.Question.{Question}
 use Rattle.gx_cli.specs.declared.trips.RoundTrip.{RoundTrip}
 
 -- a sink over memory that took nothing
@@ -102,58 +105,38 @@ module _ {N : Type 0} (name_of : N → Kind → Bytes → Bytes) (namer : N) whe
       (λ s r t e. forms no_features empty_repository new (Some coming) was now answer s r t (λ leaves. e) form exported.1 (none_leave form) sound_too (tells (history_of exported.1) none) gives refl)
       stands replayed stops taken
 
-  -- an import into a repository with nothing brings no gitlink of forty zeros
-  pub none_brought : (old : N × Records) (new : Records) → old ≡ (namer, empty_repository) → HoldsNoNullGitlink (history_of empty_repository) → KeepsNoNullGitlink old.1 new → HoldsNoNullGitlink (history_of new)
-  none_brought old new empty none keeps = keeps (subst (λ (z : N × Records). HoldsNoNullGitlink (history_of z.1)) (sym empty) none)
+-- What came after an import into a repository: a trip with a report, by which the repository comes back, and a text of the export.
+module _ {N : Type 0} (name_of : N → Kind → Bytes → Bytes) (namer : N) (asks : Features) (old new : N × Records) (same : old.0 ≡ namer) (coming : Option Coming) (was now : Option Taken) where
+  imports_so : (answer : Result Report ImportFault) → Imports asks (name_of old.0) old.1 new.1 coming was now answer → Imports asks (name_of namer) old.1 new.1 coming was now answer
+  imports_so answer h = subst (λ n. Imports asks (name_of n) old.1 new.1 coming was now answer) same h
 
--- an import into a repository with nothing
-from_nothing : {N : Type 0} (name_of : N → Kind → Bytes → Bytes) (namer : N) (old : N × Records) (new : Records) (coming : Option Coming) (was now : Option Taken) (answer : Result Report ImportFault)
-    → old ≡ (namer, empty_repository) → Imports no_features (name_of old.0) old.1 new coming was now answer → Imports no_features (name_of namer) empty_repository new coming was now answer
-from_nothing {N} name_of namer old new coming was now answer empty h = subst (λ (o : N × Records). Imports no_features (name_of o.0) o.1 new coming was now answer) empty h
+  module _ {T : Type 0} (told : T → Report) (IsBack : Records → T → Type 0) (text_of : History → Bytes) where
+    -- it was refused
+    pub refused_first : (fault : ImportFault) → Imports asks (name_of old.0) old.1 new.1 coming was now (Err fault) → (fault.checkpoints ≡ 0 → new ≡ old)
+        → Returns asks (name_of namer) told IsBack text_of old.1 new.1 coming was now (Err (Import fault))
+    refused_first fault h unchanged = (imports_so (Err fault) h, λ none. ap (λ (r : N × Records). r.1) (unchanged none))
 
--- an import into an empty store, and what came after it: a trip with a report, by which a history comes back, and a text of the
--- export
-module _ {N : Type 0} (name_of : N → Kind → Bytes → Bytes) (namer : N) (old : N × Records) (empty : old ≡ (namer, empty_repository)) (was now : Option Taken) {T : Type 0} (told : T → Report) (IsBack : History → T → Type 0) (text_of : History → Bytes) where
-  -- it was refused
-  pub refused_first : (coming : Option Coming) (new : Records) (fault : ImportFault) → Imports no_features (name_of old.0) old.1 new coming was now (Err fault) → Returns (name_of namer) told IsBack text_of coming was now (Err (Import fault))
-  refused_first coming new fault h = by coming (from_nothing name_of namer old new coming was now (Err fault) empty h)
-    where
-      by : (c : Option Coming) → Imports no_features (name_of namer) empty_repository new c was now (Err fault) → Returns (name_of namer) told IsBack text_of c was now (Err (Import fault))
-      by None k = (k.0, k.1, (new, k.2))
-      by (Some c) k = (new, k)
+    -- there was no memory for the export, or it is too long
+    pub stopped_between : (A : Type 0) (report : Report) (fault : CliFault) → Imports asks (name_of old.0) old.1 new.1 coming was now (Ok report) → GivesText {A = A} (text_of (history_of new.1)) (Err fault)
+        → Returns asks (name_of namer) told IsBack text_of old.1 new.1 coming was now (Err fault)
+    stopped_between A report OutOfMemory h stops = (report, imports_so (Ok report) h)
+    stopped_between A report (Export f) h stops = (report, imports_so (Ok report) h, stops)
+    stopped_between A report fault h stops = absurd stops
 
-  -- there was no memory for the export, or it is too long
-  pub stopped_between : (A : Type 0) (coming : Option Coming) (new : Records) (report : Report) (fault : CliFault) → Imports no_features (name_of old.0) old.1 new coming was now (Ok report) → GivesText {A = A} (text_of (history_of new)) (Err fault)
-      → Returns (name_of namer) told IsBack text_of coming was now (Err fault)
-  stopped_between A coming new report fault h stops = by coming fault (from_nothing name_of namer old new coming was now (Ok report) empty h) stops
-    where
-      by : (c : Option Coming) (f : CliFault) → Imports no_features (name_of namer) empty_repository new c was now (Ok report) → GivesText {A = A} (text_of (history_of new)) (Err f) → Returns (name_of namer) told IsBack text_of c was now (Err f)
-      by None OutOfMemory k s = (k.0, k.1, (history_of new, report_of report, k.2))
-      by None (Export f) k s = (k.0, k.1, (history_of new, report_of report, k.2, s))
-      by None f k s = absurd s
-      by (Some c) OutOfMemory k s = (history_of new, report_of report, k)
-      by (Some c) (Export f) k s = (history_of new, report_of report, k, s)
-      by (Some c) f k s = absurd s
+    -- what was imported came back
+    pub came_back : (report : Report) (trip : T) → Imports asks (name_of old.0) old.1 new.1 coming was now (Ok report) → told trip ≡ report → IsBack new.1 trip
+        → Returns asks (name_of namer) told IsBack text_of old.1 new.1 coming was now (Ok trip)
+    came_back report trip h is back = (imports_so (Ok (told trip)) (subst (λ r. Imports asks (name_of old.0) old.1 new.1 coming was now (Ok r)) (sym is) h), back)
 
-  -- what was imported came back
-  pub came_back : (coming : Option Coming) (new : Records) (report : Report) (trip : T) → Imports no_features (name_of old.0) old.1 new coming was now (Ok report) → told trip ≡ report → IsBack (history_of new) trip
-      → Returns (name_of namer) told IsBack text_of coming was now (Ok trip)
-  came_back coming new report trip h same back = by coming (from_nothing name_of namer old new coming was now (Ok (told trip)) empty (subst (λ r. Imports no_features (name_of old.0) old.1 new coming was now (Ok r)) (sym same) h))
-    where
-      by : (c : Option Coming) → Imports no_features (name_of namer) empty_repository new c was now (Ok (told trip)) → Returns (name_of namer) told IsBack text_of c was now (Ok trip)
-      by None m = (m.0, m.1, (history_of new, m.2, back))
-      by (Some c) m = (history_of new, m, back)
+  -- what was imported came back by the round trip, or stopped on its way
+  pub trip_came : {A : Type 0} (question : Option (Question A)) (report : Report) (answer : Result (RoundTrip N A) CliFault) → Imports asks (name_of old.0) old.1 new.1 coming was now (Ok report)
+      → ComesBackOr (name_of namer) {N = N} {A = A} question report new.1 answer → RoundTrips (name_of namer) {N = N} {A = A} asks question old.1 new.1 coming was now answer
+  trip_came {A} question report (Err fault) h k = stopped_between (λ (trip : RoundTrip N A). trip.report) (ComesBack (name_of namer) question) export_text A report fault h k
+  trip_came {A} question report (Ok trip) h k = came_back (λ (trip : RoundTrip N A). trip.report) (ComesBack (name_of namer) question) export_text report trip h k.0 k.1
 
--- the round trip
-module _ {N : Type 0} (name_of : N → Kind → Bytes → Bytes) (namer : N) (revision : Revision) (path : Path) (old : N × Records) (empty : old ≡ (namer, empty_repository)) (was now : Option Taken) where
-  -- its import was refused
-  pub trip_refused : (A : Type 0) (coming : Option Coming) (new : Records) (fault : ImportFault) → Imports no_features (name_of old.0) old.1 new coming was now (Err fault) → RoundTrips (name_of namer) revision path {N = N} {A = A} coming was now (Err (Import fault))
-  trip_refused A coming new fault h = refused_first name_of namer old empty was now (λ (trip : RoundTrip N A). trip.report) (ComesBack (name_of namer) revision path) export_text coming new fault h
-
-  -- what was imported came back, or stopped on its way
-  pub trip_came : {A : Type 0} (coming : Option Coming) (new : N × Records) (report : Report) (answer : Result (RoundTrip N A) CliFault) → Imports no_features (name_of old.0) old.1 new.1 coming was now (Ok report)
-      → ComesBackOr (name_of namer) revision path {N = N} {A = A} report new answer → RoundTrips (name_of namer) revision path {N = N} {A = A} coming was now answer
-  trip_came {A} coming new report (Err fault) h k =
-      stopped_between name_of namer old empty was now (λ (trip : RoundTrip N A). trip.report) (ComesBack (name_of namer) revision path) export_text A coming new.1 report fault h k
-  trip_came {A} coming new report (Ok trip) h k =
-      came_back name_of namer old empty was now (λ (trip : RoundTrip N A). trip.report) (ComesBack (name_of namer) revision path) export_text coming new.1 report trip h k.1 k.2
+-- of a trip that came back, or stopped on its way, nothing is told
+pub trip_told : {N A : Type 0} (name : Kind → Bytes → Bytes) (question : Option (Question A)) (report : Report) (old made : Records) (asks : Features) (coming : Option Coming) (answer : Result (RoundTrip N A) CliFault) (told : Explanation A)
+    → ComesBackOr name {N = N} {A = A} question report made answer → TellsNothing told → ExplainsCommand name asks old coming answer told
+trip_told name question report old made asks coming (Err (Import fault)) told h k = absurd h
+trip_told name question report old made asks coming (Ok trip) told h k = k
+trip_told name question report old made asks coming (Err fault) told h k = k

@@ -22,19 +22,20 @@ module _ (name : Kind → Bytes → Bytes) {A : Type 0} (o : Outcome A) (coming 
 
   -- a command that is none of those that don't read a store's text first does
   pub opened_served : (l : Line) (store : Bytes) → (l ≡ line.Blobs → ⊥) → ((word : Bor Bytes) (done force explain : Bool) → l ≡ line.Try word done force explain → ⊥)
-      → ((drops : Bool) → l ≡ line.Adapt drops → ⊥) → ((command : ℕ) → l ≡ line.Where command → ⊥) → ((done force : Bool) → l ≡ line.WhereFault done force → ⊥)
+      → ((done force explain : Bool) → l ≡ line.Check done force explain → ⊥) → ((drops : Bool) → l ≡ line.Adapt drops → ⊥) → ((command : ℕ) → l ≡ line.Where command → ⊥) → ((done force : Bool) → l ≡ line.WhereFault done force → ⊥)
       → ((file : Bor Bytes) → l ≡ line.Init file → ⊥) → ((file : Bor Bytes) (done force report explain : Bool) → l ≡ line.Import file done force report explain → ⊥)
       → ((form : BatchForm) (format : Option (Bor Bytes)) (nul : Bool) (file : Bor Bytes) → l ≡ line.Batch form format nul file → ⊥)
       → EndsOpened (store_of name store) (λ r. ServesOpened name l r coming was now o) was now o → Serves name l store coming was now o
-  opened_served line.Blobs store b t a w f n i m h = absurd (b refl)
-  opened_served (line.Try word done force explain) store b t a w f n i m h = absurd (t word done force explain refl)
-  opened_served (line.Adapt drops) store b t a w f n i m h = absurd (a drops refl)
-  opened_served (line.Where command) store b t a w f n i m h = absurd (w command refl)
-  opened_served (line.WhereFault done force) store b t a w f n i m h = absurd (f done force refl)
-  opened_served (line.Init file) store b t a w f n i m h = absurd (n file refl)
-  opened_served (line.Import file done force report explain) store b t a w f n i m h = absurd (i file done force report explain refl)
-  opened_served (line.Batch form format nul file) store b t a w f n i m h = absurd (m form format nul file refl)
-  opened_served l store b t a w f n i m h = h
+  opened_served line.Blobs store b t k a w f n i m h = absurd (b refl)
+  opened_served (line.Try word done force explain) store b t k a w f n i m h = absurd (t word done force explain refl)
+  opened_served (line.Check done force explain) store b t k a w f n i m h = absurd (k done force explain refl)
+  opened_served (line.Adapt drops) store b t k a w f n i m h = absurd (a drops refl)
+  opened_served (line.Where command) store b t k a w f n i m h = absurd (w command refl)
+  opened_served (line.WhereFault done force) store b t k a w f n i m h = absurd (f done force refl)
+  opened_served (line.Init file) store b t k a w f n i m h = absurd (n file refl)
+  opened_served (line.Import file done force report explain) store b t k a w f n i m h = absurd (i file done force report explain refl)
+  opened_served (line.Batch form format nul file) store b t k a w f n i m h = absurd (m form format nul file refl)
+  opened_served l store b t k a w f n i m h = h
 
   -- and of what it makes of an export, nothing is told
   pub other_again : (l : Line) (store : Bytes) → ((file : Bor Bytes) (done force report explain : Bool) → l ≡ line.Import file done force report explain → ⊥) → ServesExported name l store coming o

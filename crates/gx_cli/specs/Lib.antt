@@ -1,6 +1,8 @@
 pub mod Listings
 pub mod Trying
+pub mod Questions
 pub mod Headline
+pub mod Checking
 pub mod ChangesTrips
 pub mod Stored
 pub mod Storing

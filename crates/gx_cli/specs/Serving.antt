@@ -44,6 +44,7 @@ use Rattle.gx_cli.specs.declared.fault.CliFault.{CliFault}
 use Rattle.gx_cli.specs.declared.fault.CliFault.TheVariants.{BadFormat, Blobs, Export, OutOfMemory, ReadFailed, Revision, Store}
 use Rattle.gx_cli.specs.declared.serving.Outcome.{Outcome}
 use Rattle.gx_cli.specs.Answers.{Prints}
+use Rattle.gx_cli.specs.Checking.{Checks}
 use Rattle.gx_cli.specs.Collecting.{IsCollected}
 use Rattle.gx_cli.specs.Commanding.{command_answer}
 use Rattle.gx_cli.specs.Forms.{ExportsAs, SendsRange}
@@ -120,6 +121,7 @@ line_answer name form.Commands parts repository = command_answer name parts repo
 abbrev pub without_room : Line → Option CliFault
 without_room line.Blobs = None
 without_room (line.Try word done force explain) = None
+without_room (line.Check done force explain) = None
 without_room (line.Adapt drops) = None
 without_room (line.Where command) = None
 without_room (line.WhereFault done force) = None
@@ -224,6 +226,7 @@ module _ (name : Kind → Bytes → Bytes) {A : Type 0} where
       (answer : Result ℕ BlobsFault) × PrintsBlobs name (option_map items_from coming) was now answer × IsOutcome (result_map_both (λ count. count) Blobs answer) o
   Serves (line.Try word done force explain) store coming was now o =
       EndsAnswered (Tries name (features_of done force) coming word.now was now) o
+  Serves (line.Check done force explain) store coming was now o = EndsAnswered (Checks name (features_of done force) coming was now) o
   Serves (line.Adapt drops) store coming was now o = (answer : Result AdaptReport CliFault) × AdaptsStream drops coming was now answer × IsOutcome answer o
   Serves (line.Where command) store coming was now o = EndsAnswered (PlacesFrom command coming was now) o
   Serves (line.WhereFault done force) store coming was now o = EndsAnswered (FindsFault name (features_of done force) coming) o × (now ≡ was)

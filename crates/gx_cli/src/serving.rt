@@ -13,7 +13,7 @@ use crate::import::import_text;
 use crate::next_text::init;
 use crate::stored::serve_stored;
 use crate::where_place::print_place;
-use crate::{CliFault, Line, blobs, find_fault, try_revision};
+use crate::{CliFault, Line, blobs, check_stream, find_fault, try_revision};
 use gx_file::FileFault;
 use gx_import::Explanation;
 use gx_model::Features;
@@ -33,8 +33,8 @@ pub struct Outcome<A: Allocator> {
 /// Runs a command. What it prints goes to the sink.
 ///
 /// `blobs` reads the source as [`blobs`] does, `adapt` as [`adapt_stream`] does, and `try` as [`try_revision`] does: the source
-/// is read before the revision. `where` reads it whole, and tells where a command begins, or what [`find_fault`] finds. These, and
-/// `init`, have no use for the store's bytes. The other commands read the store's text first, then all words, and then evaluate
+/// is read before the revision. `check` does what [`check_stream`] does. `where` reads it whole, and tells where a command begins, or
+/// what [`find_fault`] finds. These, and `init`, have no use for the store's bytes. The other commands read the store's text first, then all words, and then evaluate
 /// each in its order; but `batch` reads its format before. `import` and `batch` read their source then, and so do `drop` and
 /// `log` before the words, where its lines are words. Only `init`, `import`, `drop` and `gc` answer a next store text: where they
 /// are accepted, and `import` also where it is refused after a checkpoint. What `import` and `gc` report is told by
@@ -94,6 +94,16 @@ pub fn serve_owned<N: Namer + Drop, R: Source + Drop, W: Sink, A: Allocator + Co
             let mut told = Explanation::none();
             let told = &mut told;
             outcome_of(try_revision(alloc, namer, word, source, sink, features, state, told))
+        }
+        Line::Check {
+            done,
+            force,
+            explain: _,
+        } => {
+            let features = features_of(*done, *force);
+            let mut told = Explanation::none();
+            let told = &mut told;
+            outcome_of(check_stream(alloc, namer, source, sink, features, state, told))
         }
         Line::Adapt { drop_signatures } => {
             outcome_of(adapt_stream(alloc, source, sink, *drop_signatures))
@@ -158,6 +168,7 @@ fn without_room(line: &Line<'_>) -> Option<CliFault>
     match line {
         Line::Blobs
         | Line::Try { .. }
+        | Line::Check { .. }
         | Line::Adapt { .. }
         | Line::Where(_)
         | Line::WhereFault { .. }

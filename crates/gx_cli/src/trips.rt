@@ -5,86 +5,95 @@ ghost use Rattle.gx_model.specs.Streams.Gitlinks.{HoldsNoNullGitlink};
 ghost use Rattle.gx_model.specs.Records.HistoryOf.{history_of};
 ghost use Rattle.gx_model.specs.Records.Sound.{IsSound};
 ghost use Rattle.gx_export.specs.Outputs.{most};
+ghost use Rattle.gx_import.specs.Standing.{Extends};
+ghost use Rattle.gx_cli.specs.Explained.{ExplainsCommand};
 ghost use Rattle.gx_cli.specs.Forms.{text_as};
 ghost use Rattle.gx_cli.specs.Headline.{ComesBackOr, ExportsAgain, GivesText, ImportsAgainOr, RoundTrips};
 
 use crate::export::export_as;
 use crate::forms::forms_are_imported;
-use crate::try_stream::look_in;
+use crate::questions::{Question, Reply, reply_asked};
 use crate::{CliFault, ExportForm};
 use gx_export::ExportFault;
-use gx_import::{ImportFault, Report, import};
+use gx_import::{Explanation, ImportFault, Report, import, import_explained};
+use gx_model::Features;
 use gx_model::gitlink_laws::replays_keep_none;
-use gx_object::{Mode, Namer};
+use gx_model::repository_laws::histories_of_records;
+use gx_object::Namer;
 use gx_repo::Repo;
-use gx_rev::Revision;
-use gx_text::{Bytes, Growing, Sink, Source, TreePath};
+use gx_text::{Bytes, Growing, Sink, Source};
 use std::alloc::Allocator;
 use std::hash::RandomState;
 
-/// What a stream makes of an empty store, the file that a revision and a path give there, the stream that this is exported
-/// as, and what that one makes of an empty store.
+/// What a stream's import into a repository reports, what is answered to a question then, the stream that the repository is
+/// exported as, and what that one makes of an empty store.
 #[derive(Drop)]
 pub struct RoundTrip<N: Namer, A: Allocator> {
     pub report: Report,
-    pub first: Repo<N, A>,
-    /// The mode and the bytes of the file, or why there is none, as `look_in` answers.
-    pub file: Result<(Mode, Vec<u8, A>), CliFault>,
+    pub reply: Option<Reply<A>>,
     pub text: Vec<u8, A>,
     pub again: Repo<N, A>,
 }
 
-/// Imports a stream into an empty store, looks up the file at a path of a revision there, exports that store, and imports the
-/// export into another empty one. Lines of `progress` go out as they come. A file that isn't there stops nothing.
+/// Imports a stream into a repository, answers a question there, where one is asked, exports the repository, and imports the
+/// export into an empty one. Lines of `progress` go out as they come. These features are asked for as if the stream began with
+/// them. A question without an answer stops nothing.
 ///
-/// `Import`: the stream's import is refused. `Export`: the export has more than 2^63 - 1 bytes, which no import reads.
-/// `OutOfMemory`: a growth was refused after the import. That of the export is refused for no other cause.
-/// Cost: that of the import, of `look_in`, of `gx_export::export`, and of the import of what it wrote. Memory: that of both
-/// imports, the file, and the export's text.
+/// `Import`: the stream's import is refused. The repository is then as its last checkpoint left it, its objects and its refs, and
+/// as it was before where there was none; what the refusal is about is told, as `gx_import::import_explained` does. `Export`: the
+/// export has more than 2^63 - 1 bytes, which no import reads. `OutOfMemory`: a growth was refused after the import. That of the
+/// export is refused for no other cause.
+/// Cost: that of the import, of the answer, of `gx_export::export`, and of the import of what it wrote. Memory: that of both
+/// imports, the answer, and the export's text.
 pub fn round_trip<N: Namer + Copy + Drop, A: Allocator + Copy, R: Source + Drop, W: Sink>(
     alloc: A,
+    repo: &mut Repo<N, A>,
     namer: N,
     source: R,
     sink: &mut W,
-    revision: &Revision<A>,
-    path: &TreePath<A>,
+    features: Features,
+    question: &Option<Question<A>>,
     state: RandomState,
+    told: &mut Explanation<A>,
 ) -> Result<RoundTrip<N, A>, CliFault>
-    ensures namer { IfOk result (λ trip. trip.first.0 ≡ namer) }
+    requires namer { repo.old.0 ≡ namer }
+    requires gitlinks { HoldsNoNullGitlink (history_of repo.old.1) }
+    ensures namer { repo.new.0 ≡ namer }
+    ensures sound { IsSound (N.name_of namer) repo.new.1 }
+    ensures extends { Extends repo.old.1.records repo.new.1.records }
+    ensures explained { ExplainsCommand (N.name_of namer) features repo.old.1
+        (R.coming source) result told.new }
     ensures again { IfOk result (λ trip. trip.again.0 ≡ namer) }
-    ensures back { RoundTrips (N.name_of namer) revision.now path.now (R.coming source)
-        (W.taken sink.old) (W.taken sink.new) result }
+    ensures back { RoundTrips (N.name_of namer) features question.now repo.old.1 repo.new.1
+        (R.coming source) (W.taken sink.old) (W.taken sink.new) result }
 {
-    replays_keep_none();
-    let mut first = Repo::new(alloc, namer, state);
-    match import(alloc, &mut first, source, sink) {
-        Ok(report) => come_back(alloc, namer, report, first, revision, path, state),
+    match import_explained(alloc, repo, source, sink, features, told) {
+        Ok(report) => come_back(alloc, namer, report, repo, question, state),
         Err(fault) => Err(CliFault::Import(fault)),
     }
 }
 
-/// Looks up a file in an imported repository, and brings that back by its export.
+/// Answers a question in a repository, and brings that back by its export.
 fn come_back<N: Namer + Copy + Drop, A: Allocator + Copy>(
     alloc: A,
     namer: N,
     report: Report,
-    first: Repo<N, A>,
-    revision: &Revision<A>,
-    path: &TreePath<A>,
+    repo: &Repo<N, A>,
+    question: &Option<Question<A>>,
     state: RandomState,
 ) -> Result<RoundTrip<N, A>, CliFault>
-    requires namer { first.0 ≡ namer }
-    requires gitlinks { HoldsNoNullGitlink (history_of first.1) }
-    ensures namer { IfOk result (λ trip. trip.first.0 ≡ namer) }
+    requires namer { repo.now.0 ≡ namer }
+    requires gitlinks { HoldsNoNullGitlink (history_of repo.now.1) }
     ensures again { IfOk result (λ trip. trip.again.0 ≡ namer) }
-    ensures back { ComesBackOr (N.name_of namer) revision.now path.now report first result }
+    ensures back { ComesBackOr (N.name_of namer) question.now report repo.now.1 result }
 {
-    let file = look_in(alloc, &first, revision, path);
-    match export_again(alloc, namer, &first, ExportForm::FullTree, state) {
+    histories_of_records();
+    repo.sound();
+    let reply = reply_asked(alloc, repo, question);
+    match export_again(alloc, namer, repo, ExportForm::FullTree, state) {
         Ok((again, text)) => Ok(RoundTrip {
             report,
-            first,
-            file,
+            reply,
             text,
             again,
         }),

@@ -6,7 +6,9 @@ use crate::texts::text;
 use gx_cli::{ChangesTrip, CliFault, trip_by_changes};
 use gx_devices::Refusing;
 use gx_import::{ImportFault, ImportKind};
+use gx_model::gitlink_laws::replays_keep_none;
 use gx_object::Sha1Namer;
+use gx_repo::Repo;
 use gx_text::{Bytes, Held};
 use std::alloc::{Allocator, Global};
 use std::hash::RandomState;
@@ -28,7 +30,7 @@ fn streams_come_back_by_their_changes(rt: HostRuntime) -> Result<(), Fail> {
 fn refused_stream_makes_no_trip(rt: HostRuntime) -> Result<(), Fail> {
     let state = RandomState::new(&rt)?;
     let mut sink = Held::new(rt.alloc(), 64)?;
-    let trip = tripped(rt.alloc(), b"progress x\nfoo\n", &mut sink, true, state);
+    let trip = tripped(rt.alloc(), b"progress x\nfoo\n", &mut sink, true, state).trip;
     let unknown = ImportFault {
         command: 2,
         kind: ImportKind::UnknownCommand,
@@ -46,15 +48,25 @@ fn each_refused_growth_of_a_trip_by_changes_is_out_of_memory(rt: HostRuntime) ->
     Ok(())
 }
 
+/// What a stream made of an empty store, and its trip, or why there is none.
+#[derive(Drop)]
+struct Made<A: Allocator> {
+    first: Repo<Sha1Namer, A>,
+    trip: Result<ChangesTrip<Sha1Namer, A>, CliFault>,
+}
+
 fn tripped<A: Allocator + Copy>(
     alloc: A,
     stream: &[u8],
     sink: &mut Held<A>,
     done: bool,
     state: RandomState,
-) -> Result<ChangesTrip<Sha1Namer, A>, CliFault> {
+) -> Made<A> {
+    replays_keep_none();
+    let mut first = Repo::new(alloc, Sha1Namer, state);
     let source = Bytes::new(stream, 4096, false);
-    trip_by_changes(alloc, Sha1Namer, source, sink, done, state)
+    let trip = trip_by_changes(alloc, &mut first, Sha1Namer, source, sink, done, state);
+    Made { first, trip }
 }
 
 /// Whether what a stream makes comes back, and again by a trip of its export: the same refs, no more objects, and the same text.
@@ -62,7 +74,8 @@ fn comes_back(alloc: Global, stream: &[u8], done: bool, state: RandomState) -> b
     let Ok(mut sink) = Held::new(alloc, 64) else {
         return false;
     };
-    match tripped(alloc, stream, &mut sink, done, state) {
+    let tripped = tripped(alloc, stream, &mut sink, done, state);
+    match &tripped.trip {
         Ok(trip) => {
             let is_closed = trip.text.starts_with(b"feature done\n");
             let is_two = stream == text("two branches");
@@ -71,9 +84,9 @@ fn comes_back(alloc: Global, stream: &[u8], done: bool, state: RandomState) -> b
                 || trip.text.as_slice() == text("changes of two branches");
             is_closed == done
                 && has_text
-                && have_same_refs(&trip.first, &trip.again)
-                && trip.again.store().len() <= trip.first.store().len()
-                && comes_again(alloc, &trip, done, state)
+                && have_same_refs(&tripped.first, &trip.again)
+                && trip.again.store().len() <= tripped.first.store().len()
+                && comes_again(alloc, trip, done, state)
         }
         Err(_) => false,
     }
@@ -89,10 +102,10 @@ fn comes_again(
     let Ok(mut sink) = Held::new(alloc, 64) else {
         return false;
     };
-    match tripped(alloc, &trip.text, &mut sink, done, state) {
+    match tripped(alloc, &trip.text, &mut sink, done, state).trip {
         Ok(twice) => {
             twice.text == trip.text
-                && have_same_refs(&trip.first, &twice.again)
+                && have_same_refs(&trip.again, &twice.again)
                 && twice.again.store().len() == trip.again.store().len()
         }
         Err(_) => false,
@@ -128,11 +141,11 @@ fn is_trip_refused<'a, B: Allocator>(
     state: RandomState,
 ) -> Option<bool> {
     heap.arm(nth);
-    let trip = tripped(heap, text("two branches"), sink, true, state);
+    let tripped = tripped(heap, text("two branches"), sink, true, state);
     let is_waiting = heap.is_waiting();
     heap.arm(0);
-    let is_right = match &trip {
-        Ok(trip) => is_waiting && have_same_refs(&trip.first, &trip.again),
+    let is_right = match &tripped.trip {
+        Ok(trip) => is_waiting && have_same_refs(&tripped.first, &trip.again),
         Err(CliFault::OutOfMemory) => !is_waiting,
         Err(CliFault::Import(fault)) => !is_waiting && fault.kind == ImportKind::OutOfMemory,
         Err(_) => false,

@@ -83,6 +83,38 @@ const FAULTS: &[CliFault] = &[
         command: 2,
         kind: CommandFault::ReadFailed,
     }),
+    CliFault::Where(WhereFault::Command {
+        command: 2,
+        kind: CommandFault::BadLine,
+    }),
+    CliFault::Where(WhereFault::Command {
+        command: 2,
+        kind: CommandFault::BadNumber,
+    }),
+    CliFault::Where(WhereFault::Command {
+        command: 2,
+        kind: CommandFault::BadPath,
+    }),
+    CliFault::Where(WhereFault::Command {
+        command: 2,
+        kind: CommandFault::PathTooLong,
+    }),
+    CliFault::Where(WhereFault::Command {
+        command: 2,
+        kind: CommandFault::BadMode,
+    }),
+    CliFault::Where(WhereFault::Command {
+        command: 2,
+        kind: CommandFault::BadIdent,
+    }),
+    CliFault::Where(WhereFault::Command {
+        command: 2,
+        kind: CommandFault::BadRefName,
+    }),
+    CliFault::Where(WhereFault::Command {
+        command: 2,
+        kind: CommandFault::Unsupported,
+    }),
     CliFault::Where(WhereFault::ReadFailed),
     CliFault::Where(WhereFault::OutOfMemory),
     CliFault::Export(ExportFault::OutOfMemory),
@@ -124,6 +156,14 @@ gx: adapt: OutOfMemory
 gx: adapt: WriteFailed
 gx: where: command 2: OutOfMemory
 gx: where: command 2: ReadFailed
+gx: where: command 2: BadLine
+gx: where: command 2: BadNumber
+gx: where: command 2: BadPath
+gx: where: command 2: PathTooLong
+gx: where: command 2: BadMode
+gx: where: command 2: BadIdent
+gx: where: command 2: BadRefName
+gx: where: command 2: Unsupported
 gx: where: read failed
 gx: where: out of memory
 gx: export: OutOfMemory

@@ -79,6 +79,11 @@ fn is_memory(line: &Line<'_>, fault: CliFault) -> bool {
                 force: _,
                 explain: _
             }
+            | Line::Check {
+                done: _,
+                force: _,
+                explain: _
+            }
             | Line::Adapt { drop_signatures: _ }
             | Line::Where(_)
             | Line::WhereFault { done: _, force: _ }
@@ -102,6 +107,11 @@ fn is_left(line: &Line<'_>, printed: &[u8], whole: &[u8]) -> bool {
         Line::Blobs
         | Line::Try {
             revision: _,
+            done: _,
+            force: _,
+            explain: _,
+        }
+        | Line::Check {
             done: _,
             force: _,
             explain: _,

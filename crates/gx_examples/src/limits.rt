@@ -50,6 +50,10 @@ main:test.txt
 % 6 % root
 $ try main^{tree} % wide % lines of wide % 21
 $ try main % version % commit of version % 1
+$ check % version %
+progress x
+commands: 3, objects: 4, refs: 2, and all names came back
+% 20
 $ blobs % three blobs % three names % 5
 ";
 
@@ -169,6 +173,11 @@ fn refusal_at(line: &Line<'_>, printed: &[u8], room: usize) -> CliFault {
         Line::Adapt { drop_signatures: _ } => CliFault::Adapt(AdaptFault::WriteFailed),
         Line::Try {
             revision: _,
+            done: _,
+            force: _,
+            explain: _,
+        }
+        | Line::Check {
             done: _,
             force: _,
             explain: _,

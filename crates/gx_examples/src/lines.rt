@@ -11,6 +11,9 @@ $ blobs % Blobs
 $ try|main % Try { revision: \"main\", done: false, force: false, explain: false }
 $ try|--done|--|-x % Try { revision: \"-x\", done: true, force: false, explain: false }
 $ try|--explain|x % Try { revision: \"x\", done: false, force: false, explain: true }
+$ check % Check { done: false, force: false, explain: false }
+$ check|--done % Check { done: true, force: false, explain: false }
+$ check|--explain|--force % Check { done: false, force: true, explain: true }
 $ adapt % Adapt { drop_signatures: false }
 $ adapt|--drop-signatures % Adapt { drop_signatures: true }
 $ where|7 % Where(7)

@@ -4,12 +4,13 @@ use crate::commands::{has_line, is_text};
 use crate::exported::generated::history;
 use crate::steps::{Step, halves, step_of};
 use crate::texts::text;
-use gx_cli::{CliFault, RoundTrip, look_in, round_trip};
+use gx_cli::{CliFault, Explanation, Features, Question, Reply, RoundTrip, look_in, round_trip};
 use gx_devices::Refusing;
 use gx_import::{ImportFault, ImportKind};
-use gx_object::{Mode, Sha1Namer};
+use gx_model::gitlink_laws::replays_keep_none;
+use gx_object::{Mode, Name, Sha1Namer};
 use gx_repo::Repo;
-use gx_rev::Revision;
+use gx_rev::{Range, Revision};
 use gx_text::{Bytes, Held, TreePath};
 use std::alloc::{Allocator, Global};
 use std::hash::RandomState;
@@ -83,30 +84,146 @@ fn streams_come_back_with_their_files(rt: HostRuntime) -> Result<(), Fail> {
 }
 
 #[test]
+fn question_has_the_commit_and_the_list_of_its_revision(rt: HostRuntime) -> Result<(), Fail> {
+    let state = RandomState::new(&rt)?;
+    let alloc = rt.alloc();
+    let mut sink = Held::new(alloc, 64)?;
+    let tripped = tripped(alloc, text("version"), "v1 test.txt", &mut sink, state);
+    let is_right = match tripped {
+        Some(
+            Made {
+                first: _,
+                trip: Ok(trip),
+            },
+        ) => match &trip.reply {
+            Some(reply) => is_of_version(reply),
+            None => false,
+        },
+        _ => false,
+    };
+    assert!(rt; is_right);
+    Ok(())
+}
+
+/// Whether a reply has the only commit of the version's stream.
+fn is_of_version(reply: &Reply<Global>) -> bool {
+    let has_commit = match &reply.commit {
+        Ok(commit) => {
+            let has_people = commit.author.as_slice() == b"A <a@x> 1 +0000".as_slice()
+                && commit.committer.as_slice() == b"A <a@x> 1 +0000".as_slice();
+            let is_first = commit.parents.is_empty() && commit.encoding.is_none();
+            has_people && is_first && commit.message.as_slice() == b"v1".as_slice()
+        }
+        Err(_) => false,
+    };
+    let is_listed = match &reply.listed {
+        Ok(names) => names.len() == 1 && is_version(&names[0]),
+        Err(_) => false,
+    };
+    has_commit && is_listed
+}
+
+/// Whether a name is the one that git gives the version's commit.
+fn is_version(name: &Name) -> bool {
+    name.hex() == *b"02d6adf1689e06135d2b4b4d471f1ae489887b53"
+}
+
+/// A refused import leaves what its checkpoint published, and nothing where there was none.
+#[test]
+fn refused_trip_leaves_the_last_checkpoint(rt: HostRuntime) -> Result<(), Fail> {
+    let state = RandomState::new(&rt)?;
+    for (stream, refs) in [(CHECKPOINTED, 1), (NOT_CHECKPOINTED, 0)] {
+        let mut sink = Held::new(rt.alloc(), 64)?;
+        let tripped = tripped(rt.alloc(), stream, "main f", &mut sink, state);
+        let count = match tripped {
+            Some(
+                Made {
+                    first,
+                    trip: Err(CliFault::Import(_)),
+                },
+            ) => first.refs().count(),
+            _ => usize::MAX,
+        };
+        assert!(rt; count == refs);
+    }
+    Ok(())
+}
+
+/// A stream that is refused behind a checkpoint.
+const CHECKPOINTED: &[u8] = b"commit refs/heads/main
+committer A <a@x> 1 +0000
+data 0
+
+checkpoint
+foo
+";
+
+/// The same without one.
+const NOT_CHECKPOINTED: &[u8] = b"commit refs/heads/main
+committer A <a@x> 1 +0000
+data 0
+
+foo
+";
+
+#[test]
 fn each_refused_growth_of_a_round_trip_is_out_of_memory(rt: HostRuntime) -> Result<(), Fail> {
     let state = RandomState::new(&rt)?;
     assert!(rt; refused_growths(rt.alloc(), state) >= 100);
     Ok(())
 }
 
-/// A stream that is imported into an empty store, exported, and imported again, and the file that is looked up between, by a
-/// revision and a path behind it.
+/// What a stream made of an empty store, and its trip, or why there is none.
+#[derive(Drop)]
+struct Made<A: Allocator> {
+    first: Repo<Sha1Namer, A>,
+    trip: Result<RoundTrip<Sha1Namer, A>, CliFault>,
+}
+
+/// A stream that is imported into an empty store, exported, and imported again, and what is asked between: a revision and a path
+/// behind it, and the commits of the revision. There is none where there is no memory for these words.
 fn tripped<A: Allocator + Copy>(
     alloc: A,
     stream: &[u8],
     words: &str,
     sink: &mut Held<A>,
     state: RandomState,
-) -> Result<RoundTrip<Sha1Namer, A>, CliFault> {
-    let (revision, path) = halves(words, ' ');
-    let Ok(revision) = Revision::read(alloc, revision.as_bytes()) else {
-        return Err(CliFault::OutOfMemory);
+) -> Option<Made<A>> {
+    let (word, path) = halves(words, ' ');
+    let revision = Revision::read(alloc, word.as_bytes()).ok()?;
+    let path = TreePath::read(alloc, path.as_bytes()).ok()?;
+    let range = Range::read(alloc, word.as_bytes()).ok()?;
+    let question = Question {
+        revision,
+        path,
+        ranges: Vec::from_array(alloc, [range]).ok()?,
     };
-    let Ok(path) = TreePath::read(alloc, path.as_bytes()) else {
-        return Err(CliFault::OutOfMemory);
-    };
-    let source = Bytes::new(stream, 4096, false);
-    round_trip(alloc, Sha1Namer, source, sink, &revision, &path, state)
+    Some(asked(alloc, stream, &Some(question), sink, state))
+}
+
+/// The same of a question.
+fn asked<A: Allocator + Copy>(
+    alloc: A,
+    stream: &[u8],
+    question: &Option<Question<A>>,
+    sink: &mut Held<A>,
+    state: RandomState,
+) -> Made<A> {
+    replays_keep_none();
+    let mut first = Repo::new(alloc, Sha1Namer, state);
+    let mut told = Explanation::none();
+    let trip = round_trip(
+        alloc,
+        &mut first,
+        Sha1Namer,
+        Bytes::new(stream, 4096, false),
+        sink,
+        Features::none(),
+        question,
+        state,
+        &mut told,
+    );
+    Made { first, trip }
 }
 
 /// Whether a trip shows what a step says, or is refused at its second command.
@@ -114,15 +231,22 @@ fn shows(alloc: Global, step: &Step<'_>, state: RandomState) -> bool {
     let Ok(mut sink) = Held::new(alloc, 64) else {
         return false;
     };
-    let is_right = match tripped(alloc, step.input, step.words, &mut sink, state) {
-        Ok(trip) => is_whole(alloc, &trip, step) && comes_back(alloc, &trip, step.words, state),
+    let Some(tripped) = tripped(alloc, step.input, step.words, &mut sink, state) else {
+        return false;
+    };
+    let is_right = match &tripped.trip {
+        Ok(trip) => {
+            is_whole(alloc, trip, step)
+                && comes_back(alloc, &tripped.first, trip, step.words, state)
+        }
         Err(fault) => {
             let unknown = ImportFault {
                 command: 2,
                 kind: ImportKind::UnknownCommand,
                 checkpoints: 0,
             };
-            fault == CliFault::Import(unknown) && has_line(alloc, Some(fault), step.line)
+            let is_unknown = *fault == CliFault::Import(unknown);
+            is_unknown && has_line(alloc, Some(*fault), step.line)
         }
     };
     is_right && sink.bytes() == step.printed
@@ -138,8 +262,11 @@ fn is_whole(alloc: Global, trip: &RoundTrip<Sha1Namer, Global>, step: &Step<'_>)
         b"feature done\n".as_slice()
     };
     let has_text = trip.text.starts_with(front) && trip.text.ends_with(b"\ndone\n");
-    let has_file = is_file(alloc, &trip.file, step) && is_there(alloc, &trip.again, step);
-    has_numbers && has_text && has_file
+    let has_file = match &trip.reply {
+        Some(reply) => is_file(alloc, &reply.file, step),
+        None => false,
+    };
+    has_numbers && has_text && has_file && is_there(alloc, &trip.again, step)
 }
 
 /// Whether a repository has the file of a step, or has none for its cause.
@@ -167,6 +294,7 @@ fn is_file(alloc: Global, file: &Result<(Mode, Vec<u8>), CliFault>, step: &Step<
 /// Whether what a stream makes comes back, and again by a trip of its export: the same refs, no more objects, and the same text.
 fn comes_back(
     alloc: Global,
+    first: &Repo<Sha1Namer, Global>,
     trip: &RoundTrip<Sha1Namer, Global>,
     words: &str,
     state: RandomState,
@@ -174,13 +302,16 @@ fn comes_back(
     let Ok(mut sink) = Held::new(alloc, 64) else {
         return false;
     };
-    match tripped(alloc, &trip.text, words, &mut sink, state) {
-        Ok(twice) => {
-            let has_objects = trip.again.store().len() <= trip.first.store().len()
-                && twice.again.store().len() == twice.first.store().len();
-            let has_refs = have_same_refs(&trip.first, &trip.again)
-                && have_same_refs(&trip.first, &twice.again);
-            has_objects && has_refs && trip.text == twice.text && sink.bytes().is_empty()
+    let Some(twice) = tripped(alloc, &trip.text, words, &mut sink, state) else {
+        return false;
+    };
+    match &twice.trip {
+        Ok(again) => {
+            let has_objects = trip.again.store().len() <= first.store().len()
+                && again.again.store().len() == twice.first.store().len();
+            let has_refs = have_same_refs(first, &trip.again)
+                && have_same_refs(first, &again.again);
+            has_objects && has_refs && trip.text == again.text && sink.bytes().is_empty()
         }
         Err(_) => false,
     }
@@ -229,24 +360,42 @@ fn is_trip_refused<'a, B: Allocator>(
     state: RandomState,
 ) -> Option<bool> {
     heap.arm(nth);
-    let trip = tripped(heap, text("two branches"), "a f", sink, state);
+    let tripped = tripped(heap, text("two branches"), "a f", sink, state);
     let is_waiting = heap.is_waiting();
     heap.arm(0);
-    is_refused(&trip, is_waiting)
+    match &tripped {
+        Some(tripped) => is_refused(tripped, is_waiting),
+        None if is_waiting => None,
+        None => Some(true),
+    }
 }
 
-/// Whether a trip, or its file alone, is refused for want of memory; none where it is answered otherwise. One that succeeds, at
-/// which a growth is still waited for, has its file, and the same refs twice.
-fn is_refused<A: Allocator + Copy>(
-    trip: &Result<RoundTrip<Sha1Namer, A>, CliFault>,
-    is_waiting: bool,
-) -> Option<bool> {
-    let is_right = match trip {
-        Ok(trip) if is_waiting => trip.file.is_ok() && have_same_refs(&trip.first, &trip.again),
-        Ok(trip) => matches!(trip.file, Err(CliFault::OutOfMemory)),
+/// Whether a trip, or a part of its reply alone, is refused for want of memory; none where it is answered otherwise. One that
+/// succeeds, at which a growth is still waited for, has its reply, and the same refs twice.
+fn is_refused<A: Allocator + Copy>(tripped: &Made<A>, is_waiting: bool) -> Option<bool> {
+    let is_right = match &tripped.trip {
+        Ok(trip) => match &trip.reply {
+            Some(reply) if is_waiting => {
+                is_whole_reply(reply) && have_same_refs(&tripped.first, &trip.again)
+            }
+            Some(reply) => lacks_memory(reply),
+            None => false,
+        },
         Err(CliFault::OutOfMemory) => !is_waiting,
         Err(CliFault::Import(fault)) => !is_waiting && fault.kind == ImportKind::OutOfMemory,
         Err(_) => false,
     };
     if is_right { Some(!is_waiting) } else { None }
+}
+
+/// Whether each part of a question is answered.
+fn is_whole_reply<A: Allocator + Copy>(reply: &Reply<A>) -> bool {
+    reply.file.is_ok() && reply.commit.is_ok() && reply.listed.is_ok()
+}
+
+/// Whether memory ran out for a part of a question.
+fn lacks_memory<A: Allocator + Copy>(reply: &Reply<A>) -> bool {
+    matches!(reply.file, Err(CliFault::OutOfMemory))
+        || matches!(reply.commit, Err(CliFault::OutOfMemory))
+        || matches!(reply.listed, Err(CliFault::OutOfMemory))
 }

@@ -196,6 +196,11 @@ fn file_of<'a>(line: &Line<'a>) -> Option<&'a str> {
             force: _,
             explain: _,
         }
+        | Line::Check {
+            done: _,
+            force: _,
+            explain: _,
+        }
         | Line::Adapt { drop_signatures: _ }
         | Line::Where(_)
         | Line::WhereFault { done: _, force: _ } => None,

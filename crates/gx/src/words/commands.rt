@@ -3,7 +3,7 @@
 use crate::fault::RunFault;
 use crate::run::Run;
 use crate::stores::{collect, drop_refs, import, init};
-use crate::streams::{adapt, answer_input, export, print, try_stream};
+use crate::streams::{Trial, adapt, answer_input, export, print, try_stream};
 use gx_cli::{Features, Line};
 use std::hash::RandomState;
 use std::process::ExitCode;
@@ -47,6 +47,7 @@ fn file_of<'a>(line: &Line<'a>) -> Option<&'a str> {
         | Line::Where(_)
         | Line::WhereFault { .. }
         | Line::Try { .. }
+        | Line::Check { .. }
         | Line::Adapt { .. } => None,
     }
 }
@@ -74,11 +75,19 @@ fn run_command(run: &Run<'_>, line: &Line<'_>, state: RandomState) -> Result<(),
             explain,
         } => {
             run.explain_if(*explain);
-            try_stream(run, Some(*revision), features(done, force), state)
+            try_stream(run, Trial::Revision(revision), features(done, force), state)
+        }
+        Line::Check {
+            done,
+            force,
+            explain,
+        } => {
+            run.explain_if(*explain);
+            try_stream(run, Trial::Check, features(done, force), state)
         }
         Line::WhereFault { done, force } => {
             run.explain_if(true);
-            try_stream(run, None, features(done, force), state)
+            try_stream(run, Trial::Fault, features(done, force), state)
         }
         Line::Adapt { drop_signatures } => adapt(run, *drop_signatures),
         Line::Blobs | Line::Where(_) => answer_input(run, line, None, state),

@@ -37,6 +37,6 @@ returns-in_default g c =
     let o = c.serve_stored.result in
     let not = c.in_default in
     record {
-      served = opened_served name o coming was now c.args.line.now c.args.store.items not.not-Blobs not.not-Try not.not-Adapt not.not-Where not.not-WhereFault not.not-Init not.not-Import not.not-Batch c.serve_stored.ensures;
+      served = opened_served name o coming was now c.args.line.now c.args.store.items not.not-Blobs not.not-Try not.not-Check not.not-Adapt not.not-Where not.not-WhereFault not.not-Init not.not-Import not.not-Batch c.serve_stored.ensures;
       again = other_again name o coming was now c.args.line.now c.args.store.items not.not-Import;
     }

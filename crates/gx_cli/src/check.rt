@@ -1,0 +1,131 @@
+//! A stream's trip into an empty store and back, told in a line. Source: git-fast-import(1) and git-fast-export(1).
+
+ghost use Rattle.std.specs.Prelude.{◌≡◌, ◌++◌, [], OnOk};
+ghost use Rattle.gx_model.specs.Histories.{empty_repository};
+ghost use Rattle.gx_cli.specs.Checking.{Checks, checked_line, count, TellsReport};
+ghost use Rattle.gx_cli.specs.Explained.{ExplainsCommand};
+
+use crate::CliFault;
+use crate::sending::put_text;
+use crate::trips::round_trip;
+use gx_import::{Explanation, Report};
+use gx_model::Features;
+use gx_model::gitlink_laws::replays_keep_none;
+use gx_object::{Kind, Name, Namer};
+use gx_repo::Repo;
+use gx_text::{Sink, Source};
+use itoa::Buffer;
+use std::alloc::{AllocError, Allocator};
+use std::hash::RandomState;
+
+/// Makes the [`round_trip`] of a stream from an empty store, of which nothing is kept, and prints what it reports in a line: each ref
+/// came back with its object's name. Lines of `progress` go out first. These features are asked for as if the stream began with
+/// them.
+///
+/// `Import`: the stream's import is refused; what that is about is told, as `gx_import::import_explained` does. `Export`: the export
+/// has more than 2^63 - 1 bytes. `WriteFailed`: the sink didn't take all of the line. `OutOfMemory`: a growth was refused after
+/// the import.
+/// Cost and memory: those of the trip.
+pub fn check_stream<N: Namer + Drop, A: Allocator + Copy, R: Source + Drop, W: Sink>(
+    alloc: A,
+    namer: N,
+    source: R,
+    sink: &mut W,
+    features: Features,
+    state: RandomState,
+    told: &mut Explanation<A>,
+) -> Result<(), CliFault>
+    ensures explained { ExplainsCommand (N.name_of namer) features empty_repository
+        (R.coming source) result told.new }
+    ensures checked { Checks (N.name_of namer) features (R.coming source)
+        (W.taken sink.old) (W.taken sink.new) result }
+{
+    let lent = Lent { namer: &namer };
+    check_copied(alloc, lent, source, sink, features, state, told)
+}
+
+/// The same, where the namer can be copied.
+fn check_copied<N: Namer + Copy + Drop, A: Allocator + Copy, R: Source + Drop, W: Sink>(
+    alloc: A,
+    namer: N,
+    source: R,
+    sink: &mut W,
+    features: Features,
+    state: RandomState,
+    told: &mut Explanation<A>,
+) -> Result<(), CliFault>
+    ensures explained { ExplainsCommand (N.name_of namer) features empty_repository
+        (R.coming source) result told.new }
+    ensures checked { Checks (N.name_of namer) features (R.coming source)
+        (W.taken sink.old) (W.taken sink.new) result }
+{
+    replays_keep_none();
+    let mut repo = Repo::new(alloc, namer, state);
+    match round_trip(
+        alloc, &mut repo, namer, source, sink, features, &None, state, told,
+    ) {
+        Ok(trip) => tell_report(alloc, &trip.report, sink),
+        Err(fault) => Err(fault),
+    }
+}
+
+/// A namer that two repositories borrow.
+struct Lent<'n, N: Namer> {
+    namer: &'n N,
+}
+
+impl<N: Namer> Clone for Lent<'_, N> {
+    fn clone(&self) -> Result<Self, AllocError> {
+        Ok(*self)
+    }
+}
+
+impl<N: Namer> Copy for Lent<'_, N> {}
+
+impl<N: Namer> Namer for Lent<'_, N> {
+    ghost name_of = { λ lent kind body. N.name_of lent.namer.now kind body };
+
+    ghost is_namer = { λ lent. N.is_namer lent.namer.now };
+
+    fn name(&self, kind: Kind, body: &[u8]) -> Name {
+        self.namer.name(kind, body)
+    }
+}
+
+/// Prints the line of a trip that came back. It is made before it goes out.
+fn tell_report<W: Sink, A: Allocator + Copy>(
+    alloc: A,
+    report: &Report,
+    sink: &mut W,
+) -> Result<(), CliFault>
+    ensures { TellsReport report.now (W.taken sink.old) (W.taken sink.new) result }
+{
+    let mut line = Vec::new(alloc);
+    write_report(&mut line, report)?;
+    put_text(sink, &line)
+}
+
+/// Writes that line.
+fn write_report<A: Allocator>(line: &mut Vec<u8, A>, report: &Report) -> Result<(), AllocError>
+    requires empty { line.old.items ≡ [] }
+    ensures { OnOk result (line.new.items ≡ checked_line report.now) }
+{
+    write_count(line, b"commands: ", report.commands)?;
+    write_count(line, b", objects: ", report.objects)?;
+    write_count(line, b", refs: ", report.refs)?;
+    line.extend_from_slice(b", and all names came back\n")?;
+    Ok(())
+}
+
+/// Appends words, and a number behind them.
+fn write_count<A: Allocator>(
+    line: &mut Vec<u8, A>,
+    words: &[u8],
+    number: u64,
+) -> Result<(), AllocError>
+    ensures { OnOk result (line.new.items ≡ line.old.items ++ count words.now number) }
+{
+    line.extend_from_slice(words)?;
+    line.extend_from_slice(Buffer::new().format(number).as_bytes())?;
+    Ok(())
+}

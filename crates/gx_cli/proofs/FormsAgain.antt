@@ -32,7 +32,8 @@ use Rattle.gx_command.specs.Reading.{commands_asked_from}
 use Rattle.gx_export.specs.Outputs.{most}
 use Rattle.gx_import.specs.Exported.{ExportedOr, ImportsExport, IsExported, LeaveExports}
 use Rattle.gx_import.specs.Imports.{Imports, report_of}
-use Rattle.gx_import.specs.Stopping.{StopsReplay, checkpoints_in, is_checkpoint}
+use Rattle.gx_model.specs.Laws.RefusedReplays.{checkpoints_in, is_checkpoint}
+use Rattle.gx_import.specs.Stopping.{StopsReplay}
 use Rattle.gx_import.specs.declared.fault.ImportFault.{ImportFault}
 use Rattle.gx_import.specs.declared.report.Report.{Report}
 use Rattle.gx_line.specs.declared.command_line.ExportForm.{ExportForm}

@@ -16,10 +16,10 @@ use Rattle.gx_model.specs.Replay.{Outcome, finished, imported_asked}
 use Rattle.gx_model.specs.Texts.Sinks.{FailedWithin, Taken, Took}
 use Rattle.gx_text.specs.Devices.{Coming}
 use Rattle.gx_stream.specs.Heard.{heard}
-use Rattle.gx_command.specs.Reading.{commands_asked_from}
+use Rattle.gx_command.specs.Reading.{AreOfItems, commands_asked_from}
 use Rattle.gx_rev.specs.Answers.{shown_file}
 use Rattle.gx_rev.specs.RevFaults.{fault_of}
-use Rattle.gx_import.specs.Imports.{AreRead, Replays, replayed_on}
+use Rattle.gx_import.specs.Imports.{Replays, replayed_on}
 use Rattle.gx_import.specs.declared.fault.ImportFault.{ImportFault}
 use Rattle.gx_cli.specs.Listings.{text_of_word}
 use Rattle.gx_cli.specs.declared.fault.CliFault.{CliFault}
@@ -52,9 +52,9 @@ LooksAs given (Err fault) = ⊥
 
 module _ (name : Kind → Bytes → Bytes) where
   -- This holds of the commands of a source, and of their replay into an empty store, where these features are asked for. Where the
-  -- source tells nothing, there are commands that a reader gives.
+  -- source tells nothing, there are commands of some items.
   abbrev pub OfReplay : Features → Option Coming → (Commands → Outcome → Type 0) → Type 0
-  OfReplay asks None holds = (commands : Commands) × AreRead commands × holds commands (replayed_on asks name empty_repository commands)
+  OfReplay asks None holds = (commands : Commands) × AreOfItems asks commands × holds commands (replayed_on asks name empty_repository commands)
   OfReplay asks (Some coming) holds =
       holds (commands_asked_from asks coming) (imported_asked asks name no_history (heard coming).bytes (heard coming).fails)
 

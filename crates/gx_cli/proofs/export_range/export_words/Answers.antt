@@ -13,14 +13,14 @@ returns-in_err-read_into g c =
 pub returns-in-Ok : goal.returns-in-Ok
 returns-in-Ok g c =
     range_sent (g.N.Namer.name_of c.args.repo.now.0) c.args.done c.args.repo.now.1 (lent_texts c.args.words.now) (map shown_range c.read_into.new.ranges.items) c.in_ok-read_into.ensures
-    (g.W.Sink.taken c.args.sink.now) (g.W.Sink.taken c.export_range.new.sink) tt (rw c.as_slice.ensures.value at c.in-Ok.ensures)
+    (g.W.Sink.taken c.args.sink.now) (g.W.Sink.taken c.export_range.new.sink) tt (rw c.as_slice.ensures.value at c.in-Ok.ensures.range)
 
 pub returns-in-Err-Walk : goal.returns-in-Err-Walk
 returns-in-Err-Walk g c =
     rw c.refused.ensures (range_refused (g.N.Namer.name_of c.args.repo.now.0) c.args.done c.args.repo.now.1 (lent_texts c.args.words.now) (map shown_range c.read_into.new.ranges.items) c.in_ok-read_into.ensures
-    (g.W.Sink.taken c.args.sink.now) (g.W.Sink.taken c.export_range.new.sink) c.in-Err-Walk.fault.word c.in-Err-Walk.fault.kind (rw c.as_slice.ensures.value at (rw c.in-Err-Walk.field-0-is at c.in-Err-Walk.ensures)))
+    (g.W.Sink.taken c.args.sink.now) (g.W.Sink.taken c.export_range.new.sink) c.in-Err-Walk.fault.word c.in-Err-Walk.fault.kind (rw c.as_slice.ensures.value at (rw c.in-Err-Walk.field-0-is at c.in-Err-Walk.ensures.range)))
 
 pub returns : goal.returns
 returns g c =
     range_stopped (g.N.Namer.name_of c.args.repo.now.0) c.args.done c.args.repo.now.1 (lent_texts c.args.words.now) (map shown_range c.read_into.new.ranges.items) c.in_ok-read_into.ensures
-    (g.W.Sink.taken c.args.sink.now) (g.W.Sink.taken c.export_range.new.sink) c.in-Err-Export.fault (rw c.as_slice.ensures.value at (rw c.in-Err-Export.field-0-is at c.in-Err-Export.ensures))
+    (g.W.Sink.taken c.args.sink.now) (g.W.Sink.taken c.export_range.new.sink) c.in-Err-Export.fault (rw c.as_slice.ensures.value at (rw c.in-Err-Export.field-0-is at c.in-Err-Export.ensures.range))

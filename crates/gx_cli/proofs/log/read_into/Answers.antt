@@ -15,7 +15,7 @@ returns-in-Err g c =
     let left = lent_texts (drop (i + 1) words) in
     let next = ap lent_texts (drop_more words i (record { ref_ptr = (0, 0); now = [] }) c.loop-place-test.true) in
     let read = subst (λ ts. AreRead range_of (lent_texts words) ts i done) next c.loop-place.invariant in
-    rw c.refused.ensures (word_refused range_of (lent_texts words) left (get_or words i (record { ref_ptr = (0, 0); now = [] })).now i done c.in-Err.kind c.in-Err.ensures read (i + 1) refl)
+    rw c.refused.ensures (word_refused range_of (lent_texts words) left (get_or words i (record { ref_ptr = (0, 0); now = [] })).now i done c.in-Err.kind c.in-Err.ensures.range read (i + 1) refl)
 
 pub loop-place-preserved : goal.loop-place-preserved
 loop-place-preserved g c =
@@ -27,7 +27,7 @@ loop-place-preserved g c =
     let read = subst (λ ts. AreRead range_of (lent_texts words) ts i done) next c.loop-place.invariant in
     let pushed : c.push.new.self.items ≡ c.loop-place.ranges.items ++ c.in-Ok.range ∷ [] = c.in_ok-push-in-Ok.ensures.items in
     subst (AreRead range_of (lent_texts words) left (i + 1)) (sym (ap (map shown_range) pushed ∙ map-append shown_range c.loop-place.ranges.items (c.in-Ok.range ∷ [])))
-    (next_read range_of (lent_texts words) left (get_or words i (record { ref_ptr = (0, 0); now = [] })).now i done (shown_range c.in-Ok.range) c.in-Ok.ensures read)
+    (next_read range_of (lent_texts words) left (get_or words i (record { ref_ptr = (0, 0); now = [] })).now i done (shown_range c.in-Ok.range) c.in-Ok.ensures.range read)
 
 pub returns : goal.returns
 returns g c =

@@ -27,3 +27,15 @@ module _ (name : Kind → Bytes → Bytes) (v : Version) (given : Stored (List R
   -- After the last one, they are read.
   pub all_read : n ≤ k → given ≡ Ok (rs, text)
   all_read le = let e : n - k ≡ 0 = omega arith in so_far ∙ ap (λ m. next_records name v m rs text) e
+
+module _ (name : Kind → Bytes → Bytes) (v : Version) (all : List Record) (whole : Bytes) (k : ℕ) (rs : List Record) (text : Bytes)
+    (ahead : (m : ℕ) → next_records name v (k + m) all whole ≡ next_records name v m rs text) where
+  -- Behind one more record the others follow.
+  pub one_behind : (more : List Record) (rest : Bytes) → next_record name v rs text ≡ Ok (more, rest) → (m : ℕ) → next_records name v (k + 1 + m) all whole ≡ next_records name v m more rest
+  one_behind more rest e m =
+      let s : k + 1 + m ≡ k + suc m = omega arith in
+      ap (λ n. next_records name v n all whole) s ∙ ahead (suc m) ∙ ap (λ r. r >>= λ x. next_records name v m x.0 x.1) e
+
+  -- Those before this place are right.
+  pub front_read : next_records name v k all whole ≡ Ok (rs, text)
+  front_read = let s : k ≡ k + 0 = omega arith in ap (λ n. next_records name v n all whole) s ∙ ahead 0

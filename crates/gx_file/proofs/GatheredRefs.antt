@@ -1,5 +1,5 @@
 -- Refs that are gathered one by one.
-use Rattle.std.proofs.Common.{◌≡◌, ℕ, suc, ◌+◌, ◌-◌, ◌<◌, ◌≤◌, true, false, cond, List, [], ◌∷◌, ◌++◌, Option, Some, Ok, Err, refl, sym, ap, ◌∙◌, arith, append_assoc, append-nil}
+use Rattle.std.proofs.Common.{◌≡◌, ℕ, suc, ◌+◌, ◌-◌, ◌<◌, ◌≤◌, true, false, cond, List, [], ◌∷◌, ◌++◌, Option, Some, None, Ok, Err, refl, sym, ap, subst, ◌∙◌, arith, append_assoc, append-nil}
 use Rattle.std.specs.Borrow.{Bor}
 use Rattle.gx_model.specs.declared.store_faults.FileFault.TheVariants as model
 use Rattle.gx_model.specs.Texts.{Bytes}
@@ -71,3 +71,21 @@ module _ (given : Gathered) (refs : List Ref) (n k : ℕ) (last : Option Bytes) 
       let none : n - k ≡ 0 = omega arith in
       let now = ap (λ m. gathered m last text) none ∙ no_more last text in
       (so_far.listed ∙ ap (λ g. refs ++ g.0) now ∙ append-nil refs, so_far.ended ∙ ap (λ g. g.1) now ∙ ap Ok (sym e))
+
+module _ (whole : Bytes) (k : ℕ) (refs : List Ref) (last : Option Bytes) (text : Bytes) (ahead : (m : ℕ) → AreGathered (gathered (k + m) None whole) refs m last text) where
+  -- Behind one more ref in order the others follow.
+  pub one_behind : (ref : Ref) (rest : Bytes) → first_ref text ≡ Ok (ref, rest) → is_after last ref.0 ≡ true → (m : ℕ) → AreGathered (gathered (k + 1 + m) None whole) (refs ++ ref ∷ []) m (Some ref.0) rest
+  one_behind ref rest e after m =
+      let s : k + suc m ≡ k + 1 + m = omega arith in
+      let z : suc m - 0 ≡ suc m = omega arith in
+      let so = subst (λ n. AreGathered (gathered (k + suc m) None whole) refs n last text) (sym z) (ahead (suc m)) in
+      let one = one_gathered (gathered (k + suc m) None whole) refs (suc m) 0 last text so ref rest (omega arith) e after in
+      let w : suc m - (0 + 1) ≡ m = omega arith in
+      subst (λ n. AreGathered (gathered n None whole) (refs ++ ref ∷ []) m (Some ref.0) rest) s (subst (λ n. AreGathered (gathered (k + suc m) None whole) (refs ++ ref ∷ []) n (Some ref.0) rest) w one)
+
+  -- Those before this place were gathered.
+  pub front_gathered : gathered k None whole ≡ (refs, Ok text)
+  front_gathered =
+      let s : k ≡ k + 0 = omega arith in
+      let a = ahead 0 in
+      ap (λ n. gathered n None whole) s ∙ (λ i. ((a.listed ∙ ap (λ g. refs ++ g.0) (no_more last text) ∙ append-nil refs) i, (a.ended ∙ ap (λ g. g.1) (no_more last text)) i))

@@ -5,6 +5,9 @@ pub mod StatedNames
 pub mod CountedRecords
 pub mod GatheredRefs
 pub mod SetRefs
+pub mod WantingHeads
+pub mod WantingRecords
+pub mod WantingRefs
 pub mod StoreTexts
 pub mod SentTexts
 pub mod SentStores

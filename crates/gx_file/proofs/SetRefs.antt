@@ -112,7 +112,7 @@ module _ (rs : List Record) where
   -- ---- all refs
 
   -- the refs and what follows them, unless one isn't set
-  abbrev settled : Option Fault → Gathered → Stored (List Ref × Bytes)
+  abbrev pub settled : Option Fault → Gathered → Stored (List Ref × Bytes)
   settled None given = given.1 >>= λ rest. Ok (given.0, rest)
   settled (Some fault) given = Err model.BadRef
 

@@ -19,7 +19,7 @@ module _ (name : Kind → Bytes → Bytes) (law : StoresAreRead name) (text : By
   text_of_read view (Err fault) h = tt
 
   -- A text for which a fault is given is that of no sound repository.
-  not_stored : (short : length text < 2 ^ 64) (fault : FileFault) → store_of name text ≡ Err fault → IsNoStoreText name text
+  pub not_stored : (short : length text < 2 ^ 64) (fault : FileFault) → store_of name text ≡ Err fault → IsNoStoreText name text
   not_stored short fault e = λ version repository sound same.
       let fits = subst (λ t. length t < 2 ^ 64) same short in
       let read = law.read version repository sound fits in

@@ -4,4 +4,5 @@ pub mod Reading
 pub mod Sending
 pub mod Texts
 pub mod TextEnds
+pub mod Wanting
 pub mod Writing

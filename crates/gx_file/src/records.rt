@@ -9,6 +9,9 @@ ghost use Rattle.gx_model.specs.Faults.{NeedsNoMemory};
 ghost use Rattle.gx_file.specs.Reading.{AddsBody, AddsStated, ChecksName, ReadsRecord, ReadsRecords};
 ghost use Rattle.gx_file.specs.TextEnds.{EndsWith};
 ghost use Rattle.gx_file.specs.Texts.{shown_heading, shown_length};
+ghost use Rattle.gx_file.specs.Wanting.{RunsOutAmong, RunsOutAt, RunsOutFor, WantsWhere};
+ghost use Rattle.gx_object.specs.Parts.{bytes_if};
+ghost use Rattle.gx_repo.specs.Calls.{HidesNoFault};
 ghost use Rattle.gx_text.specs.Lent.{lent_pair};
 
 use crate::FileFault;
@@ -32,6 +35,8 @@ pub(crate) fn read_records<'a, N: Namer, A: Allocator + Copy>(
     ensures namer { repo.new.0 ≡ repo.old.0 }
     ensures refs { repo.new.1.refs ≡ repo.old.1.refs }
     ensures records { ReadsRecords N.name_of repo.old repo.new version count text.now result }
+    ensures memory { WantsWhere result
+        (RunsOutAmong (N.name_of repo.old.0) version count repo.old.1.records text.now) }
 {
     let mut rest = text;
     for _ in 0..count {
@@ -51,6 +56,8 @@ fn read_record<'a, N: Namer, A: Allocator + Copy>(
     ensures namer { repo.new.0 ≡ repo.old.0 }
     ensures refs { repo.new.1.refs ≡ repo.old.1.refs }
     ensures record { ReadsRecord N.name_of repo.old repo.new version text.now result }
+    ensures memory { WantsWhere result
+        (RunsOutAt (N.name_of repo.old.0) version repo.old.1.records text.now) }
     ensures left { IfOk result (λ rest. EndsWith whole.now rest.now) }
 {
     let (line, rest) = read_line(text)?;
@@ -65,7 +72,8 @@ fn read_record<'a, N: Namer, A: Allocator + Copy>(
 /// Adds a record of which nothing is known, in front of what is left of the text, and which has the name that is stated,
 /// where one is.
 ///
-/// Adding a record makes its name. So only one that is refused is named here again, to tell which of its faults is first.
+/// Adding a record makes its name. So only one that is refused is named here again, to tell which of its faults is first,
+/// also before want of memory.
 fn add<N: Namer, A: Allocator + Copy>(
     repo: &mut Repo<N, A>,
     whole: &Text<A>,
@@ -78,10 +86,11 @@ fn add<N: Namer, A: Allocator + Copy>(
     ensures namer { repo.new.0 ≡ repo.old.0 }
     ensures refs { repo.new.1.refs ≡ repo.old.1.refs }
     ensures record { AddsStated N.name_of repo.old repo.new stated kind body.now result }
+    ensures memory { WantsWhere result
+        (RunsOutFor (N.name_of repo.old.0) repo.old.1.records (bytes_if stated) kind body.now) }
 {
     match add_body(repo, whole, kind, body, rest) {
         Ok(name) => check_name(stated, &name),
-        Err(AddFault::OutOfMemory) => Err(FileFault::OutOfMemory),
         Err(fault) => {
             check_name(stated, &repo.store().name(kind, body))?;
             Err(record_fault(fault))
@@ -101,11 +110,13 @@ fn add_body<N: Namer, A: Allocator + Copy>(
     ensures namer { repo.new.0 ≡ repo.old.0 }
     ensures refs { repo.new.1.refs ≡ repo.old.1.refs }
     ensures adds { AddsBody N.name_of repo.old repo.new kind body.now result }
+    ensures unhidden { HidesNoFault N.name_of repo.old kind body.now result }
 {
     let end = whole.as_slice().len() - rest.len() - 1;
     match TextRange::new(whole, end - body.len(), end) {
         Ok(range) => repo.add_body(kind, Body::Within(range)),
-        Err(_) => Err(AddFault::OutOfMemory),
+        // the text has as many owners as can be counted
+        Err(_) => repo.add_record(kind, body),
     }
 }
 

@@ -7,12 +7,13 @@ ghost use Rattle.gx_file.specs.Faults.{Reads};
 ghost use Rattle.gx_model.specs.Faults.{NeedsNoMemory};
 ghost use Rattle.gx_file.specs.Gathering.{Gathers, first_ref, gathered, shown_change};
 ghost use Rattle.gx_file.specs.Reading.{ReadsRefs};
+ghost use Rattle.gx_file.specs.Wanting.{RunsOutAmongRefs, RunsOutBehind, WantsWhere};
 
 use crate::FileFault;
 use crate::faults::refs_fault;
 use crate::lines::read_line;
 use gx_object::{Name, Namer};
-use gx_repo::{RefChange, Repo};
+use gx_repo::{PublishFault, RefChange, Repo};
 use gx_text::{cut, is_ref_name};
 use std::alloc::Allocator;
 
@@ -29,11 +30,17 @@ pub(crate) fn read_refs<'a, N: Namer, A: Allocator + Copy>(
     ensures namer { repo.new.0 ≡ repo.old.0 }
     ensures records { repo.new.1.records ≡ repo.old.1.records }
     ensures refs { ReadsRefs repo.old.1 repo.new.1 count text.now result }
+    ensures memory { WantsWhere result (RunsOutAmongRefs repo.old.1.records count text.now) }
 {
     let mut changes = Vec::new(alloc);
     let gathered = gather(&mut changes, count, text);
     match repo.publish(changes.as_slice()) {
         Ok(()) => gathered,
+        Err(PublishFault::OutOfMemory) => {
+            // the refs have a fault besides, where they end before their number
+            let _rest = gathered?;
+            Err(FileFault::OutOfMemory)
+        }
         Err(fault) => Err(refs_fault(fault)),
     }
 }
@@ -46,7 +53,9 @@ fn gather<'a, A: Allocator + Copy>(
     text: &'a [u8],
 ) -> Result<&'a [u8], FileFault>
     requires { changes.now.items ≡ [] }
-    ensures { Gathers (gathered count None text.now) (map shown_update changes.new.items) result }
+    ensures refs { Gathers (gathered count None text.now) (map shown_update changes.new.items) result }
+    ensures memory { WantsWhere result
+        (RunsOutBehind count text.now (map shown_update changes.new.items)) }
 {
     let mut rest = text;
     let mut last: Option<&[u8]> = None;

@@ -20,3 +20,6 @@ returns-clause-refused g c =
 
 pub read_store-requires : goal.read_store-requires
 read_store-requires g c = record { left = ([], sym c.as_slice.ensures) }
+
+pub returns-clause-memory : goal.returns-clause-memory
+returns-clause-memory g c = rw c.as_slice.ensures at c.read_store.ensures.memory

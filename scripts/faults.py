@@ -43,7 +43,7 @@ def words_of(place):
     file, name = place.split()
     text = (TOP / "crates" / file).read_text()
     body = re.search(rf"^pub(?:\(crate\))? enum {name} \{{\n(.*?)^\}}", text, re.M | re.S).group(1)
-    told = dict(re.findall(rf'\b{name}::(\w+)(?:\(\w+\))? => (?:"(\w*)"|\w+\.word\(\))', text))
+    told = dict(re.findall(rf'\b{name}::(\w+)(?:\(\w+\)| \{{.*?\}})? => (?:f\.write_str\(|write!\(f, )?(?:"([^"]*)"|\w+\.word\(\))', text))
     variants = re.findall(r'^ {4}(?:#\[error\("(.*)"\)\]\n {4})?(\w+)\b', body, re.M)
     words = (own or told.get(variant, variant) for own, variant in variants)
     return {word.removeprefix("gx: ") for word in words if word and "{" not in word}

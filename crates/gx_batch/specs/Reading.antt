@@ -48,7 +48,8 @@ IsPast was left = (gone : Bytes) × (was.bytes ≡ gone ++ left.bytes)
 -- Where the lines to come are known, the first is answered, and the others are left. That there is none is answered only where none
 -- is left, with the end or the failure that follows. Memory is wanted only for bytes that are to come.
 abbrev pub ReadsFrom : LineEnding → Coming → Option Coming → Bytes → Result Bool BatchFault → Type 0
-ReadsFrom ending was now line (Ok true) = (left : Coming) × (now ≡ Some left) × (lines_from ending was ≡ line ∷ lines_from ending left) × (left.fails ≡ was.fails) × IsPast was left
+ReadsFrom ending was now line (Ok true) =
+    (left : Coming) × (now ≡ Some left) × (lines_from ending was ≡ line ∷ lines_from ending left) × (left.fails ≡ was.fails) × IsPast was left
 ReadsFrom ending was now line (Ok false) = (lines_from ending was ≡ []) × (was.fails ≡ false)
 ReadsFrom ending was now line (Err ReadFailed) = (lines_from ending was ≡ []) × (was.fails ≡ true)
 ReadsFrom ending was now line (Err OutOfMemory) = 0 < length was.bytes

@@ -240,13 +240,12 @@ fn shows(alloc: Global, step: &Step<'_>, state: RandomState) -> bool {
                 && comes_back(alloc, &tripped.first, trip, step.words, state)
         }
         Err(fault) => {
-            let unknown = ImportFault {
+            let unknown = CliFault::Import(ImportFault {
                 command: 2,
                 kind: ImportKind::UnknownCommand,
                 checkpoints: 0,
-            };
-            let is_unknown = *fault == CliFault::Import(unknown);
-            is_unknown && has_line(alloc, Some(*fault), step.line)
+            });
+            *fault == unknown && has_line(alloc, Some(*fault), step.line)
         }
     };
     is_right && sink.bytes() == step.printed

@@ -102,7 +102,8 @@ fn comes_again(
     let Ok(mut sink) = Held::new(alloc, 64) else {
         return false;
     };
-    match tripped(alloc, &trip.text, &mut sink, done, state).trip {
+    let tripped = tripped(alloc, &trip.text, &mut sink, done, state);
+    match &tripped.trip {
         Ok(twice) => {
             twice.text == trip.text
                 && have_same_refs(&trip.again, &twice.again)

@@ -89,20 +89,23 @@ fn question_has_the_commit_and_the_list_of_its_revision(rt: HostRuntime) -> Resu
     let alloc = rt.alloc();
     let mut sink = Held::new(alloc, 64)?;
     let tripped = tripped(alloc, text("version"), "v1 test.txt", &mut sink, state);
-    let is_right = match tripped {
-        Some(
-            Made {
-                first: _,
-                trip: Ok(trip),
-            },
-        ) => match &trip.reply {
-            Some(reply) => is_of_version(reply),
-            None => false,
-        },
-        _ => false,
+    let is_right = match &tripped {
+        Some(made) => is_answered(made),
+        None => false,
     };
     assert!(rt; is_right);
     Ok(())
+}
+
+/// Whether a trip's question was answered by the only commit of the version's stream.
+fn is_answered(made: &Made<Global>) -> bool {
+    match &made.trip {
+        Ok(trip) => match &trip.reply {
+            Some(reply) => is_of_version(reply),
+            None => false,
+        },
+        Err(_) => false,
+    }
 }
 
 /// Whether a reply has the only commit of the version's stream.
@@ -135,18 +138,21 @@ fn refused_trip_leaves_the_last_checkpoint(rt: HostRuntime) -> Result<(), Fail> 
     for (stream, refs) in [(CHECKPOINTED, 1), (NOT_CHECKPOINTED, 0)] {
         let mut sink = Held::new(rt.alloc(), 64)?;
         let tripped = tripped(rt.alloc(), stream, "main f", &mut sink, state);
-        let count = match tripped {
-            Some(
-                Made {
-                    first,
-                    trip: Err(CliFault::Import(_)),
-                },
-            ) => first.refs().count(),
-            _ => usize::MAX,
+        let count = match &tripped {
+            Some(made) => refs_left(made),
+            None => None,
         };
-        assert!(rt; count == refs);
+        assert!(rt; count == Some(refs));
     }
     Ok(())
+}
+
+/// How many refs a refused import left; none where it wasn't refused.
+fn refs_left(made: &Made<Global>) -> Option<usize> {
+    match &made.trip {
+        Err(CliFault::Import(_)) => Some(made.first.refs().count()),
+        _ => None,
+    }
 }
 
 /// A stream that is refused behind a checkpoint.
@@ -192,13 +198,23 @@ fn tripped<A: Allocator + Copy>(
     let (word, path) = halves(words, ' ');
     let revision = Revision::read(alloc, word.as_bytes()).ok()?;
     let path = TreePath::read(alloc, path.as_bytes()).ok()?;
-    let range = Range::read(alloc, word.as_bytes()).ok()?;
+    let ranges = range_alone(alloc, word)?;
     let question = Question {
         revision,
         path,
-        ranges: Vec::from_array(alloc, [range]).ok()?,
+        ranges,
     };
     Some(asked(alloc, stream, &Some(question), sink, state))
+}
+
+/// A range word alone.
+fn range_alone<A: Allocator + Copy>(alloc: A, word: &str) -> Option<Vec<Range<A>, A>> {
+    let range = Range::read(alloc, word.as_bytes()).ok()?;
+    let mut ranges = Vec::new_in(alloc);
+    let Ok(()) = ranges.push(range) else {
+        return None;
+    };
+    Some(ranges)
 }
 
 /// The same of a question.

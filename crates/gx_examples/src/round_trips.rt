@@ -210,7 +210,7 @@ fn tripped<A: Allocator + Copy>(
 /// A range word alone.
 fn range_alone<A: Allocator + Copy>(alloc: A, word: &str) -> Option<Vec<Range<A>, A>> {
     let range = Range::read(alloc, word.as_bytes()).ok()?;
-    let mut ranges = Vec::new_in(alloc);
+    let mut ranges = Vec::new(alloc);
     let Ok(()) = ranges.push(range) else {
         return None;
     };

@@ -1,6 +1,6 @@
 //! Devices over memory, which tell their bytes.
 
-ghost use Rattle.std.specs.Prelude.{◌≡◌, ◌<◌, ◌≤◌, ◌+◌, length, [], Some, IfOk, false, IsOk};
+ghost use Rattle.std.specs.Prelude.{◌≡◌, ◌<◌, ◌≤◌, ◌+◌, min, length, [], Some, IfOk, OnErr, false, IsOk};
 ghost use Rattle.std.specs.Vec.{vec_len, vec_capacity};
 ghost use Rattle.gx_model.specs.Texts.Sinks.{Taken};
 ghost use Rattle.gx_text.specs.Devices.{Coming, Supply, Pulls, Holding, Pushes, holding_nothing};
@@ -54,6 +54,8 @@ impl<'a> Source for Bytes<'a> {
         requires nonempty { 0 < length buffer.old }
         ensures bound { IfOk result (λ n. n ≤ length buffer.new) }
         ensures bytes { Pulls (Some self.old.coming) (Some self.new.coming) buffer.new result }
+        ensures all { IfOk result (λ n.
+            n ≡ min (min (length self.old.coming.bytes) self.old.piece) (length buffer.old)) }
         ensures few { IfOk result (λ n. n ≤ self.old.piece) }
         ensures piece { self.new.piece ≡ self.old.piece }
     {
@@ -120,7 +122,9 @@ impl<A: Allocator + Copy> Sink for Held<A> {
         ensures bound { IfOk result (λ n. n ≤ length bytes.now) }
         ensures some { IfOk result (λ n. 0 < n) }
         ensures bytes { Pushes (Some self.old.taken) (Some self.new.taken) bytes.now result }
+        ensures all { IfOk result (λ n. n ≡ min (length bytes.now) self.old.room) }
         ensures room { IfOk result (λ n. self.new.room + n ≡ self.old.room) }
+        ensures left { OnErr result (self.new.room ≡ self.old.room) }
         ensures fails { (0 < self.old.room) × (self.old.taken.failed ≡ false) → IsOk result }
     {
         let count = bytes.len().min(self.room);
@@ -188,6 +192,7 @@ impl<A: Allocator + Copy> Sink for Growing<A> {
         ensures bound { IfOk result (λ n. n ≤ length bytes.now) }
         ensures some { IfOk result (λ n. 0 < n) }
         ensures bytes { Pushes (Some self.old) (Some self.new) bytes.now result }
+        ensures all { IfOk result (λ n. n ≡ length bytes.now) }
     {
         if self.failed || self.bytes.extend_from_slice(bytes).is_err() {
             self.failed = true;

@@ -21,7 +21,8 @@ pub struct FromRead<R> {
 impl<R: Read> FromRead<R> {
     /// A source that gives what the reader reads. Takes no memory.
     pub fn new(reader: R) -> FromRead<R>
-        ensures { result.failed ≡ false }
+        ensures reader { result.reader ≡ reader }
+        ensures works { result.failed ≡ false }
     {
         FromRead {
             reader,
@@ -41,6 +42,7 @@ impl<R: Read> Source for FromRead<R> {
             (R.remaining self.old.reader) (R.remaining self.new.reader) result buffer.new }
         ensures fails { IsErr result ↔ IsTrue self.new.failed }
         ensures stays { IsTrue self.old.failed → IsTrue self.new.failed }
+        ensures unread { IsTrue self.old.failed → self.new.reader ≡ self.old.reader }
     {
         if self.failed {
             return Err(Failed);
@@ -62,7 +64,8 @@ pub struct IntoWrite<W> {
 impl<W: Write> IntoWrite<W> {
     /// A sink that writes what it takes. Takes no memory.
     pub fn new(writer: W) -> IntoWrite<W>
-        ensures { result.failed ≡ false }
+        ensures writer { result.writer ≡ writer }
+        ensures works { result.failed ≡ false }
     {
         IntoWrite {
             writer,
@@ -83,6 +86,7 @@ impl<W: Write> Sink for IntoWrite<W> {
             (W.contents self.old.writer) (W.contents self.new.writer) result bytes.now }
         ensures fails { IsErr result ↔ IsTrue self.new.failed }
         ensures stays { IsTrue self.old.failed → IsTrue self.new.failed }
+        ensures unwritten { IsTrue self.old.failed → self.new.writer ≡ self.old.writer }
     {
         if self.failed {
             return Err(Failed);

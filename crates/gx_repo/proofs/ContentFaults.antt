@@ -14,6 +14,7 @@ use Rattle.gx_model.specs.Records.HistoryOf.{entries_in, files_at, files_of_entr
 use Rattle.gx_model.specs.Records.Growth.{record_named}
 use Rattle.gx_model.specs.Records.RecordFaults.{are_links_held, content_fault, has_empty_directory, has_long_path, is_bad_below, is_body, is_entry_held, is_held, is_without_entries}
 use Rattle.gx_model.specs.Laws.StoreLaws.{BodiesAreRead, IsBody}
+use Rattle.gx_model.proofs.Records.TakenRecords.{nothing_against as taken}
 use Rattle.gx_repo.specs.declared.fault.AddFault.{AddFault}
 use Rattle.gx_repo.specs.declared.fault.AddFault.TheVariants.{OutOfMemory, BadObject, Dangling, DuplicateObject}
 use Rattle.gx_repo.specs.Checking.{IsAgainst, MayRefuse, entry_room, wider, widest}
@@ -81,7 +82,8 @@ unfolding content_fault
 never_memory rs k body e = by (is_body k body) (are_links_held rs k body) (is_bad_below rs k body) e
   where
     by : (canonical held bad : Bool)
-        → (if not canonical then Some model.BadObject else (if not held then Some model.Dangling else (if bad then Some model.BadObject else None))) ≡ Some model.OutOfMemory → ⊥
+        → (if not canonical then Some model.BadObject else (if not held then Some model.Dangling
+            else (if bad then Some model.BadObject else None))) ≡ Some model.OutOfMemory → ⊥
     by false held bad e = absurd (cc)
     by true false bad e = absurd (cc)
     by true true true e = absurd (cc)
@@ -97,14 +99,7 @@ may_refuse rs k body (Err DuplicateObject) h = h
 
 -- a tree with nothing against it is canonical, and its links are held
 pub linked_tree : (rs : List Record) (k : Kind) (body : Bytes) → k ≡ kinds.Tree → content_fault rs k body ≡ None → IsLinkedTree rs k body
-unfolding content_fault
-linked_tree rs k body tree e = let good = by (is_body k body) (are_links_held rs k body) (is_bad_below rs k body) e in (tree, good.0, good.1)
-  where
-    by : (canonical held bad : Bool)
-        → (if not canonical then Some model.BadObject else (if not held then Some model.Dangling else (if bad then Some model.BadObject else None))) ≡ None → (canonical ≡ true) × (held ≡ true)
-    by true true bad e = (refl, refl)
-    by false held bad e = absurd (cc)
-    by true false bad e = absurd (cc)
+linked_tree rs k body tree e = let good = taken rs k body e in (tree, good.0, good.1)
 
 -- what refuses it, passed on
 pub refused_by : {X : Type 0} (rs : List Record) (k : Kind) (body : Bytes) (answer : Result X AddFault) (f : AddFault) → IsErrAnd answer (λ y. y ≡ f) → MayRefuse rs k body f → IfErr answer (MayRefuse rs k body)

@@ -34,13 +34,15 @@ never_memory records [] e = absurd (cc)
 never_memory records (c ∷ cs) e = by (never_memory records cs) (change_fault records c) refl e
   where
     one : (named held fits : Bool)
-        → (if not named then Some model.BadRefName else (if not held then Some model.UnknownObject else (if not fits then Some model.WrongKind else None))) ≡ Some model.OutOfMemory → ⊥
+        → (if not named then Some model.BadRefName else (if not held then Some model.UnknownObject
+            else (if not fits then Some model.WrongKind else None))) ≡ Some model.OutOfMemory → ⊥
     one false held fits e = absurd (cc)
     one true false fits e = absurd (cc)
     one true true false e = absurd (cc)
     one true true true e = absurd (cc)
 
-    by : (changes_fault records cs ≡ Some model.OutOfMemory → ⊥) → (first : Option Fault) → change_fault records c ≡ first → option_or first (changes_fault records cs) ≡ Some model.OutOfMemory → ⊥
+    by : (changes_fault records cs ≡ Some model.OutOfMemory → ⊥) → (first : Option Fault) → change_fault records c ≡ first
+        → option_or first (changes_fault records cs) ≡ Some model.OutOfMemory → ⊥
     by others None f e = others e
     by others (Some fault) f e = one (is_ref_name c.0) (is_some (record_named records c.1)) (is_target c.0 (record_named records c.1)) (f ∙ e)
 
@@ -57,7 +59,8 @@ told r changes fault (Err y) e against = of y (against ∙ ap (λ z. Some (fault
     of faults.WrongKind k = tt
 
 -- and where none is refused, and a ref isn't held, nothing is hidden
-pub nothing_hidden : (r : Records) (changes : List Change) → changes_fault r.records changes ≡ None → are_held r.refs changes ≡ false → (answer : Result (Unit {0}) PublishFault) → HidesNoRefusal r changes answer
+pub nothing_hidden : (r : Records) (changes : List Change) → changes_fault r.records changes ≡ None → are_held r.refs changes ≡ false
+    → (answer : Result (Unit {0}) PublishFault) → HidesNoRefusal r changes answer
 nothing_hidden r changes free missing (Ok done) = tt
 nothing_hidden r changes free missing (Err OutOfMemory) = (free, missing)
 nothing_hidden r changes free missing (Err faults.BadRefName) = tt

@@ -33,7 +33,8 @@ adds_refused old new r fault (Ok n) e p = absurd e
 adds_refused old new r fault (Err y) e p = subst (λ z. Adds old new r (Err z)) (sym e) (adds_by_put old new r (Err fault) p)
 
 -- and with what it says of the name
-pub name_refused : (old new : List Record) (r : Record) (fault : StoreFault) (answer : Result Name StoreFault) → IsErrAnd answer (λ y. y ≡ fault) → Puts old new r (Err fault) → HidesNone old r.name answer
+pub name_refused : (old new : List Record) (r : Record) (fault : StoreFault) (answer : Result Name StoreFault)
+    → IsErrAnd answer (λ y. y ≡ fault) → Puts old new r (Err fault) → HidesNone old r.name answer
 name_refused old new r fault (Ok n) e p = absurd e
 name_refused old new r fault (Err y) e p = of y (subst (λ z. Puts old new r (Err z)) (sym e) p)
   where

@@ -20,10 +20,11 @@ use Rattle.gx_tree.specs.Components.{bytes_of}
 use Rattle.gx_tree.specs.Homes.{AreAtHome, IsItemAtHome}
 use Rattle.gx_tree.specs.Named.{NamedTree, IsAtHome, IsHome, is_named, own_name}
 use Rattle.gx_tree.specs.Nodes.{IsLevel, files}
+use Rattle.gx_object.specs.Parts.{bytes_if}
 use Rattle.gx_object.specs.declared.name.Name.{Name}
 use Rattle.gx_tree.specs.Writes.{kept_leaf, kept_records, level_records, map_name}
 use Rattle.gx_tree.specs.Written.{AreWritten, IsWritten}
-use Rattle.gx_tree.specs.Views.{RememberAll, Remembers, item_names, shown_item, names_below, own_entry, own_leaf, shown_entries, tree_of}
+use Rattle.gx_tree.specs.Views.{RememberAll, Remembers, item_names, shown_item, names_below, names_of, own_entry, own_leaf, shown_entries, tree_of}
 use Rattle.gx_tree.specs.declared.directory.Item.{Item}
 use Rattle.gx_tree.specs.declared.directory.Item.TheVariants.{File, Folder}
 use Rattle.gx_tree.specs.declared.directory.Entry.{Entry}
@@ -122,6 +123,11 @@ own_none-item c (Folder d) more h = own_none c d.names more h
 pub own_none-below : {A : Type 0} (es : List (Entry A)) → own_name (names_below es) ≡ None
 own_none-below [] = refl
 own_none-below (e ∷ es) = own_none-item (bytes_of e.component) e.item (names_below es) (own_none-below es)
+
+-- the name that a directory remembers is that of the whole
+pub own_name-of : {A : Type 0} (r : Option Name) (es : List (Entry A)) → bytes_if r ≡ own_name (names_of r es)
+own_name-of None es = sym (own_none-below es)
+own_name-of (Some n) es = refl
 
 module _ (name : Kind → Bytes → Bytes) (rs : List Record) where
   named_by : (d : NamedTree) (o : Option Bytes) → own_name d.names ≡ o → IsTrue (is_some o) → IsAtHome name rs d → IsHome name rs (unwrap_or o []) d.files

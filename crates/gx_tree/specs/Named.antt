@@ -1,5 +1,5 @@
 -- Trees whose directories may remember the names of theirs, and the stores that hold what is so named.
-use Rattle.std.specs.Prelude.{◌≡◌, Bool, List, [], ◌∷◌, ◌++◌, Option, None, Some, if◌then◌else◌, is_some}
+use Rattle.std.specs.Prelude.{◌≡◌, ◌≢◌, Bool, IsTrue, List, [], ◌∷◌, ◌++◌, Option, None, Some, if◌then◌else◌, is_some}
 use Rattle.std.specs.List.{AllByRecursion}
 use Rattle.gx_model.specs.declared.objects.Kind.{Kind}
 use Rattle.gx_model.specs.Texts.{Bytes}
@@ -27,6 +27,10 @@ own_name (e ∷ names) = if is_root e.0 then Some e.1 else None
 -- whether the whole has a name
 abbrev pub is_named : List (Path × Bytes) → Bool
 is_named names = is_some (own_name names)
+
+-- a tree that has files remembers the name of the whole
+abbrev pub RemembersName : NamedTree → Type 0
+RemembersName t = t.files ≢ [] → IsTrue (is_named t.names)
 
 module _ (name : Kind → Bytes → Bytes) (rs : List Record) where
   -- n names the tree of g, which is held with all trees below it

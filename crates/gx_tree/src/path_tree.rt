@@ -12,7 +12,7 @@ ghost use Rattle.gx_tree.specs.HeldTrees.{HoldsTree, NamesHeldTree};
 ghost use Rattle.gx_tree.specs.Homes.{HoldsIn};
 ghost use Rattle.gx_tree.specs.Lists.{shown_listed};
 ghost use Rattle.gx_tree.specs.Loaded.{AreLoaded};
-ghost use Rattle.gx_tree.specs.Named.{IsAtHome, KeepsHome, no_files};
+ghost use Rattle.gx_tree.specs.Named.{IsAtHome, KeepsHome, RemembersName, is_named, no_files};
 ghost use Rattle.gx_tree.specs.Writes.{IsTreeName, StoresAll};
 ghost use Rattle.gx_tree.specs.Standings.{standing_of, standing_at};
 ghost use Rattle.gx_model.specs.declared.objects.Mode.TheVariants as modes;
@@ -211,6 +211,7 @@ impl<A: Allocator + Copy> PathTree<A> {
         ensures map { Becomes self.new result (Ok (removed self.old.files path.now)) }
         ensures root { path.now ≡ [] → IsOk result }
         ensures missing { standing_at self.old.files path.now ≡ None → self.new ≡ self.old }
+        ensures absent { standing_at self.old.files path.now ≡ None → IsOk result }
         ensures unchanged { OnErr result (self.new ≡ self.old) }
         ensures home { KeepsHome self.old self.new }
     {
@@ -297,6 +298,7 @@ impl<A: Allocator + Copy> PathTree<A> {
         ensures map { self.new.files ≡ self.old.files }
         ensures unchanged { OnErr result (self.new ≡ self.old) }
         ensures home { IfOk result (λ _. IsAtHome (N.name_of store.old.0) store.new.1 self.new) }
+        ensures remembers { IfOk result (λ _. RemembersName self.new) }
     {
         let mut tree = self.without_names()?;
         let name = tree.write_shared(store)?;
@@ -307,8 +309,9 @@ impl<A: Allocator + Copy> PathTree<A> {
     /// Does what `write` does, for a tree that is at home in the store: each name that it remembers is that of a tree
     /// which the store holds with all trees below it. So it doesn't look below a remembered name.
     ///
-    /// The errors are those of `write`. Cost: the bytes of the trees without a remembered name, and for each of them a
-    /// look-up in the store. Takes memory as `write` does, for these alone. Source: gitglossary(7), "tree object".
+    /// The errors are those of `write`, and none comes where the tree remembers its own name.
+    /// Cost: the bytes of the trees without a remembered name, and for each of them a look-up in the store. Takes memory as
+    /// `write` does, for these alone, and none where the tree remembers its own name. Source: gitglossary(7), "tree object".
     pub fn write_shared<N: Namer>(&mut self, store: &mut Store<N, A>) -> Result<Name, TreeFault>
         requires home { HoldsIn N.name_of store.now IsAtHome self.now }
         ensures name { IfOk result (IsTreeName (N.name_of store.old.0) self.old.files) }
@@ -319,12 +322,17 @@ impl<A: Allocator + Copy> PathTree<A> {
         ensures map { self.new.files ≡ self.old.files }
         ensures unchanged { OnErr result (self.new ≡ self.old) }
         ensures home { IfOk result (λ _. IsAtHome (N.name_of store.old.0) store.new.1 self.new) }
+        ensures remembers { IfOk result (λ _. RemembersName self.new) }
+        ensures named { IsTrue (is_named self.old.names) → IsOk result }
     {
         let mut body = Vec::new(self.alloc);
         let Some(root) = &self.root else {
             let none: Vec<Entry<A>, A> = Vec::new(self.alloc);
             return put_tree(none.as_slice(), store, &mut body);
         };
+        if let Some(name) = root.own_name() {
+            return Ok(name);
+        }
         let root = root.written(self.alloc, store, &mut body)?;
         let name = *root.tree_name();
         self.root = Some(root);

@@ -3,6 +3,7 @@
 ghost use Rattle.std.specs.Prelude.{◌≡◌, ◌++◌, [], IfOk, IsTrue, OnOk, Some, map};
 ghost use Rattle.gx_model.specs.Records.Growth.{tree_records};
 ghost use Rattle.gx_model.specs.Objects.{entry_text, tree_text};
+ghost use Rattle.gx_object.specs.Parts.{bytes_if};
 ghost use Rattle.gx_tree.specs.Edits.{level_in};
 ghost use Rattle.gx_tree.specs.Homes.{EntriesKeepHome, HoldsIn, AreAtHome, IsItemAtHome};
 ghost use Rattle.gx_tree.specs.Named.{IsAtHome, is_named, own_name};
@@ -55,6 +56,13 @@ impl<A: Allocator + Copy> Directory<A> {
             Some(name) => name,
             None => unreachable!(),
         }
+    }
+
+    /// The name of its tree, where it is remembered.
+    pub(crate) fn own_name(&self) -> Option<Name>
+        ensures { bytes_if result ≡ own_name self.now.names }
+    {
+        self.remembered
     }
 
     // Whether it remembers the name of its tree.

@@ -4,13 +4,14 @@
 # processor time in seconds and its peak memory in MB (GNU time's), how many runs there were, and the bytes of what was made or read.
 #   bench/all.sh [COMMAND [STREAM]]     COMMAND: import, open, ls, log, show, rev-parse, export, or all; with STREAM also several, joined by commas.
 #                                       STREAM: one of bench/streams.py with its numbers, as `steady 10000`; or `own`, this repository by
-#                                       `git fast-export --all`; or `file PATH`
-# Without STREAM there are steady histories of 0, 1,000, 10,000 and 100,000 commits behind the first, histories of 2,000, 10,000 and 40,000, a directory of
-# 10,000 files, 200,000 blobs, and this repository; each command is measured on those that it is for, see below. All of it takes about a quarter of an hour
-# with RUNS=3 and streams that are there.
+#                                       `git fast-export --all`; or `linux`, the sources of Linux by bench/linux.sh; or `file PATH`
+# Without STREAM there are steady histories of 0, 1,000, 10,000 and 100,000 commits behind the first, histories of 2,000, 10,000 and 40,000, one of 10,000
+# with forks and merges, a directory of 10,000 files, 200,000 blobs, the sources of Linux, and this repository; each command is measured on those that it is
+# for, see below. All of it takes about half an hour with RUNS=3 and streams that are there.
 # RUNS: how many runs, 5 if it isn't set; what took longer than LONG seconds, 10 if it isn't set, isn't run again. GX: the program, crates/gx/out/gx if it
 # isn't set. GX_BENCH: the program gx_bench, which hashes by the kit's SHA-1; crates/gx_bench/out/gx_bench if it isn't set, and left out where it isn't built.
-# STREAMS: a folder of streams, as `steady_10000`, each made there unless it is there. It needs git, sha1sum, python3 and GNU time, and 15 GB of disk.
+# STREAMS: a folder of streams, as `steady_10000`, each made there unless it is there. It needs git, sha1sum, python3 and GNU time, what bench/linux.sh needs, and
+# 15 GB of disk.
 set -euo pipefail
 cd "$(dirname "$0")/.."
 export LC_ALL=C.UTF-8
@@ -38,16 +39,18 @@ prepare() { $before; }
 
 # what is measured of each stream if none is named
 table='
-import      steady 0
-all         steady 1000
-all         steady 10000
-all         steady 100000
-import,open history 2000
-import,open history 10000
-import,open history 40000
-import,open flat 10000 2000
-import      blobs 200000 1000
-all         own
+import                   steady 0
+all                      steady 1000
+all                      steady 10000
+import,open,ls,log,show  steady 100000
+import,open,export       history 2000
+import,open,export       history 10000
+import,open              history 40000
+import,open,export       forks 10000
+import,open              flat 10000 2000
+import                   blobs 200000 1000
+import,open              linux
+all                      own
 '
 
 # the file of a stream, which is made unless it is there
@@ -56,10 +59,23 @@ stream_of() {
   local made=$*
   made=$streams/${made// /_}
   if [ ! -f "$made" ]; then
-    if [ "$1" = own ]; then git fast-export --all; else python3 bench/streams.py "$@"; fi > "$made.new"
+    case $1 in
+      own) git fast-export --all ;;
+      linux) bench/linux.sh ;;
+      *) python3 bench/streams.py "$@" ;;
+    esac > "$made.new"
     mv "$made.new" "$made"
   fi
   echo "$made"
+}
+
+# how many commits the file has of a stream of this kind: in sources there are lines that begin as a commit does
+commits_of() {
+  case $1 in
+    own) git rev-list --all --count ;;
+    linux) echo 1 ;;
+    *) grep -ac '^commit ' "$file" || true ;;
+  esac
 }
 
 # one row: row COMMAND PROGRAM BYTES WORD.., where BYTES is `out` for what is printed, or a file or folder
@@ -168,7 +184,7 @@ measure() {
   file=$(stream_of "$@")
   stream=$*
   [ "$1" != file ] || stream=$(basename "$2")
-  if [ "$1" = own ]; then commits=$(git rev-list --all --count); else commits=$(grep -ac '^commit ' "$file" || true); fi
+  commits=$(commits_of "$1")
   import_both
   ref=$(git -C "$repo" for-each-ref --format='%(refname)' refs/heads | sort | sed -n '\,^refs/heads/main$,{p;q};$p')
   ! asked open || measure_open

@@ -8,6 +8,8 @@
                                    files grows with that of commits
   streams.py steady COMMITS        a commit with 1,000 files, and behind it the same of about 1,000 files whose lengths stay about alike
   streams.py flat FILES COMMITS    so many files in one directory, and then so many commits that change one each
+  streams.py forks COMMITS         a commit with 1,300 source-like files in directories of about a hundred, and behind it so many on
+                                   eight branches, which begin anew at each other's tips, and merge each other
   streams.py mixed COMMITS         so many small commits on branches that merge, with all modes, quoted paths, submodules,
                                    empty trees and encodings, and tags and branches on old and on shared commits
 """
@@ -107,13 +109,17 @@ def grown(random, data, most_bytes):
     return data[data.index(b'\n', len(data) // 2) + 1:] if most_bytes and len(data) > most_bytes else data
 
 
-def changes_of(random, files, most_files, most_bytes):
+def some_path(random):
+    return b'src/module%d/part%d/file%d.c' % (random.randrange(12), random.randrange(6), random.randrange(1000))
+
+
+def changes_of(random, files, most_files, most_bytes, new_path=some_path):
     """One to five changes: a new file, lines behind an old one, and now and then a removal, a copy or a rename."""
     text = b''
     for _ in range(random.randint(1, 5)):
         kind = random.random()
         if not files or kind < 0.25 and len(files) < most_files:
-            path = some_path(random)
+            path = new_path(random)
             files[path] = source_lines(random, random.randint(10, 120))
         elif kind < 0.94:
             path = random.choice(list(files))
@@ -123,10 +129,6 @@ def changes_of(random, files, most_files, most_bytes):
             continue
         text += b'M 100644 inline %s\n' % path + block(files[path])
     return text
-
-
-def some_path(random):
-    return b'src/module%d/part%d/file%d.c' % (random.randrange(12), random.randrange(6), random.randrange(1000))
 
 
 def history(count, most_files=72000, most_bytes=0, first_files=0):
@@ -156,6 +158,49 @@ def history(count, most_files=72000, most_bytes=0, first_files=0):
 
 def steady(count):
     history(count, 1000, 3000, 1000)
+
+
+class Forks:
+    """Eight lines of development: of each the mark at which it goes on, and its files there."""
+
+    def __init__(self, count):
+        self.random = Random(count)
+        self.mark = 0
+        files = {}
+        while len(files) < 1400:
+            files[wide_path(self.random)] = source_lines(self.random, self.random.randint(75, 215))
+        self.lines = [(0, files)] * 8
+        self.commit(0, b'', b''.join(b'M 100644 inline %s\n' % path + block(files[path]) for path in files))
+        self.lines = self.lines[:1] * 8
+
+    def commit(self, line, parents, changes):
+        self.mark += 1
+        ref = b'refs/heads/line%d' % line if line else b'refs/heads/main'
+        sys.stdout.buffer.write(commit(ref, self.mark, self.mark, parents, changes))
+        self.lines[line] = (self.mark, self.lines[line][1])
+
+    def step(self):
+        """A commit on some line. One in twelve merges another one, most of which go on from there: a topic that is merged, and the next."""
+        line, other = self.random.sample(range(8), 2)
+        mark, files = self.lines[line]
+        theirs = self.lines[other][0]
+        merges = theirs != mark and self.random.randrange(12) == 0
+        files = dict(files)
+        self.lines[line] = (mark, files)
+        parents = b'from :%d\n' % mark + (b'merge :%d\n' % theirs if merges else b'')
+        self.commit(line, parents, changes_of(self.random, files, 1500, 6800, wide_path))
+        if merges and self.random.randrange(4):
+            self.lines[other] = self.lines[line]
+
+
+def wide_path(random):
+    return b'src/module%d/file%d.c' % (random.randrange(12), random.randrange(1000))
+
+
+def forks(count):
+    history = Forks(count)
+    for _ in range(count):
+        history.step()
 
 
 def flat(files, count):
@@ -222,4 +267,4 @@ def mixed(count):
 
 
 kind, *sizes = sys.argv[1:]
-{'blob': one_blob, 'blobs': many_blobs, 'commits': commits, 'history': history, 'steady': steady, 'flat': flat, 'turns': turns, 'mixed': mixed}[kind](*map(int, sizes))
+{'blob': one_blob, 'blobs': many_blobs, 'commits': commits, 'history': history, 'steady': steady, 'flat': flat, 'forks': forks, 'turns': turns, 'mixed': mixed}[kind](*map(int, sizes))

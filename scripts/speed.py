@@ -5,6 +5,11 @@
     scripts/speed.py --check   ends with 1 where they aren't what it would write
     scripts/speed.py --goals   prints each goal of speed and memory with what was measured, and ends
                                with 1 where one is missed
+    scripts/speed.py --beside OLD [NEW]
+                               prints of each row of gx in two such files what it takes in NEW, in
+                               times of what it took in OLD; NEW is docs/speed.tsv if it is left out
+
+Rows can be compared where one machine measured both files in one run, or in turn.
 """
 
 import sys
@@ -22,16 +27,18 @@ FSCK, INDEX, EXPORT = "git fsck --full", "git index-pack --strict", "git fast-ex
 BESIDE = {"ls": "git ls-tree -r", "log": "git rev-list", "show": "git cat-file"}
 
 
-def measured():
-    """What stands before the table, and its rows."""
-    notes, rows, names = [], [], None
-    for line in (DOCS / "speed.tsv").read_text().splitlines():
+def measured(file=DOCS / "speed.tsv"):
+    """What stands before the table, and its rows, of which the last counts where one was measured again."""
+    notes, found, names = [], {}, None
+    for line in Path(file).read_text().splitlines():
         if line.startswith("#"):
             notes.append(line.lstrip("# "))
         elif line.startswith("stream\t"):
             names = line.split("\t")
         elif line:
-            rows.append(dict(zip(names, line.split("\t"), strict=True)))
+            row = dict(zip(names, line.split("\t"), strict=True))
+            found[row["stream"], row["command"], row["program"]] = row
+    rows = list(found.values())
     for row in rows:
         for name in ("seconds", "processor", "megabytes"):
             row[name] = float(row[name])
@@ -153,47 +160,83 @@ def tables(rows):
 # ---- the goals
 
 
+MANY = 10000
+MOST_OF_HASHING = {"import": 1.7, "open": 1.5}
+BOUND_OF_HASHING = {"import": "hashing and writing once", "open": "hashing once"}
+MOST_OF_STORE, LEAST_MEGABYTES = 1.15, 10
+
+
+def kind_and_commits(stream):
+    """A stream's kind, and how many commits its words say that it has."""
+    kind, *numbers = stream.split(" ")
+    return kind, int(numbers[-1]) if numbers and numbers[-1].isdigit() else 0
+
+
 def least_of(stream, command):
-    """How many times as long as gx each program of git's is to take at least."""
-    if command == "export":
-        return {"git fast-export --full-tree --all": 30}
+    """A program of git's with how many times as long as gx it is to take at least, or nothing."""
+    kind, commits = kind_and_commits(stream)
+    if command == "import" and (kind == "forks" or kind in ("steady", "history") and commits <= MANY):
+        return QUICK, 8
     if command == "open":
-        return {"git fsck --full": 3}
-    few = {"flat": {QUICK: 8}, "blobs": {QUICK: 4}}
-    return few.get(stream.split(" ")[0], {QUICK: 8, PLAIN: 10})
+        return FSCK, 3 if kind == "forks" else 4
+    if command == "export" and kind in ("steady", "history", "forks") and commits >= MANY:
+        return EXPORT, 30
+    return None
+
+
+def goals_of_one(command, stream, programs, ours, bytes_of_store):
+    """The goals of one command on one stream."""
+    wanted = least_of(stream, command)
+    if wanted and wanted[0] in programs:
+        yield f"{wanted[0]} by gx", programs[wanted[0]]["seconds"] / ours["seconds"], wanted[1], True
+    if command in MOST_OF_HASHING:
+        yield f"gx by {BOUND_OF_HASHING[command]}", ours["seconds"] / limit_of(command, programs), MOST_OF_HASHING[command], False
+    if bytes_of_store and bytes_of_store >= LEAST_MEGABYTES * 1048576:
+        yield "memory by the store's bytes", ours["megabytes"] * 1048576 / bytes_of_store, MOST_OF_STORE, False
 
 
 def goals(rows):
-    """What is asked for, as a value that is to be at least or at most a bound."""
+    """What is asked for, as a value that is to be at least or at most a bound. A stream of one commit takes too little to be measured."""
     sizes, found = store_sizes(rows), groups(rows)
     for (stream, command), programs in found.items():
         ours = programs.get(OURS)
         if not ours or stream == "steady 0":
             continue
-        if command in ("import", "export", "open"):
-            for program, least in least_of(stream, command).items():
-                if program in programs:
-                    yield f"{stream}, {command}: {program} takes so many times as long", programs[program]["seconds"] / ours["seconds"], least, True
-        if command == "open":
-            yield f"{stream}, open: times of hashing alone", ours["seconds"] / limit_of(command, programs), 2.2, False
-        if command in ("ls", "log", "show") and (stream, "open") in found and len(programs) > 1:
-            git = next(row for program, row in programs.items() if program != OURS)
-            both = found[stream, "open"][OURS]["seconds"] + git["seconds"]
-            yield f"{stream}, {command}: times of opening and git's own", ours["seconds"] / both, 1, False
-        if sizes.get(stream):
-            yield f"{stream}, {command}: memory, times of the store file", ours["megabytes"] * 1048576 / sizes[stream], 1.3, False
+        for words, *goal in goals_of_one(command, stream, programs, ours, sizes.get(stream)):
+            yield f"{stream_words(stream)}, {command}: {words}", *goal
+        if command in BESIDE and (stream, "open") in found and BESIDE[command] in programs:
+            both = found[stream, "open"][OURS]["seconds"] + programs[BESIDE[command]]["seconds"]
+            yield f"{stream_words(stream)}, {command}: gx by opening and git's own", ours["seconds"] / both, 1, False
     each = each_commit(rows)
     if len(each) > 1:
-        yield "steady, import: a commit among the most, times of one among the fewest", each[-1][1] / each[0][1], 1.15, False
+        yield f"steady, import: a commit among {with_commas(each[-1][0])} by one among {with_commas(each[0][0])}", each[-1][1] / each[0][1], 1.15, False
 
 
 def tell_goals(rows):
-    missed = 0
+    missed = count = 0
     for words, value, bound, is_least in goals(rows):
         holds = value >= bound if is_least else value <= bound
         missed += not holds
+        count += 1
         print(f"{'      ' if holds else 'MISSED'} {words}: {value:.2f}, {'at least' if is_least else 'at most'} {bound}")
+    print(f"{count} goals, {missed} missed")
     return missed
+
+
+# ---- two files
+
+
+def tell_beside(old, new):
+    """What gx takes in new rows by what it took in the old ones: wall time, processor time and memory."""
+    before = {(row["stream"], row["command"]): row for row in old if row["program"] == OURS}
+    print(f"{'stream':24} {'command':10} {'wall':>6} {'old':>9} {'new':>9} {'processor':>9} {'memory':>7}")
+    for row in new:
+        was = before.get((row["stream"], row["command"])) if row["program"] == OURS else None
+        if was:
+            wall, processor, memory = (row[name] / max(was[name], 0.001) for name in ("seconds", "processor", "megabytes"))
+            print(
+                f"{stream_words(row['stream']):24} {row['command']:10} {wall:6.2f} {was['seconds']:7.3f} s {row['seconds']:7.3f} s {processor:9.2f} {memory:7.2f}"
+            )
 
 
 def page(notes, rows):
@@ -206,6 +249,10 @@ def page(notes, rows):
 
 
 def main():
+    if "--beside" in sys.argv[1:]:
+        old, new = (measured(file)[1] for file in [*sys.argv[2:], DOCS / "speed.tsv"][:2])
+        tell_beside(old, new)
+        return
     if not (DOCS / "speed.tsv").exists():
         sys.exit("docs/speed.tsv isn't there: it is what bench/all.sh prints")
     notes, rows = measured()

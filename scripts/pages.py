@@ -15,7 +15,7 @@ from collections import defaultdict
 from pathlib import Path
 
 TOP = Path(__file__).resolve().parent.parent
-LINES = {"README.md": 150, "docs/BENCHMARKS.md": 150}
+LINES = {"README.md": 150, "docs/BENCHMARKS.md": 156}
 COLUMNS, WORDS, RUN = 100, 30, 10
 KIT = {"START-HERE.md", "CONTRACTS.md"}
 

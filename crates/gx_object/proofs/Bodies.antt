@@ -14,7 +14,7 @@ use Rattle.std.specs.Iterator.{MakesProgress, item_count}
 use Rattle.gx_object.specs.declared.entry.Entry.{Entry as Read}
 use Rattle.gx_object.specs.Entries.{shown}
 use Rattle.gx_model.specs.Objects.{Entry, entry_text, mode_text}
-use Rattle.gx_object.specs.Trees.{mode_of, entry_at, entries_within, entries_of, entries_left}
+use Rattle.gx_object.specs.Trees.{mode_at, mode_of, entry_at, entries_within, entries_of, entries_left}
 use Rattle.gx_object.specs.Lines.{◌>>=◌}
 
 -- the value of a step that did not fail
@@ -76,6 +76,19 @@ mode_lacks_space Link = refl
 mode_lacks_space Gitlink = refl
 mode_lacks_space Dir = refl
 
+-- a mode that is read stands at the front
+pub mode_takes : (bytes : List ℕ) (x : Mode × List ℕ) → mode_at bytes ≡ Some x → bytes ≡ mode_text x.0 ++ 32 ∷ x.1
+unfolding mode_at
+mode_takes bytes x e =
+    let a = bind_some (cut_at 32 bytes) _ x e in
+    let m = bind_some (mode_of a.0.0) _ x a.2 in
+    subst (λ (y : Mode × List ℕ). bytes ≡ mode_text y.0 ++ 32 ∷ y.1) (some_is (m.0, a.0.1) x m.2) (cut_spelled 32 bytes a.0 a.1 ∙ ap (λ (ds : List ℕ). ds ++ 32 ∷ a.0.1) (mode_spelled a.0.0 m.0 m.1))
+
+-- and one that stands there is read
+pub mode_front : (m : Mode) (rest : List ℕ) → mode_at (mode_text m ++ 32 ∷ rest) ≡ Some (m, rest)
+unfolding mode_at
+mode_front m rest = rw (cut_after 32 (mode_text m) rest (mode_lacks_space m), mode_again m) refl
+
 -- what a reader took from the front
 pub record Takes (bytes : List ℕ) (x : Entry × List ℕ) : Type 0 where
   pub parts : bytes ≡ entry_text x.0 ++ x.1
@@ -84,17 +97,16 @@ pub record Takes (bytes : List ℕ) (x : Entry × List ℕ) : Type 0 where
 pub entry_takes : (bytes : List ℕ) (x : Entry × List ℕ) → entry_at bytes ≡ Some x → Takes bytes x
 unfolding entry_at
 entry_takes bytes x e =
-    let a = bind_some (cut_at 32 bytes) _ x e in
-    let m = bind_some (mode_of a.0.0) _ x a.2 in
-    let b = bind_some (cut_at 0 a.0.1) _ x m.2 in
+    let a = bind_some (mode_at bytes) _ x e in
+    let b = bind_some (cut_at 0 a.0.1) _ x a.2 in
     let g = guard_some _ _ x b.2 in
     let long : 20 ≤ length b.0.1 = ltb-false _ _ g.0 in
-    taken bytes a.0 b.0 m.0 x (cut_spelled 32 bytes a.0 a.1) (mode_spelled a.0.0 m.0 m.1) (cut_spelled 0 a.0.1 b.0 b.1) long g.1 where
-      taken : (bytes : List ℕ) (a b : List ℕ × List ℕ) (m : Mode) (x : Entry × List ℕ) → bytes ≡ a.0 ++ 32 ∷ a.1 → a.0 ≡ mode_text m → a.1 ≡ b.0 ++ 0 ∷ b.1 → 20 ≤ length b.1 → (record { mode = m; component = b.0; name = take 20 b.1 }, drop 20 b.1) ≡ x → Takes bytes x
-      taken bytes a b m x e f g long is =
+    taken bytes a.0 b.0 x (mode_takes bytes a.0 a.1) (cut_spelled 0 a.0.1 b.0 b.1) long g.1 where
+      taken : (bytes : List ℕ) (a : Mode × List ℕ) (b : List ℕ × List ℕ) (x : Entry × List ℕ) → bytes ≡ mode_text a.0 ++ 32 ∷ a.1 → a.1 ≡ b.0 ++ 0 ∷ b.1 → 20 ≤ length b.1 → (record { mode = a.0; component = b.0; name = take 20 b.1 }, drop 20 b.1) ≡ x → Takes bytes x
+      taken bytes a b x e g long is =
           let whole = take-append-drop 20 b.1 in
-          let made : Entry × List ℕ = (record { mode = m; component = b.0; name = take 20 b.1 }, drop 20 b.1) in
-          let spelled : bytes ≡ entry_text made.0 ++ made.1 = rw (e, f, g) (simp (append_assoc, whole)) in
+          let made : Entry × List ℕ = (record { mode = a.0; component = b.0; name = take 20 b.1 }, drop 20 b.1) in
+          let spelled : bytes ≡ entry_text made.0 ++ made.1 = rw (e, g) (simp (append_assoc, whole)) in
           subst (Takes bytes) is (record { parts = spelled; name = omega (arith, length-take 20 b.1) })
 
 pub entry_again : (e : Entry) (rest : List ℕ) → lacks 0 e.component ≡ true → length e.name ≡ 20 → entry_at (entry_text e ++ rest) ≡ Some (e, rest)
@@ -102,7 +114,7 @@ unfolding entry_at
 entry_again e rest no_nul name =
     let regrouped : entry_text e ++ rest ≡ mode_text e.mode ++ 32 ∷ (e.component ++ 0 ∷ (e.name ++ rest)) = simp append_assoc in
     let long : ltb (length (e.name ++ rest)) 20 ≡ false = le-ltb _ _ (omega (arith, length-append e.name rest)) in
-    ap entry_at regrouped ∙ rw (cut_after 32 (mode_text e.mode) (e.component ++ 0 ∷ (e.name ++ rest)) (mode_lacks_space e.mode), mode_again e.mode, cut_after 0 e.component (e.name ++ rest) no_nul, long, take_at e.name rest 20 name, drop_at e.name rest 20 name) refl
+    ap entry_at regrouped ∙ rw (mode_front e.mode (e.component ++ 0 ∷ (e.name ++ rest)), cut_after 0 e.component (e.name ++ rest) no_nul, long, take_at e.name rest 20 name, drop_at e.name rest 20 name) refl
 
 pub entry_shorter : (bytes : List ℕ) (x : Entry × List ℕ) → entry_at bytes ≡ Some x → length x.1 < length bytes
 entry_shorter bytes x e = let t = entry_takes bytes x e in omega (arith, simp length-append at (ap length t.parts))

@@ -70,7 +70,8 @@ guard_is : (b : Bool) (x y : List Entry) → cond b (Some x) None ≡ Some y →
 guard_is true x y e = (refl, some_is x y e)
 guard_is false x y e = absurd cc
 
-tree_takes : (body : Bytes) (es : List Entry) → AreBytes body → tree_of body ≡ Some es → IsTreeText es body
+-- what is read as a tree's body is one
+pub tree_takes : (body : Bytes) (es : List Entry) → AreBytes body → tree_of body ≡ Some es → IsTreeText es body
 tree_takes body es bytes e =
     let read = bind_some (entries_of body) (λ xs. cond (is_canonical xs) (Some xs) None) es e in
     let g = guard_is (is_canonical read.0) read.0 es read.2 in
@@ -82,7 +83,7 @@ tree_takes body es bytes e =
 pub tree_read : (body : Bytes) (es : List Entry) → IsTreeText es body → entries_of body ≡ Some es
 tree_read body es h = ap entries_of h.0 ∙ entries_again es (have_names es h.2) (lack_nul es (canonical_parts es h.1).components)
 
-tree_again : (body : Bytes) (es : List Entry) → IsTreeText es body → tree_of body ≡ Some es
+pub tree_again : (body : Bytes) (es : List Entry) → IsTreeText es body → tree_of body ≡ Some es
 tree_again body es h = rw (tree_read body es h, h.1) refl
 
 pub tree_found : {E : Type 0} (body : Bytes) (r : Result (List Entry) E) → AreBytes body → result_ok r ≡ tree_of body → IfOk r (λ es. IsTreeText es body)

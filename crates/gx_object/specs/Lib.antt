@@ -7,3 +7,4 @@ pub mod Commits
 pub mod Tags
 pub mod Parts
 pub mod Passing
+pub mod Reading

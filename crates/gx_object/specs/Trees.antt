@@ -1,10 +1,10 @@
 -- The body of a tree, read from the left.
-use Rattle.std.specs.Prelude.{Bool, false, not, ◌&&◌, ℕ, zero, suc, nat_lt, IsTrue, List, [], ◌∷◌, length, take, drop, Option, Some, None, if◌then◌else◌}
+use Rattle.std.specs.Prelude.{◌≡◌, Bool, true, false, not, ◌&&◌, ◌||◌, ◌==◌, ℕ, zero, suc, ◌<◌, nat_lt, IsTrue, List, [], ◌∷◌, length, get_or, take, drop, codes, Option, Some, None, if◌then◌else◌}
 use Rattle.std.specs.Option.{is_some, option_map, unwrap_or}
 use Rattle.gx_model.specs.declared.objects.Mode.{Mode}
 use Rattle.gx_model.specs.declared.objects.Mode.TheVariants.{File, Exec, Link, Gitlink, Dir}
-use Rattle.gx_model.specs.Texts.{Bytes, cut_at, same_bytes}
-use Rattle.gx_model.specs.Objects.{Entry, is_canonical, mode_text}
+use Rattle.gx_model.specs.Texts.{Bytes, cut_at, lacks, same_bytes}
+use Rattle.gx_model.specs.Objects.{Entry, entry_text, is_canonical, mode_text}
 use Rattle.gx_object.specs.Lines.{◌>>=◌}
 use Rattle.gx_object.specs.Order.{are_ordered, meets_any}
 
@@ -17,13 +17,34 @@ mode_of ds =
     else (if same_bytes ds (mode_text Dir) then Some Dir
     else None))))
 
+-- the mode at the front, and what follows it and a space
+unfoldable pub mode_at : Bytes → Option (Mode × Bytes)
+mode_at bytes = do
+  a ← cut_at 32 bytes
+  mode ← mode_of a.0
+  Some (mode, a.1)
+
 -- the entry at the front, and what follows it
 unfoldable pub entry_at : Bytes → Option (Entry × Bytes)
 entry_at bytes = do
-  a ← cut_at 32 bytes
-  mode ← mode_of a.0
+  a ← mode_at bytes
   b ← cut_at 0 a.1
-  if nat_lt (length b.1) 20 then None else Some (record { mode = mode; component = b.0; name = take 20 b.1 }, drop 20 b.1)
+  if nat_lt (length b.1) 20 then None else Some (record { mode = a.0; component = b.0; name = take 20 b.1 }, drop 20 b.1)
+
+-- a text is this entry's
+abbrev pub IsEntryText : Entry → Bytes → Type 0
+IsEntryText e text = (text ≡ entry_text e) × (lacks 0 e.component ≡ true) × (length e.name ≡ 20)
+
+-- a component of this length stands at the front, with a NUL behind it and no slash in it
+pub record IsPlainFront (bytes : Bytes) (len : ℕ) : Type 0 where
+  pub within : len < length bytes
+  pub ended : get_or bytes len 0 ≡ 0
+  pub no_nul : lacks 0 (take len bytes) ≡ true
+  pub no_slash : lacks 47 (take len bytes) ≡ true
+
+-- nothing, or what stands for a folder itself or the one above it
+abbrev pub is_dots : Bytes → Bool
+is_dots bytes = length bytes == 0 || same_bytes bytes (codes ".") || same_bytes bytes (codes "..")
 
 -- at most n entries, to the end
 unfoldable pub entries_within : ℕ → Bytes → Option (List Entry)
@@ -54,8 +75,14 @@ tree_of body = do
 abbrev pub is_tree : Bytes → Bool
 is_tree body = is_some (tree_of body)
 
--- with an entry before them, the bytes are entries in a tree's order, and none has the component of a file that stood
--- before that entry
-abbrev pub goes_on_past : ℕ → List Bool → Entry → Bytes → Bool
-goes_on_past above is_file e bytes =
-    unwrap_or (option_map (λ es. are_ordered (e ∷ es) && not (meets_any above is_file e.component es)) (entries_of bytes)) false
+-- these may stand behind the entry that was read last, where one was, and none has the component of a file that stood
+-- before that
+abbrev pub may_follow : ℕ → List Bool → Option Entry → List Entry → Bool
+may_follow above is_file None es = is_canonical es
+may_follow above is_file (Some e) es = are_ordered (e ∷ es) && not (meets_any above is_file e.component es)
+
+-- the entries that the bytes are, where they may stand there
+abbrev pub followers : ℕ → List Bool → Option Entry → Bytes → Option (List Entry)
+followers above is_file before bytes = do
+  es ← entries_of bytes
+  if may_follow above is_file before es then Some es else None

@@ -1,12 +1,16 @@
 //! The entries of trees, one by one.
 
-ghost use Rattle.std.specs.Prelude.{◌≡◌, ◌+◌, ◌≤◌, ◌++◌, ◌∷◌, [], length, vec_capacity, vec_len, IsTrue, OnErr, OnOk};
+ghost use Rattle.std.specs.Prelude.{◌≡◌, ◌+◌, ◌≤◌, ◌++◌, ◌∷◌, [], not, length, vec_capacity, vec_len, IfSome, IsTrue, OnErr, OnOk};
 ghost use Rattle.std.specs.Option.{option_map};
 ghost use Rattle.gx_model.specs.Objects.{entry_text, is_name, mode_text};
+ghost use Rattle.gx_model.specs.Texts.{cut_at};
+ghost use Rattle.gx_model.specs.Texts.Paths.{is_component};
 ghost use Rattle.gx_text.specs.Buffers.{GrowsBy};
-ghost use Rattle.gx_object.specs.Trees.{entry_at, mode_of};
+ghost use Rattle.gx_object.specs.Trees.{IsPlainFront, entry_at, is_dots, mode_at};
 ghost use Rattle.gx_object.specs.Entries.{entry_of, shown};
 
+use crate::line::strip;
+use crate::order::{has_bytes, is_component};
 use crate::{Mode, Name};
 use gx_text::cut;
 use std::alloc::{AllocError, Allocator};
@@ -21,22 +25,104 @@ pub struct Entry<'a> {
 }
 
 /// The entry at the front, and what follows it.
-#[tactic(auto, unfolding(crate::specs::Trees::entry_at))]
 pub(crate) fn first_entry(bytes: &[u8]) -> Option<(Entry<'_>, &[u8])>
     ensures { option_map (λ x. (shown x.0, x.1.now)) result ≡ entry_at bytes.now }
 {
-    let (digits, rest) = cut(bytes, b' ')?;
-    let mode = read_mode(digits)?;
-    let (component, rest) = cut(rest, 0)?;
+    let found = read_entry(bytes)?;
+    Some((found.entry, found.rest))
+}
+
+/// An entry that stands at the front, whether its component is one of a path, and what follows it.
+#[derive(Drop)]
+pub(crate) struct FirstEntry<'a> {
+    pub(crate) entry: Entry<'a>,
+    pub(crate) is_proper: bool,
+    pub(crate) rest: &'a [u8],
+}
+
+/// The entry at the front. Its bytes are gone over once, unless its component is long or no path's.
+#[tactic(auto, unfolding(crate::specs::Trees::entry_at))]
+pub(crate) fn read_entry(bytes: &[u8]) -> Option<FirstEntry<'_>>
+    ensures entry { option_map (λ x. (shown x.entry, x.rest.now)) result ≡ entry_at bytes.now }
+    ensures proper { IfSome result (λ x. x.is_proper ≡ is_component x.entry.component.now) }
+{
+    let (mode, rest) = read_mode(bytes)?;
+    let (component, is_proper, rest) = cut_component(rest)?;
     let (name, rest) = rest.split_first_chunk()?;
-    Some((
-        Entry {
-            mode,
-            component,
-            name: Name { bytes: *name },
-        },
+    let entry = Entry {
+        mode,
+        component,
+        name: Name { bytes: *name },
+    };
+    Some(FirstEntry {
+        entry,
+        is_proper,
         rest,
-    ))
+    })
+}
+
+/// The mode and its space at the front, and what follows them.
+fn read_mode(bytes: &[u8]) -> Option<(Mode, &[u8])>
+    ensures { option_map (λ x. (x.0, x.1.now)) result ≡ mode_at bytes.now }
+{
+    if let Some(rest) = strip(bytes, b"100644 ") {
+        return Some((Mode::File, rest));
+    }
+    if let Some(rest) = strip(bytes, b"40000 ") {
+        return Some((Mode::Dir, rest));
+    }
+    if let Some(rest) = strip(bytes, b"100755 ") {
+        return Some((Mode::Exec, rest));
+    }
+    if let Some(rest) = strip(bytes, b"120000 ") {
+        return Some((Mode::Link, rest));
+    }
+    if let Some(rest) = strip(bytes, b"160000 ") {
+        return Some((Mode::Gitlink, rest));
+    }
+    None
+}
+
+/// What stands before the first NUL, whether it is a component of a path, and what stands after the NUL.
+fn cut_component(bytes: &[u8]) -> Option<(&[u8], bool, &[u8])>
+    ensures cut { option_map (λ x. (x.0.now, x.2.now)) result ≡ cut_at 0 bytes.now }
+    ensures proper { IfSome result (λ x. x.1 ≡ is_component x.0.now) }
+{
+    if let Some(len) = plain_len(bytes) {
+        let component = &bytes[..len];
+        has_bytes(component);
+        return Some((component, !is_dots(component), &bytes[len + 1..]));
+    }
+    let (component, rest) = cut(bytes, 0)?;
+    Some((component, is_component(component), rest))
+}
+
+// Components below this length are looked at byte by byte.
+const SHORT: usize = 32;
+
+/// The length of what stands before the first NUL, where that is short and has no slash.
+fn plain_len(bytes: &[u8]) -> Option<usize>
+    ensures { IfSome result (λ len. IsPlainFront bytes.now len) }
+{
+    let near = bytes.len().min(SHORT);
+    for len in 0..near {
+        match bytes[len] {
+            0 => return Some(len),
+            b'/' => return None,
+            _ => {}
+        }
+    }
+    None
+}
+
+/// Whether this is nothing, `.` or `..`.
+fn is_dots(bytes: &[u8]) -> bool
+    ensures { result ≡ is_dots bytes.now }
+{
+    match bytes {
+        [] | [b'.'] | [b'.', b'.'] => true,
+        _ => false,
+    }
 }
 
 /// Appends the text of an entry, or nothing where the growth is refused.
@@ -98,22 +184,4 @@ fn append_within<A: Allocator + Copy>(body: &mut Vec<u8, A>, bytes: &[u8])
     let Ok(()) = body.extend_from_slice(bytes) else {
         unreachable!();
     };
-}
-
-fn read_mode(digits: &[u8]) -> Option<Mode>
-    ensures { result ≡ mode_of digits.now }
-{
-    if digits == b"100644".as_slice() {
-        Some(Mode::File)
-    } else if digits == b"100755".as_slice() {
-        Some(Mode::Exec)
-    } else if digits == b"120000".as_slice() {
-        Some(Mode::Link)
-    } else if digits == b"160000".as_slice() {
-        Some(Mode::Gitlink)
-    } else if digits == b"40000".as_slice() {
-        Some(Mode::Dir)
-    } else {
-        None
-    }
 }

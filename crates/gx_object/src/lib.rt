@@ -12,6 +12,7 @@ mod namer;
 mod order;
 mod tag;
 mod tree;
+mod tree_reader;
 
 pub use commit::{CommitParts, CommitView, decode_commit, encode_commit};
 pub use entry::{Entry, append_entry};
@@ -22,3 +23,4 @@ pub use namer::{Namer, Sha1Namer};
 pub use order::{compare_marked, is_canonical};
 pub use tag::{TagParts, TagView, decode_tag, encode_tag};
 pub use tree::{TreeEntries, decode_tree, encode_tree, encode_tree_into, held_tree};
+pub use tree_reader::TreeReader;

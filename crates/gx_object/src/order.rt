@@ -88,7 +88,7 @@ pub(crate) fn is_component(bytes: &[u8]) -> bool
 }
 
 /// Each number of a text is a byte.
-fn has_bytes(text: &[u8])
+pub(crate) fn has_bytes(text: &[u8])
     ensures { list_all (λ b. nat_lt b 256) text.now ≡ true }
 {}
 

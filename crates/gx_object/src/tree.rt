@@ -1,20 +1,16 @@
 //! The bodies of trees. Source: Pro Git, "Git Objects".
 
-ghost use Rattle.std.specs.Prelude.{◌≡◌, ◌≤◌, ℕ, List, length, map, take, true, IsTrue, IfOk, OnErr, OnOk, ◌∷◌};
+ghost use Rattle.std.specs.Prelude.{◌≡◌, ℕ, List, map, take, ◌∷◌, IsTrue, IsFalse, IfOk, OnErr, OnOk};
 ghost use Rattle.std.specs.Result.{result_ok};
 ghost use Rattle.std.specs.Iterator.{item_count};
 ghost use Rattle.std.specs.Map.Iter.{TakesFirst};
 ghost use Rattle.gx_model.specs.Objects.{Entry as TreeEntry, IsTreeText, is_canonical, tree_text};
-ghost use Rattle.gx_object.specs.Order.{is_long_repeated, meets};
-ghost use Rattle.gx_object.specs.Trees.{AreEntries, entries_left, is_tree, tree_of};
-ghost use Rattle.gx_object.specs.Entries.{meets_from, shown};
-ghost use Rattle.gx_object.specs.Passing.{LeadsPastFrom};
+ghost use Rattle.gx_object.specs.Trees.{IsEntryText, is_tree, tree_of};
+ghost use Rattle.gx_object.specs.Entries.{shown};
 ghost use Rattle.gx_object.specs.Parts.{FindsEach};
 
-use crate::earlier_files::{EarlierFiles, MOST, is_front};
 use crate::entry::{append_entry, first_entry};
-use crate::order::{comes_before, is_component};
-use crate::{BadObject, Entry, Mode};
+use crate::{BadObject, Entry, TreeReader};
 use std::alloc::{AllocError, Allocator};
 use std::marker::Model;
 
@@ -83,6 +79,25 @@ impl<'a> Iterator for TreeEntries<'a> {
     }
 }
 
+impl<'a> TreeEntries<'a> {
+    /// Passes the next entry where its text is this one, and answers whether it is. The text is an entry's.
+    ///
+    /// Cost: the text's length; no entry is read. Takes no memory.
+    pub fn pass(&mut self, text: &[u8]) -> bool
+        requires text { (entry : TreeEntry) × IsEntryText entry text.now }
+        ensures passed { IsTrue result → (entry : TreeEntry) → IsEntryText entry text.now → self.old ≡ entry ∷ self.new }
+        ensures unchanged { IsFalse result → self.new ≡ self.old }
+    {
+        match self.rest.strip_prefix(text) {
+            Some(rest) => {
+                self.rest = rest;
+                true
+            }
+            None => false,
+        }
+    }
+}
+
 /// The entries of a tree's body, or `BadObject` where it isn't the body of a canonical list of entries.
 ///
 /// Cost: the body's length and, for each file whose component has 4,096 bytes or more, which no path leads to, the
@@ -114,65 +129,16 @@ fn read_tree(body: &[u8]) -> Result<TreeEntries<'_>, BadObject>
     }
 }
 
-/// Whether the bytes are the body of a canonical list of entries. Each entry is read once, and those behind a file of a
-/// very long component once more if they begin with it.
+/// Whether the bytes are the body of a canonical list of entries.
 fn is_tree(body: &[u8]) -> bool
     ensures { result ≡ is_tree body.now }
 {
-    let Some((mut before, mut rest)) = first_entry(body) else {
-        return body.is_empty();
-    };
-    let mut files = EarlierFiles::none();
-    while let Some((next, after)) = first_entry(rest) {
-        if !leads(&mut files, &before, &next, after) {
-            return false;
+    let mut reader = TreeReader::new(body);
+    loop {
+        match reader.read() {
+            Ok(Some(_)) => {}
+            Ok(None) => return true,
+            Err(BadObject) => return false,
         }
-        before = next;
-        rest = after;
     }
-    rest.is_empty() && is_component(before.component)
-}
-
-/// Whether an entry may stand before the next one and the entries after that, and none of them has an earlier file's
-/// component as far as the next one tells.
-fn leads(files: &mut EarlierFiles, first: &Entry<'_>, next: &Entry<'_>, after: &[u8]) -> bool
-    requires { files.old.above ≤ length first.now.component.now }
-    ensures within { result ≡ true → files.new.above ≤ length next.now.component.now }
-    ensures leads { LeadsPastFrom files.old files.new first.now next.now after.now result }
-{
-    is_component(first.component)
-        && comes_before(first, next)
-        && !is_long_repeated(first, next, after)
-        && !files.meet(first, next)
-}
-
-/// Whether a file whose component is too long to be remembered stands again behind itself.
-fn is_long_repeated(first: &Entry<'_>, next: &Entry<'_>, after: &[u8]) -> bool
-    ensures { AreEntries after.now → result ≡ is_long_repeated (shown first.now) (shown next.now ∷ entries_left after.now) }
-{
-    first.component.len() >= MOST && is_front(first, next) && meets(first.component, next, after)
-}
-
-/// Whether the next entry, or one of those after it whose components begin with this one, has it.
-fn meets(component: &[u8], next: &Entry<'_>, after: &[u8]) -> bool
-    ensures { AreEntries after.now → result ≡ meets_from component.now next.now after.now }
-{
-    next.component == component || meets_ahead(component, after)
-}
-
-/// The same of the entries that the bytes are. Where they aren't entries to the end, either may be answered.
-fn meets_ahead(component: &[u8], bytes: &[u8]) -> bool
-    ensures { AreEntries bytes.now → result ≡ meets component.now (entries_left bytes.now) }
-{
-    let mut rest = bytes;
-    while let Some((entry, after)) = first_entry(rest) {
-        if !entry.component.starts_with(component) {
-            return false;
-        }
-        if entry.component == component {
-            return true;
-        }
-        rest = after;
-    }
-    false
 }

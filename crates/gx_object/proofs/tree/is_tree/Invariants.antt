@@ -1,13 +1,10 @@
-use Rattle.std.proofs.Common.{◌≡◌, ◌≤◌, length}
-use Rattle.gx_object.specs.Entries.{shown}
-use Rattle.gx_object.specs.Trees.{goes_on_past, is_tree}
+use Rattle.std.proofs.Common.{◌≡◌}
+use Rattle.std.specs.Option.{is_some}
+use Rattle.gx_object.specs.Trees.{is_tree}
 use Rattle.gx_object.proofs.tree.is_tree.Given as goal
 
-abbrev pub invariant-loop-next : goal.invariant-loop-next
-invariant-loop-next l = record {
-  within : l.files.above ≤ length l.before.component.now;
-  tells : goes_on_past l.files.above l.files.is_file (shown l.before) l.rest ≡ is_tree l.body;
-}
+abbrev pub invariant-loop : goal.invariant-loop
+invariant-loop l = is_some l.reader.entries ≡ is_tree l.body
 
-abbrev pub decreases-loop-next : goal.decreases-loop-next
-decreases-loop-next l = length l.rest
+abbrev pub decreases-loop : goal.decreases-loop
+decreases-loop l = l.reader.most

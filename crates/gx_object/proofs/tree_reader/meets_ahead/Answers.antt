@@ -4,7 +4,7 @@ use Rattle.gx_object.specs.Order.{meets}
 use Rattle.gx_object.specs.Trees.{entries_left}
 use Rattle.gx_object.proofs.Bodies.{is_some-step, left-step, left-end, entry_shorter}
 use Rattle.gx_object.proofs.Steps.{meets_not, meets_here, meets_later}
-use Rattle.gx_object.proofs.tree.meets_ahead.Goals as goal
+use Rattle.gx_object.proofs.tree_reader.meets_ahead.Goals as goal
 
 pub returns-then-not-starts_with : goal.returns-then-not-starts_with
 returns-then-not-starts_with c h =

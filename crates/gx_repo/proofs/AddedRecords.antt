@@ -8,11 +8,10 @@ use Rattle.gx_model.specs.Records.RecordFaults.{content_fault, or_duplicate, rec
 use Rattle.gx_object.specs.declared.name.Name.{Name}
 use Rattle.gx_repo.specs.declared.fault.AddFault.{AddFault}
 use Rattle.gx_repo.specs.declared.fault.AddFault.TheVariants.{OutOfMemory, BadObject, Dangling, DuplicateObject}
-use Rattle.gx_repo.specs.Checking.{MayRefuse}
-use Rattle.gx_repo.specs.Records.{AddsRecord, HidesNoFaultOf}
+use Rattle.gx_repo.specs.Records.{AddsRecord, HidesNoFaultOf, MayRefuseRecord}
 
 -- what is against a body is against its record
-against_record : (old : List Record) (r : Record) (f : FileFault) → content_fault old r.kind r.body ≡ Some f → record_fault old r ≡ Some f
+pub against_record : (old : List Record) (r : Record) (f : FileFault) → content_fault old r.kind r.body ≡ Some f → record_fault old r ≡ Some f
 unfolding record_fault
 against_record old r f h = ap (λ o. or_duplicate o (is_some (record_named old r.name))) h
 
@@ -26,18 +25,18 @@ pub acceptable : (old : List Record) (r : Record) → content_fault old r.kind r
 unfolding record_fault
 acceptable old r h k = λ i. or_duplicate (h i) (is_some (k i))
 
--- a refusal for what is against the body, or for want of memory
-refused_for : (old : List Record) (r : Record) (f : AddFault) → MayRefuse old r.kind r.body f → AddsRecord old old r (Err f) × HidesNoFaultOf old r (Err f)
+-- a refusal for what is against a record, or for want of memory
+refused_for : (old : List Record) (r : Record) (f : AddFault) → MayRefuseRecord old r f → AddsRecord old old r (Err f) × HidesNoFaultOf old r (Err f)
 refused_for old r OutOfMemory h = (refl, inr h)
-refused_for old r BadObject h = ((against_record old r model.BadObject h, refl), tt)
-refused_for old r Dangling h = ((against_record old r model.Dangling h, refl), tt)
-refused_for old r DuplicateObject h = ((against_record old r model.DuplicateObject h, refl), tt)
+refused_for old r BadObject h = ((h, refl), tt)
+refused_for old r Dangling h = ((h, refl), tt)
+refused_for old r DuplicateObject h = ((h, refl), tt)
 
 -- the same, passed on
-pub room_refused : (old : List Record) (r : Record) (answer : Result Name AddFault) (f : AddFault) → IsErrAnd answer (λ y. y ≡ f) → MayRefuse old r.kind r.body f
+pub room_refused : (old : List Record) (r : Record) (answer : Result Name AddFault) (f : AddFault) → IsErrAnd answer (λ y. y ≡ f) → MayRefuseRecord old r f
     → AddsRecord old old r answer × HidesNoFaultOf old r answer
 room_refused old r (Ok n) f e h = absurd e
-room_refused old r (Err y) f e h = refused_for old r y (subst (MayRefuse old r.kind r.body) (sym e) h)
+room_refused old r (Err y) f e h = refused_for old r y (subst (MayRefuseRecord old r) (sym e) h)
 
 -- a put that is refused finds the name held
 pub put_refused : (old : List Record) (r : Record) → put old r ≡ None → is_some (record_named old r.name) ≡ true

@@ -83,7 +83,7 @@ never_memory rs k body e = by (is_body k body) (are_links_held rs k body) (is_ba
   where
     by : (canonical held bad : Bool)
         → (if not canonical then Some model.BadObject else (if not held then Some model.Dangling
-            else (if bad then Some model.BadObject else None))) ≡ Some model.OutOfMemory → ⊥
+        else (if bad then Some model.BadObject else None))) ≡ Some model.OutOfMemory → ⊥
     by false held bad e = absurd (cc)
     by true false bad e = absurd (cc)
     by true true true e = absurd (cc)

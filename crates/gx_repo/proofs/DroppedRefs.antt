@@ -1,6 +1,6 @@
 -- Refs that are dropped: which names are unknown, and what is left.
 use Rattle.std.proofs.Common.{◌≡◌, ℕ, ◌+◌, ◌<◌, ◌≤◌, Bool, true, false, cond, List, [], ◌∷◌, ◌++◌, length, map, take, drop, get_or, Option, Some, None, Ok, Err, refl, sym, ap, subst, ◌∙◌, arith, drop_of_length-le, Result}
-use Rattle.std.specs.Prelude.{not, ◌&&◌, ◌||◌, IsTrue, T}
+use Rattle.std.specs.Prelude.{not, ◌&&◌, ◌||◌, IsOk, IsTrue, T}
 use Rattle.std.specs.Bool.{passes}
 use Rattle.std.specs.Borrow.{Bor}
 use Rattle.std.specs.BTreeMap.{is_at}
@@ -17,7 +17,7 @@ use Rattle.gx_model.specs.Laws.RepositoryLaws.{PartsChange, values_of, with_refs
 use Rattle.gx_model.specs.Records.Publishing.{Ref}
 use Rattle.gx_model.specs.Records.Sound.{IsSound, IsTarget}
 use Rattle.gx_model.proofs.Texts.PathTests.{both, first, second, is_true}
-use Rattle.gx_repo.specs.Dropping.{AreIn, Drops, EntersNames, dropped, is_among, is_entered, unknown_behind, unless_unknown, without}
+use Rattle.gx_repo.specs.Dropping.{AreIn, Drops, EntersNames, HidesNoUnknown, dropped, is_among, is_entered, unknown_behind, unless_unknown, without}
 use Rattle.gx_text.specs.Lent.{lent_texts}
 use Rattle.gx_repo.specs.Refs.{AreInOrder, is_ref_held, shown_ref}
 use Rattle.gx_repo.specs.declared.fault.DropFault.{DropFault}
@@ -49,19 +49,32 @@ kept {A} held names (r ∷ rs) h = by (is_entered held r.name.items) (is_among n
   by true false e k = absurd cc
   by false true e k = absurd cc
 
+-- whether a name is among the next ones
+pub among_next : (names : List (Bor Bytes)) (i : ℕ) (d : Bor Bytes) (name : Bytes) (b : Bool) → i < length names → same_bytes (get_or names i d).now name ≡ b
+    → is_among (lent_texts (drop i names)) name ≡ (b || is_among (lent_texts (drop (i + 1) names)) name)
+among_next names i d name b lt e =
+    ap (λ ns. is_among (lent_texts ns) name) (drop_more names i d lt) ∙ ap (λ t. t || is_among (lent_texts (drop (i + 1) names)) name) e
+
 -- ---- the names, one after the other
 
--- the first names are held, and the others are left
+-- none of the first names is unknown, and the others are left
+abbrev pub AreKnown : List Ref → List (Bor Bytes) → ℕ → Type 0
+AreKnown refs names i = unknown_behind refs (lent_texts (take i names)) (lent_texts (drop i names)) ≡ unknown_behind refs [] (lent_texts names)
+
+-- the first names are held in a set
 pub record Entered (refs : List Ref) (held : BTreeSet (Bor Bytes)) (names : List (Bor Bytes)) (i : ℕ) : Type 0 where
   pub are : AreIn held (lent_texts (take i names))
-  pub rest : unknown_behind refs (lent_texts (take i names)) (lent_texts (drop i names)) ≡ unknown_behind refs [] (lent_texts names)
+  pub rest : AreKnown refs names i
 
 pub Entered-none : (refs : List Ref) (held : BTreeSet (Bor Bytes)) (names : List (Bor Bytes)) → held.keys ≡ [] → Entered refs held names 0
 Entered-none refs held names e = record { are = λ name. ap (list_any (is_at (λ (n : Bor Bytes). byte_cmp name n.now))) e; rest = refl }
 
+-- behind the last name none is unknown
+pub known_all : (refs : List Ref) (names : List (Bor Bytes)) (i : ℕ) → length names ≤ i → AreKnown refs names i → unknown_behind refs [] (lent_texts names) ≡ None
+known_all refs names i le h = sym h ∙ ap (λ ns. unknown_behind refs (lent_texts (take i names)) (lent_texts ns)) (drop_of_length-le names le)
+
 pub Entered-all : (refs : List Ref) (held : BTreeSet (Bor Bytes)) (names : List (Bor Bytes)) (i : ℕ) → length names ≤ i → Entered refs held names i → (unknown_behind refs [] (lent_texts names) ≡ None) × AreIn held (lent_texts names)
-Entered-all refs held names i le h =
-    (sym h.rest ∙ ap (λ ns. unknown_behind refs (lent_texts (take i names)) (lent_texts ns)) (drop_of_length-le names le), subst (λ ns. AreIn held (lent_texts ns)) (take_all i names le) h.are)
+Entered-all refs held names i le h = (known_all refs names i le h.rest, subst (λ ns. AreIn held (lent_texts ns)) (take_all i names le) h.are)
 
 abbrev lent : Bytes → Bor Bytes
 lent name = record { ref_ptr = (0, 0); now = name }
@@ -83,16 +96,27 @@ module _ (refs : List Ref) (names : List (Bor Bytes)) (i : ℕ) (d : Bor Bytes) 
       ∙ ap (λ t. cond t (unknown_behind refs (done ++ next.now ∷ []) (lent_texts (drop (i + 1) names))) (Some (length done + 1))) e
       ∙ ap (λ n. cond b (unknown_behind refs (done ++ next.now ∷ []) (lent_texts (drop (i + 1) names))) (Some (n + 1))) (length-map (take i names) (λ n. n.now) ∙ length-take-le i names (omega (arith, lt)))
 
-  refused : (held : BTreeSet (Bor Bytes)) → Entered refs held names i → (is_ref_held refs next.now && not (is_among done next.now)) ≡ false → unknown_behind refs [] (lent_texts names) ≡ Some (i + 1)
-  refused held h e = sym h.rest ∙ at_next false e
+  refused : AreKnown refs names i → (is_ref_held refs next.now && not (is_among done next.now)) ≡ false → unknown_behind refs [] (lent_texts names) ≡ Some (i + 1)
+  refused h e = sym h ∙ at_next false e
 
   -- no ref has the next name
-  pub refused_new : (held : BTreeSet (Bor Bytes)) → Entered refs held names i → is_ref_held refs next.now ≡ false → unknown_behind refs [] (lent_texts names) ≡ Some (i + 1)
-  refused_new held h e = refused held h (ap (λ b. b && not (is_among done next.now)) e)
+  pub refused_new : AreKnown refs names i → is_ref_held refs next.now ≡ false → unknown_behind refs [] (lent_texts names) ≡ Some (i + 1)
+  refused_new h e = refused h (ap (λ b. b && not (is_among done next.now)) e)
 
   -- the next name was given before
-  pub refused_again : (held : BTreeSet (Bor Bytes)) → Entered refs held names i → is_ref_held refs next.now ≡ true → not (is_entered held next.now) ≡ false → unknown_behind refs [] (lent_texts names) ≡ Some (i + 1)
-  refused_again held h e f = refused held h (ap (λ b. b && not (is_among done next.now)) e ∙ sym (ap not (h.are next.now)) ∙ f)
+  pub refused_again : AreKnown refs names i → is_ref_held refs next.now ≡ true → is_among done next.now ≡ true → unknown_behind refs [] (lent_texts names) ≡ Some (i + 1)
+  refused_again h e f = refused h (λ j. e j && not (f j))
+
+  known_by : AreKnown refs names i → (is_ref_held refs next.now && not (is_among done next.now)) ≡ true → AreKnown refs names (i + 1)
+  known_by h e = ap (λ ns. unknown_behind refs ns (lent_texts (drop (i + 1) names))) done_more ∙ sym (at_next true e) ∙ h
+
+  -- the next name is another ref's
+  pub known_next : AreKnown refs names i → is_ref_held refs next.now ≡ true → is_among done next.now ≡ false → AreKnown refs names (i + 1)
+  known_next h e f = known_by h (λ j. e j && not (f j))
+
+  -- the next name is in the set
+  pub refused_entered : (held : BTreeSet (Bor Bytes)) → Entered refs held names i → is_ref_held refs next.now ≡ true → is_entered held next.now ≡ true → unknown_behind refs [] (lent_texts names) ≡ Some (i + 1)
+  refused_entered held h e f = refused_again h.rest e (sym (h.are next.now) ∙ f)
 
   -- the next name is entered
   pub Entered-next : (held now : BTreeSet (Bor Bytes)) → Entered refs held names i → is_ref_held refs next.now ≡ true → not (is_entered held next.now) ≡ true
@@ -101,7 +125,7 @@ module _ (refs : List Ref) (names : List (Bor Bytes)) (i : ℕ) (d : Bor Bytes) 
     are = λ name.
         g (lent name) ∙ ap (λ b. cond b true (is_entered held name)) (is_eq-slice_cmp next.now name) ∙ ap (λ b. cond (same_bytes next.now name) true b) (h.are name)
         ∙ sym (among-push done next.now name) ∙ ap (λ ns. is_among ns name) (sym done_more);
-    rest = ap (λ ns. unknown_behind refs ns (lent_texts (drop (i + 1) names))) done_more ∙ sym (at_next true (ap (λ b. b && not (is_among done next.now)) e ∙ sym (ap not (h.are next.now)) ∙ f)) ∙ h.rest;
+    rest = known_by h.rest (ap (λ b. b && not (is_among done next.now)) e ∙ sym (ap not (h.are next.now)) ∙ f);
   }
 
 -- ---- what is left
@@ -146,6 +170,12 @@ are_left names refs left e = by (unknown_behind refs [] names) e where
 pub none_dropped : (old now : List Ref) (held : BTreeSet (Bor Bytes)) (names : List (Bor Bytes)) (fault : DropFault) → EntersNames old held names (Err fault) → Drops old now (lent_texts names) (Err fault)
 none_dropped old now held names OutOfMemory h = tt
 none_dropped old now held names (UnknownRef number) h = one_unknown (lent_texts names) old number h
+
+-- want of memory comes where none is
+pub none_hidden : (refs : List Ref) (held : BTreeSet (Bor Bytes)) (names : List (Bor Bytes)) (answer : Result (Unit {0}) DropFault) → EntersNames refs held names answer → HidesNoUnknown refs (lent_texts names) answer
+none_hidden refs held names (Ok _) h = tt
+none_hidden refs held names (Err OutOfMemory) h = subst IsOk (sym (none_unknown (lent_texts names) refs h)) refl
+none_hidden refs held names (Err (UnknownRef number)) h = tt
 
 -- and otherwise those of all names are dropped
 module _ {A : Type 0} (refs now : List (HeldRef A)) (old : List Ref) (held : BTreeSet (Bor Bytes)) (names : List (Bor Bytes)) (seen : map shown_ref refs ≡ old)

@@ -17,7 +17,7 @@ use Rattle.gx_tree.specs.Writes.{map_name}
 use Rattle.gx_model.proofs.Records.Puts.{put_all-append}
 use Rattle.gx_model.proofs.Records.HeldObjects.{any_named}
 
-some_left : {X : Type 0} (P : X → Type 0) (xs ys : List X) → AnyByRecursion P xs → AnyByRecursion P (xs ++ ys)
+pub some_left : {X : Type 0} (P : X → Type 0) (xs ys : List X) → AnyByRecursion P xs → AnyByRecursion P (xs ++ ys)
 some_left P [] ys h = absurd h
 some_left P (x ∷ xs) ys (inl h) = inl h
 some_left P (x ∷ xs) ys (inr h) = inr (some_left P xs ys h)

@@ -13,5 +13,6 @@ pub mod EntryRooms
 pub mod CheckedEntries
 pub mod ContentFaults
 pub mod AddedRecords
+pub mod WantingTrees
 pub mod PrunedRecords
 pub mod ReportedRefs

@@ -35,7 +35,7 @@ never_memory records (c ∷ cs) e = by (never_memory records cs) (change_fault r
   where
     one : (named held fits : Bool)
         → (if not named then Some model.BadRefName else (if not held then Some model.UnknownObject
-            else (if not fits then Some model.WrongKind else None))) ≡ Some model.OutOfMemory → ⊥
+        else (if not fits then Some model.WrongKind else None))) ≡ Some model.OutOfMemory → ⊥
     one false held fits e = absurd (cc)
     one true false fits e = absurd (cc)
     one true true false e = absurd (cc)

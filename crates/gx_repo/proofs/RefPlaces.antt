@@ -52,7 +52,7 @@ module _ {X : Type 0} (see : X → Bytes × Bytes) (n : Bytes) where
   behind_found [] i d h lt e = absurd (omega arith)
   behind_found (x ∷ xs) zero d h lt e =
       let after = λ (j : ℕ) (d : X) (lt : j < length xs).
-        order.antisymm (see (get_or xs j d)).0 (see x).0 ∙ ap ordering_reverse (below_at see (see x).0 xs j d (first _ _ h) lt) in
+      order.antisymm (see (get_or xs j d)).0 (see x).0 ∙ ap ordering_reverse (below_at see (see x).0 xs j d (first _ _ h) lt) in
       let none = none_before xs (λ j d lt. subst (λ z. byte_cmp (see (get_or xs j d)).0 z ≡ Greater) (same_text _ n e) (after j d lt)) in
       sym (one_before x xs zero (ap is_le e) none)
   behind_found (x ∷ xs) (suc i) d h lt e =
@@ -75,6 +75,6 @@ module _ {A : Type 0} (n : Bytes) (refs : List (Ref A)) (sorted : AreInOrder ref
   -- and the place at which it finds none
   pub place_missing : (place : ℕ) → place ≤ length refs
       → (IsNonDecreasingBy (λ (x : Ref A). ordering_index (byte_cmp x.name.items n)) refs
-        → IsPartitionPoint (λ (x : Ref A). byte_cmp x.name.items n ≡ Less) (λ (x : Ref A). byte_cmp x.name.items n ≡ Greater) refs place)
+      → IsPartitionPoint (λ (x : Ref A). byte_cmp x.name.items n ≡ Less) (λ (x : Ref A). byte_cmp x.name.items n ≡ Greater) refs place)
       → place ≡ place_behind (map shown_ref refs) n
   place_missing place le parted = sym (between shown_ref n refs place le (parted (answers_rise shown_ref n refs (passes _ sorted))))

@@ -73,7 +73,8 @@ module _ {N : Type 0} (names : N → Kind → Bytes → Bytes) where
   AddsAnew old new of_kind body answer =
       AddsRecord old.1.records new.1.records (record_for (names old.0) of_kind body) answer
 
-  -- want of memory hides nothing that is against a record of this kind and body, but of a tree what is told of its links alone
+  -- want of memory hides nothing that is against a record of this kind and body, but of a tree that isn't held a path that is too
+  -- long, and that another object has its name
   abbrev pub HidesNoFault : Repository N → Kind → Bytes → Result Name AddFault → Type 0
   HidesNoFault repository of_kind body answer = HidesNoFaultOf repository.1.records (record_for (names repository.0) of_kind body) answer
 

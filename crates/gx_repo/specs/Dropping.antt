@@ -1,5 +1,5 @@
 -- Which refs are left when some are dropped, all of them or none. Source: git-update-ref(1), "delete", and gitglossary(7), "ref".
-use Rattle.std.specs.Prelude.{◌≡◌, ℕ, ◌+◌, Bool, not, ◌&&◌, if◌then◌else◌, List, [], ◌∷◌, ◌++◌, length, Option, None, Some, Result, Ok, Err, ⊤}
+use Rattle.std.specs.Prelude.{◌≡◌, ℕ, ◌+◌, Bool, not, ◌&&◌, if◌then◌else◌, List, [], ◌∷◌, ◌++◌, length, Option, None, Some, Result, Ok, Err, IsOk, ⊤}
 use Rattle.std.specs.Borrow.{Bor}
 use Rattle.std.specs.BTreeSet.{BTreeSet, contains_by}
 use Rattle.std.specs.List.{filter, list_any}
@@ -48,6 +48,16 @@ Drops old new names (Ok done) = dropped names old ≡ Ok new
 Drops old new names (Err OutOfMemory) = ⊤
 Drops old new names (Err (UnknownRef number)) = dropped names old ≡ Err number
 
+-- want of memory hides no name that is unknown
+abbrev pub HidesNoUnknown : List Ref → List Bytes → Result (Unit {0}) DropFault → Type 0
+HidesNoUnknown refs names (Err OutOfMemory) = IsOk (dropped names refs)
+HidesNoUnknown refs names answer = ⊤
+
+-- this is the first of these names that is unknown; or memory is wanting, and none is
+abbrev pub IsAgainstNames : List Ref → List Bytes → DropFault → Type 0
+IsAgainstNames refs names OutOfMemory = unknown_behind refs [] names ≡ None
+IsAgainstNames refs names (UnknownRef number) = unknown_behind refs [] names ≡ Some number
+
 -- whether a name is held in a set
 abbrev pub is_entered : BTreeSet (Bor Bytes) → Bytes → Bool
 is_entered held name = contains_by (λ n. byte_cmp name n.now) held
@@ -59,5 +69,4 @@ AreIn held names = (name : Bytes) → is_entered held name ≡ is_among names na
 -- each name is another ref's, and these alone are held in a set; or this is the first name that is unknown
 abbrev pub EntersNames : List Ref → BTreeSet (Bor Bytes) → List (Bor Bytes) → Result (Unit {0}) DropFault → Type 0
 EntersNames refs held names (Ok done) = (unknown_behind refs [] (lent_texts names) ≡ None) × AreIn held (lent_texts names)
-EntersNames refs held names (Err OutOfMemory) = ⊤
-EntersNames refs held names (Err (UnknownRef number)) = unknown_behind refs [] (lent_texts names) ≡ Some number
+EntersNames refs held names (Err fault) = IsAgainstNames refs (lent_texts names) fault

@@ -1,26 +1,28 @@
 //! Objects that are added to a repository. Source: gitglossary(7), "object database".
-ghost use Rattle.std.specs.Prelude.{◌≡◌, map, None, IsTrue, IfOk, IfErr, OnErr};
+ghost use Rattle.std.specs.Prelude.{◌≡◌, map, None, IsTrue, IsOk, IfOk, IfErr, OnErr};
 ghost use Rattle.gx_model.specs.declared.objects.Kind.TheVariants as kinds;
 ghost use Rattle.gx_model.specs.Records.RecordFaults.{content_fault};
 ghost use Rattle.gx_model.specs.Texts.RefNames.{is_tag_name};
 ghost use Rattle.gx_model.specs.Records.Sound.{Holds, IsLinked, IsNamedMap, Keeps};
+ghost use Rattle.gx_model.specs.Histories.{record_for};
 ghost use Rattle.gx_model.specs.Histories.Values.{blob_value, is_optional_encoding};
 ghost use Rattle.gx_object.specs.Parts.{commit_parts, tag_parts};
 ghost use Rattle.gx_store.specs.Bodies.{bytes_of};
-ghost use Rattle.gx_tree.specs.Named.{IsAtHome};
+ghost use Rattle.gx_tree.specs.Named.{IsAtHome, RemembersName, is_named};
 ghost use Rattle.gx_tree.specs.StoreFaults.{tree_fault};
 ghost use Rattle.gx_repo.specs.Additions.{Adds, IsWriteFault, commit_record, tag_record, value_among};
 ghost use Rattle.gx_repo.specs.Rooms.{room_below};
 ghost use Rattle.gx_repo.specs.Calls.{AddsAnew, AddsObject, AddsTree, GainsObject, GainsTree, GainsValue, HasShortPathsBelow, HidesNoFault, HidesNoObject, NamesValue, commit_given, tag_given, tree_given};
 ghost use Rattle.gx_repo.specs.Offered.{bytes_offered};
 ghost use Rattle.gx_repo.specs.Objects.{HoldsEach};
-ghost use Rattle.gx_repo.specs.Checking.{MayRefuse};
+ghost use Rattle.gx_repo.specs.Records.{MayRefuseRecord};
 
 use crate::checking::checked_room;
 use crate::fault::AddFault;
 use crate::offered::Offered;
 use crate::repo::Repo;
 use crate::rooms::enter_room;
+use crate::wanting::{fault_without_memory, fault_without_rooms};
 use gx_model::repository_laws::{
     links_tell_values, parts_change, puts_add_values, trees_add_file_maps,
 };
@@ -84,6 +86,7 @@ impl<N: Namer, A: Allocator + Copy> Repo<N, A> {
         ensures map { tree.new.files ≡ tree.old.files }
         ensures home { IfOk result (λ _. IsAtHome (N.name_of self.old.0) self.new.1.records tree.new) }
         ensures unchanged { OnErr result (tree.new ≡ tree.old) }
+        ensures remembers { IfOk result (λ _. RemembersName tree.new) }
     {
         trees_add_file_maps();
         puts_add_values();
@@ -101,8 +104,8 @@ impl<N: Namer, A: Allocator + Copy> Repo<N, A> {
     /// Does what `add_tree` does, for a tree that is at home here: each name that it remembers is that of a tree which is
     /// held with all trees below it. So it doesn't look below a remembered name.
     ///
-    /// The errors are those of `add_tree`; after a fault the repository and the tree are as they were, and after any answer
-    /// the tree is at home here.
+    /// The errors are those of `add_tree`, and none comes where the tree remembers its own name; after a fault the repository
+    /// and the tree are as they were, and after any answer the tree is at home here.
     /// Cost: the bodies of the trees without a remembered name, and for each of them the number of records. Source:
     /// gitglossary(7), "tree object".
     pub fn add_tree_shared(&mut self, tree: &mut PathTree<A>) -> Result<Name, StoreFault>
@@ -118,6 +121,8 @@ impl<N: Namer, A: Allocator + Copy> Repo<N, A> {
         ensures map { tree.new.files ≡ tree.old.files }
         ensures home { IsAtHome (N.name_of self.old.0) self.new.1.records tree.new }
         ensures unchanged { OnErr result (tree.new ≡ tree.old) }
+        ensures remembers { IfOk result (λ _. RemembersName tree.new) }
+        ensures named { IsTrue (is_named tree.old.names) → IsOk result }
     {
         trees_add_file_maps();
         puts_add_values();
@@ -203,8 +208,8 @@ impl<N: Namer, A: Allocator + Copy> Repo<N, A> {
     /// What it has against it is answered in this order. `BadObject`: the body isn't a canonical one of its kind.
     /// `Dangling`: a link isn't held, or is held as another kind. `BadObject`: an entry names a tree without entries, or
     /// a path below the tree has more than 4,095 bytes. `DuplicateObject`: the name is held, whatever its bytes.
-    /// `OutOfMemory`: a growth was refused. It hides none of these but of a tree, whose body is canonical and whose links
-    /// are held by then, what is below it and whether its name is held. After a fault the repository is as it was.
+    /// `OutOfMemory`: a growth was refused. It hides none of these, but of a tree that isn't held: that a path below it is too
+    /// long, or else that another object has its name. After a fault the repository is as it was.
     /// Cost: that of `Store::put_body`, and a look-up for each link, but for a file's that stands alike in the tree
     /// beside which a new one is looked at: one that was added here, with the same first or the same last entry, and not
     /// much over twice as long. Each entry of both is looked at once, and so are those of the trees that were added since
@@ -248,12 +253,16 @@ impl<N: Namer, A: Allocator + Copy> Repo<N, A> {
         ensures same { self.new ≡ self.old }
         ensures ok { IfOk result (λ _. content_fault self.old.1.records kind body.now ≡ None) }
         ensures room { IfOk result (λ room. room ≡ room_below self.old.1.records kind body.now) }
-        ensures fault { IfErr result (MayRefuse self.old.1.records kind body.now) }
+        ensures fault { IfErr result
+            (MayRefuseRecord self.old.1.records (record_for (N.name_of self.old.0) kind body.now)) }
     {
         parts_change();
-        let room = checked_room(&self.store, &mut self.rooms, &self.hints, kind, body)?;
+        let room = match checked_room(&self.store, &mut self.rooms, &self.hints, kind, body) {
+            Ok(room) => room,
+            Err(fault) => return Err(fault_without_memory(&self.store, kind, body, fault)),
+        };
         let Ok(()) = self.hints.make_room(kind) else {
-            return Err(AddFault::OutOfMemory);
+            return Err(fault_without_rooms(&self.store, kind, body));
         };
         self.hints.enter(kind, body, self.store.len());
         Ok(room)

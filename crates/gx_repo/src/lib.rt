@@ -15,6 +15,7 @@ mod refs;
 mod repo;
 mod reporting;
 mod rooms;
+mod wanting;
 
 pub use fault::{AddFault, DropFault, OutOfMemory, PublishFault};
 pub use gx_store::{Body, StoreFault, Text, TextRange};

@@ -8,4 +8,4 @@ loop-place-init g c = Entered-none _ _ _ c.requires.none
 pub loop-place-preserved : goal.loop-place-preserved
 loop-place-preserved g c =
     Entered-next _ c.args.names.now c.loop-place.place _ c.loop-place-test.true c.loop-place.entered c.insert.new.self c.loop-place.invariant
-    (sym c.is_held.ensures ∙ c.if-not-is_held.false) (sym c.in_ok-insert.ensures.added ∙ c.if-not-branch.false) c.in_ok-insert.ensures.updates.0
+    (sym c.is_held.ensures ∙ c.if-not-is_held.false) (sym c.in-Ok.ensures.added ∙ c.if-not-is_new.false) c.in-Ok.ensures.updates.0

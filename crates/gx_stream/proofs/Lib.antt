@@ -6,5 +6,7 @@ pub mod Longer
 pub mod Scans
 pub mod Ends
 pub mod Views
+pub mod Pieces
 pub mod Arrivals
+pub mod Follows
 pub mod FirstItems

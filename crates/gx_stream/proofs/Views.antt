@@ -1,14 +1,14 @@
 -- What a reader is seen as, before and after an item, the end or a fault.
-use Rattle.std.proofs.Common.{◌≡◌, ℕ, ◌<◌, ◌≤◌, Bool, true, false, inl, inr, Option, Some, None, Result, Ok, Err, [], ◌++◌, length, drop, refl, sym, ap, subst, ◌∙◌, arith, append-nil}
+use Rattle.std.proofs.Common.{◌≡◌, ℕ, ◌+◌, ◌<◌, ◌≤◌, Bool, true, false, inl, inr, Option, Some, None, Result, Ok, Err, [], ◌++◌, length, drop, refl, sym, ap, subst, ◌∙◌, arith, append-nil, append_assoc}
 use Rattle.std.proofs.lemmas.List.{length-drop}
 use Rattle.gx_model.specs.Texts.{Bytes}
-use Rattle.gx_model.specs.Streams.Items.{Item, Line, Data, Stream, then_comes, items_of}
+use Rattle.gx_model.specs.Streams.Items.{Item, Line, Data, Stream, Finished, Failed, then_comes, items_of}
 use Rattle.gx_text.specs.Devices.{Coming}
 use Rattle.gx_stream.specs.Heard.{heard_upto}
 use Rattle.gx_stream.specs.Places.{Skipped, ComesNext, NoneComes, bytes_at}
-use Rattle.gx_stream.specs.Reading.{Seen, AnswersAs, ReadsAs, FallsAs, RefusesAs, RepeatsAs}
-use Rattle.gx_stream.specs.Faults.{shown_end, ended}
-use Rattle.gx_stream.specs.Input.{shown_stream, shown_most, shown_over, answer_at, Looks, is_whole, Takes, Keeps, KeepsStream, KeepsOver}
+use Rattle.gx_stream.specs.Reading.{Seen, AnswersAs, ReadsAs, FallsAs, RefusesAs, RepeatsAs, ExplainsAs, MayFollow}
+use Rattle.gx_stream.specs.Faults.{fault_of, shown_end, ended}
+use Rattle.gx_stream.specs.Input.{shown_stream, shown_most, shown_over, shown_unread, shown_whole, answer_at, IsLonger, Looks, is_whole, Takes, Keeps, KeepsStream, KeepsOver}
 use Rattle.gx_stream.proofs.Ends.{none_refused}
 use Rattle.gx_stream.proofs.Longer.{nothing_more}
 use Rattle.gx_stream.specs.declared.fault.StreamFault.{StreamFault}
@@ -39,6 +39,29 @@ Repeats-kept old mid new answer k r = by old.over refl k where
   by None e k = subst (λ o. RepeatsAs o mid new answer) k r
   by (Some last) e k = subst (λ o. RepeatsAs o old new answer) (sym e) (subst (λ (s : Seen). RepeatsAs s.over s new answer) k r)
 
+Explains-kept : (old mid new : Stream → Type 0) (answer : Result (Option Item) StreamFault) → ((s : Stream) → mid s → old s) → ExplainsAs mid new answer → ExplainsAs old new answer
+Explains-kept old mid new (Ok None) k r = k (ended Finished) r
+Explains-kept old mid new (Ok (Some i)) k r = λ left m. k (then_comes i left) (r left m)
+Explains-kept old mid new (Err f) k (inl out) = inl out
+Explains-kept old mid new (Err f) k (inr r) = inr (k (ended (Failed (fault_of f))) r)
+
+-- what may come in a state
+abbrev pub MayComeIn : State → Bytes → Stream → Type 0
+MayComeIn state rest = MayFollow (shown_over state) (shown_unread state rest) (shown_whole state)
+
+-- no more items may come than before
+most_kept : (state : State) (old new : Bytes) (before after : ℕ) → shown_over state ≡ None → length new + after ≤ length old + before → shown_most state after new ≤ shown_most Open before old
+most_kept Open old new before after o l = l
+most_kept (Ended fails) old new before after o l = omega (arith, l)
+most_kept (Over last) old new before after o l = absurd (cc o)
+
+-- behind more bytes comes what may have come behind fewer
+text_kept : (state : State) (old new : Bytes) → shown_over state ≡ None → IsLonger old new → (s : Stream) → MayComeIn state new s → MayComeIn Open old s
+text_kept Open old new o (more, e) s (c, f) =
+    (record { bytes = more ++ c.bytes; fails = c.fails }, f ∙ ap (λ t. items_of (t ++ c.bytes) c.fails) e ∙ ap (λ t. items_of t c.fails) (append_assoc old more c.bytes))
+text_kept (Ended fails) old new o (more, e) s f = (record { bytes = more; fails = fails }, f ∙ ap (λ t. items_of t fails) e)
+text_kept (Over last) old new o l s f = absurd (cc o)
+
 -- ---- one answer
 
 Skipped-alone : (text : Bytes) (fails : Bool) (start at : ℕ) → Skipped text fails start at → items_of (drop start text) fails ≡ items_of (drop at text) fails
@@ -54,21 +77,32 @@ shorter text fails start at i p s n = omega (arith, s.from, n.further, n.within.
 
 -- what is seen of the fields
 abbrev pub shown_at : Bool → State → ℕ → Option Coming → Bytes → Seen
-shown_at full state room coming rest = record { stream = shown_stream state room coming rest; most = shown_most state room rest; over = shown_over state; full = full }
+shown_at full state room coming rest = record { stream = shown_stream state room coming rest; most = shown_most state room rest; over = shown_over state; full = full; unread = shown_unread state rest; whole = shown_whole state }
+
+-- a pull keeps what may come
+pub pull_keeps : (full : Bool) (state : State) (before after : ℕ) (was is : Option Coming) (old new now : Bytes) → shown_over state ≡ None → IsLonger old now → length now + after ≤ length old + before → KeepsStream (shown_stream Open before was old) (shown_stream state after is now) → new ≡ now
+    → Keeps (shown_at full Open before was old) (shown_at full state after is new)
+pull_keeps full state before after was is old new now over longer least kept e =
+    rw e (kept, most_kept state old now before after over least, over, text_kept state old now over longer)
+
+open_before : (text : Bytes) (start at : ℕ) (i : Item) (p : Place) → Skipped text true start at → ComesNext text true at i p → (left : Stream) → MayComeIn Open (drop p.next text) left → MayComeIn Open (drop start text) (then_comes i left)
+open_before text start at i p s n left (c, e) = (c, ap (then_comes i) e ∙ sym (s.same c.bytes c.fails tt ∙ n.next c.bytes c.fails tt))
 
 item_open : (full : Bool) (room : ℕ) (coming : Option Coming) (text : Bytes) (start at : ℕ) (i : Item) (p : Place) → Skipped text true start at → ComesNext text true at i p → AnswersAs (shown_at full Open room coming (drop start text)) (shown_at full Open room coming (drop p.next text)) (Ok (Some i))
-item_open full room None text start at i p s n = (tt, omega (arith, shorter text true start at i p s n), refl, tt)
+item_open full room None text start at i p s n = (tt, omega (arith, shorter text true start at i p s n), refl, tt, open_before text start at i p s n)
 item_open full room (Some c) text start at i p s n =
     let h = heard_upto room c in
-    ((items_of (drop p.next text ++ h.bytes) h.fails, s.same h.bytes h.fails tt ∙ n.next h.bytes h.fails tt, refl), omega (arith, shorter text true start at i p s n), refl, tt)
+    ((items_of (drop p.next text ++ h.bytes) h.fails, s.same h.bytes h.fails tt ∙ n.next h.bytes h.fails tt, refl), omega (arith, shorter text true start at i p s n), refl, tt, open_before text start at i p s n)
 
 item_ended : (full : Bool) (room : ℕ) (coming : Option Coming) (text : Bytes) (fails : Bool) (start at : ℕ) (i : Item) (p : Place) → Skipped text fails start at → ComesNext text fails at i p → AnswersAs (shown_at full (Ended fails) room coming (drop start text)) (shown_at full (Ended fails) room coming (drop p.next text)) (Ok (Some i))
 item_ended full room coming text fails start at i p s n =
-    ((items_of (drop p.next text) fails, Skipped-alone text fails start at s ∙ next_alone text fails at i p n, refl), shorter text fails start at i p s n, refl, tt)
+    let e = Skipped-alone text fails start at s ∙ next_alone text fails at i p n in
+    ((items_of (drop p.next text) fails, e, refl), shorter text fails start at i p s n, refl, tt, λ left m. ap (then_comes i) m ∙ sym e)
 
 end_ended : (full : Bool) (room : ℕ) (coming : Option Coming) (text rest : Bytes) (fails : Bool) (start at : ℕ) → Skipped text fails start at → NoneComes text fails at None → AnswersAs (shown_at full (Ended fails) room coming (drop start text)) (shown_at full (Over None) room coming rest) (Ok None)
 end_ended full room coming text rest fails start at s n =
-    ((Skipped-alone text fails start at s ∙ n.end, refl), omega arith, refl, tt)
+    let e = Skipped-alone text fails start at s ∙ n.end in
+    ((e, refl), omega arith, refl, tt, sym e)
 
 -- it isn't for want of memory
 not_refused : (full : Bool) (text : Bytes) (fails : Bool) (at : ℕ) (f : StreamFault) → NoneComes text fails at (Some f) → RefusesAs full (Err f)
@@ -79,17 +113,21 @@ not_refused full text fails at fault.BadNumber n = tt
 
 fault_ended : (full : Bool) (room : ℕ) (coming : Option Coming) (text rest : Bytes) (fails : Bool) (start at : ℕ) (f : StreamFault) → Skipped text fails start at → NoneComes text fails at (Some f) → AnswersAs (shown_at full (Ended fails) room coming (drop start text)) (shown_at full (Over (Some f)) room coming rest) (Err f)
 fault_ended full room coming text rest fails start at f s n =
-    ((refl, inr (Skipped-alone text fails start at s ∙ n.end)), omega arith, refl, not_refused full text fails at f n)
+    let e = Skipped-alone text fails start at s ∙ n.end in
+    ((refl, inr e), omega arith, refl, not_refused full text fails at f n, inr (sym e))
+
+number_before : (text : Bytes) (start at : ℕ) → Skipped text true start at → NoneComes text true at (Some fault.BadNumber) → MayComeIn Open (drop start text) (ended (shown_end (Some fault.BadNumber)))
+number_before text start at s n = (record { bytes = []; fails = true }, sym (s.same [] true tt ∙ n.stays refl [] true tt))
 
 number_open : (full : Bool) (room : ℕ) (coming : Option Coming) (text rest : Bytes) (start at : ℕ) → Skipped text true start at → NoneComes text true at (Some fault.BadNumber) → AnswersAs (shown_at full Open room coming (drop start text)) (shown_at full (Over (Some fault.BadNumber)) room coming rest) (Err fault.BadNumber)
-number_open full room None text rest start at s n = (refl, omega arith, refl, tt)
+number_open full room None text rest start at s n = (refl, omega arith, refl, tt, inr (number_before text start at s n))
 number_open full room (Some c) text rest start at s n =
     let h = heard_upto room c in
-    ((refl, inr (s.same h.bytes h.fails tt ∙ n.stays refl h.bytes h.fails tt)), omega arith, refl, tt)
+    ((refl, inr (s.same h.bytes h.fails tt ∙ n.stays refl h.bytes h.fails tt)), omega arith, refl, tt, inr (number_before text start at s n))
 
 last_again : (full : Bool) (room : ℕ) (coming : Option Coming) (bytes rest text : Bytes) (last : Option StreamFault) → AnswersAs (shown_at full (Over last) room coming bytes) (shown_at full (Over last) room coming rest) (answer_at text (found.End last))
-last_again full room coming bytes rest text None = ((refl, refl), omega arith, refl, (refl, refl))
-last_again full room coming bytes rest text (Some f) = ((refl, inr refl), omega arith, refl, (refl, refl))
+last_again full room coming bytes rest text None = ((refl, refl), omega arith, refl, (refl, refl), refl)
+last_again full room coming bytes rest text (Some f) = ((refl, inr refl), omega arith, refl, (refl, refl), inr refl)
 
 -- what was found is answered, and the rest is left
 answers : (full : Bool) (room : ℕ) (coming : Option Coming) (text : Bytes) (state new : State) (start at now : ℕ) (r : Found) → Looks text state start at r → is_whole state r ≡ true → Takes at state r now new → AnswersAs (shown_at full state room coming (drop start text)) (shown_at full new room coming (drop now text)) (answer_at text r)
@@ -117,6 +155,7 @@ Answers-found full old room coming text state new start at now r k l w t =
       Falls-kept old.most mid.most last.most (answer_at text r) k.1 here.1,
       here.2,
       Repeats-kept old mid last (answer_at text r) k.2 here.3,
+      Explains-kept _ _ _ (answer_at text r) k.3 here.4,
     )
 
 -- where there is no memory for more
@@ -128,6 +167,7 @@ Answers-refused was full old room coming text Open r e w k =
       omega arith,
       refl,
       Repeats-kept old mid last (Err fault.OutOfMemory) k.2 e,
+      inl refl,
     ) where
       reads : (o : Option Coming) → ReadsAs (shown_stream Open room o text) (Some (ended (shown_end (Some fault.OutOfMemory)))) (Err fault.OutOfMemory)
       reads None = refl

@@ -1,13 +1,12 @@
 -- What the fields of a reader stand for, and what each of its steps does to them.
-use Rattle.std.specs.Prelude.{◌≡◌, ℕ, suc, ◌+◌, ◌-◌, ◌<◌, ◌≤◌, ◌^◌, Bool, true, false, ◌||◌, nat_eq, nat_lt, ◌++◌, length, drop, Option, Some, None, Result, Ok, Err}
-use Rattle.std.specs.Vec.{vec_len, vec_capacity}
+use Rattle.std.specs.Prelude.{◌≡◌, ℕ, suc, ◌+◌, ◌-◌, ◌<◌, ◌≤◌, ◌^◌, Bool, true, false, nat_lt, [], ◌++◌, length, take, drop, Option, Some, None, Result, Ok, Err}
 use Rattle.gx_model.specs.Texts.{Bytes}
 use Rattle.gx_model.specs.Streams.Items.{Stream, items_of}
 use Rattle.gx_model.specs.Streams.Items as model
 use Rattle.gx_text.specs.Devices.{Coming}
 use Rattle.gx_stream.specs.Heard.{heard_upto}
 use Rattle.gx_stream.specs.Faults.{shown_end, ended}
-use Rattle.gx_stream.specs.Reading.{Seen}
+use Rattle.gx_stream.specs.Reading.{Seen, MayCome}
 use Rattle.gx_stream.specs.Places.{bytes_at, GoesTo, IsWithin, IsScanned, Skipped, Finds}
 use Rattle.gx_stream.specs.declared.fault.StreamFault.{StreamFault}
 use Rattle.gx_stream.specs.declared.fault.StreamFault.TheVariants.{OutOfMemory, ReadFailed, TruncatedData, BadNumber}
@@ -39,19 +38,38 @@ shown_over Open = None
 shown_over (Ended fails) = None
 shown_over (Over last) = Some last
 
--- whether another piece would find no room: in the buffer that it is pulled into, or behind the text that came
-abbrev pub has_no_room : ℕ → ℕ → ℕ → Bool
-has_no_room piece len capacity = nat_eq piece 0 || nat_lt capacity (len + piece)
+-- what came and isn't read yet, where more items may come
+abbrev pub shown_unread : State → Bytes → Bytes
+shown_unread Open rest = rest
+shown_unread (Ended fails) rest = rest
+shown_unread (Over last) rest = []
 
+-- where it came whole, whether it fails at its end
+abbrev pub shown_whole : State → Option Bool
+shown_whole Open = None
+shown_whole (Ended fails) = Some fails
+shown_whole (Over last) = None
+
+-- whether another piece would find no room behind what came
 abbrev pub is_full : {R A : Type 0} → Input R A → Bool
-is_full i = has_no_room (length i.piece.items) (vec_len i.text) (vec_capacity i.text)
+is_full i = nat_lt (length i.text.items) (i.came + 65536)
+
+-- what came
+abbrev pub text_of : {R A : Type 0} → Input R A → Bytes
+text_of i = take i.came i.text.items
+
+-- what isn't read of it yet
+abbrev pub rest_of : {R A : Type 0} → Input R A → Bytes
+rest_of i = drop i.at (text_of i)
 
 abbrev pub shown_input : {R A : Type 0} → Input R A → Option Coming → Seen
 shown_input i coming = record {
-  stream = shown_stream i.state i.room coming (drop i.at i.text.items);
-  most = shown_most i.state i.room (drop i.at i.text.items);
+  stream = shown_stream i.state i.room coming (rest_of i);
+  most = shown_most i.state i.room (rest_of i);
   over = shown_over i.state;
   full = is_full i;
+  unread = shown_unread i.state (rest_of i);
+  whole = shown_whole i.state;
 }
 
 -- what is known of the item that comes next counts where more of it may come
@@ -60,9 +78,10 @@ FitsState text Open at scan = IsScanned text true at scan × GoesTo text at scan
 FitsState text (Ended fails) at scan = Unit {0}
 FitsState text (Over last) at scan = Unit {0}
 
--- what isn't read yet begins within the text, and no more than 2 ^ 63 - 1 bytes are taken in all
+-- what isn't read yet begins within what came, that within the text, and no more than 2 ^ 63 - 1 bytes are taken in all
 abbrev pub IsSound : {R A : Type 0} → Input R A → Type 0
-IsSound i = (i.at ≤ length i.text.items) × (length i.text.items + i.room ≤ 2 ^ 63 - 1) × FitsState i.text.items i.state i.at i.scan
+IsSound i = (i.at ≤ i.came) × (i.came ≤ length i.text.items) × (i.came + i.room ≤ 2 ^ 63 - 1)
+    × FitsState (text_of i) i.state i.at i.scan
 
 -- ---- one look
 
@@ -120,8 +139,12 @@ abbrev pub KeepsOver : Option (Option StreamFault) → Seen → Seen → Type 0
 KeepsOver None old new = new.over ≡ None
 KeepsOver (Some last) old new = new ≡ old
 
+-- whatever may come now, it may have come before
+abbrev pub KeepsText : Seen → Seen → Type 0
+KeepsText old new = (s : Stream) → MayCome new s → MayCome old s
+
 abbrev pub Keeps : Seen → Seen → Type 0
-Keeps old new = KeepsStream old.stream new.stream × (new.most ≤ old.most) × KeepsOver old.over old new
+Keeps old new = KeepsStream old.stream new.stream × (new.most ≤ old.most) × KeepsOver old.over old new × KeepsText old new
 
 -- the same of what came from a source
 abbrev pub KeepsInput : {R A : Type 0} → (R → Option Coming) → Input R A → Input R A → Type 0

@@ -1,20 +1,26 @@
 -- What a reader of items is seen as, and what one call answers and leaves.
-use Rattle.std.specs.Prelude.{◌≡◌, ℕ, ◌<◌, ◌≤◌, ◌⊎◌, Bool, true, Option, Some, None, Result, Ok, Err}
-use Rattle.gx_model.specs.Streams.Items.{Stream, Finished, Failed, then_comes}
+use Rattle.std.specs.Prelude.{◌≡◌, ℕ, ◌<◌, ◌≤◌, ◌⊎◌, Bool, true, ◌++◌, Option, Some, None, Result, Ok, Err}
+use Rattle.gx_model.specs.Texts.{Bytes}
+use Rattle.gx_model.specs.Streams.Items.{Stream, Finished, Failed, then_comes, items_of}
 use Rattle.gx_model.specs.Streams.Items as model
-use Rattle.gx_stream.specs.Faults.{fault_of, ended}
+use Rattle.gx_text.specs.Devices.{Coming}
+use Rattle.gx_stream.specs.Faults.{fault_of, shown_end, ended}
 use Rattle.gx_stream.specs.declared.fault.StreamFault.{StreamFault}
 use Rattle.gx_stream.specs.declared.fault.StreamFault.TheVariants.{OutOfMemory}
 use Rattle.gx_stream.specs.declared.item.Item.{Item}
 use Rattle.gx_stream.specs.declared.item.Item.TheVariants.{Line, Data}
 
 -- What a reader is seen as: the items still to come with their end, where the source tells its bytes, a bound on how
--- many may come, where it is over, how: at the end, or at a fault; and whether it has no room for another piece of the source.
+-- many may come, where it is over, how: at the end, or at a fault; whether it has no room for another piece of the source;
+-- and whatever the source tells, the bytes that came and aren't read yet, and where they are the last, whether they fail at
+-- their end.
 pub record Seen : Type 0 where
   pub stream : Option Stream
   pub most : ℕ
   pub over : Option (Option StreamFault)
   pub full : Bool
+  pub unread : Bytes
+  pub whole : Option Bool
 
 -- an item as one of the model
 abbrev pub item_of : Item → model.Item
@@ -68,10 +74,35 @@ abbrev pub RepeatsAs : Option (Option StreamFault) → Seen → Seen → Result 
 RepeatsAs None old new answer = RefusesAs new.full answer
 RepeatsAs (Some last) old new answer = (answer ≡ last_answer last) × (new ≡ old)
 
+-- the items of some text
+abbrev pub AreOfText : Stream → Type 0
+AreOfText s = (c : Coming) × (s ≡ items_of c.bytes c.fails)
+
+-- those of bytes that are the last, or that any may follow
+abbrev pub MayStandIn : Bytes → Option Bool → Stream → Type 0
+MayStandIn unread None s = (c : Coming) × (s ≡ items_of (unread ++ c.bytes) c.fails)
+MayStandIn unread (Some fails) s = s ≡ items_of unread fails
+
+abbrev pub MayFollow : Option (Option StreamFault) → Bytes → Option Bool → Stream → Type 0
+MayFollow None unread whole s = MayStandIn unread whole s
+MayFollow (Some last) unread whole s = s ≡ ended (shown_end last)
+
+-- These items may still come, whatever the source tells: those of what isn't read yet and of any bytes that may follow. Where the
+-- reader is over, none do, and its last answer.
+abbrev pub MayCome : Seen → Stream → Type 0
+MayCome seen = MayFollow seen.over seen.unread seen.whole
+
+-- Whatever items may come behind, they may have come behind the one that is answered. The end, and a fault other than want of
+-- memory, may have come.
+abbrev pub ExplainsAs : (Stream → Type 0) → (Stream → Type 0) → Result (Option model.Item) StreamFault → Type 0
+ExplainsAs old new (Ok None) = old (ended Finished)
+ExplainsAs old new (Ok (Some item)) = (left : Stream) → new left → old (then_comes item left)
+ExplainsAs old new (Err f) = (f ≡ OutOfMemory) ⊎ old (ended (Failed (fault_of f)))
+
 -- what one call answers and leaves
 abbrev pub AnswersAs : Seen → Seen → Result (Option model.Item) StreamFault → Type 0
 AnswersAs old new answer = ReadsAs old.stream new.stream answer × FallsAs old.most new.most answer
-    × (new.over ≡ over_after answer) × RepeatsAs old.over old new answer
+    × (new.over ≡ over_after answer) × RepeatsAs old.over old new answer × ExplainsAs (MayCome old) (MayCome new) answer
 
 abbrev pub Answers : Seen → Seen → Result (Option Item) StreamFault → Type 0
 Answers old new answer = AnswersAs old new (answer_of answer)

@@ -1,8 +1,7 @@
 //! What came from a source, and the items in it.
 
-ghost use Rattle.std.specs.Prelude.{◌≡◌, ◌<◌, ◌≤◌, ◌+◌, length, drop, true, None, IfOk, IsTrue, OnOk, OnErr};
-ghost use Rattle.std.specs.Vec.{vec_len, vec_capacity};
-ghost use Rattle.gx_stream.specs.Input.{IsSound, FitsState, IsLonger, IsFoundWithin, Looks, is_whole, Takes, KeepsInput, KeepsStream, LeavesFewer, answer_at, is_full, shown_input, shown_over, shown_stream, pulls_left, state_of};
+ghost use Rattle.std.specs.Prelude.{◌≡◌, ◌<◌, ◌≤◌, ◌+◌, ◌-◌, ◌^◌, length, take, drop, true, None, IsTrue, OnOk, OnErr};
+ghost use Rattle.gx_stream.specs.Input.{IsSound, FitsState, IsLonger, IsFoundWithin, Looks, is_whole, Takes, KeepsInput, KeepsStream, LeavesFewer, answer_at, is_full, shown_input, shown_over, shown_stream, text_of, pulls_left, state_of};
 ghost use Rattle.gx_stream.specs.Reading.{AnswersAs};
 ghost use Rattle.gx_stream.specs.declared.input.State.TheVariants.{Open};
 
@@ -21,12 +20,13 @@ pub(crate) enum State {
     Over(Option<StreamFault>),
 }
 
-/// What came from a source. The text from `at` on isn't read yet, and at most `room` bytes may still come.
+/// What came from a source: the first `came` bytes of the text. Those from `at` on aren't read yet, and at most `room` may
+/// still come. Behind them is room for a piece, which a pull writes to. It is cleared once.
 #[derive(Drop)]
 pub(crate) struct Input<R: Source, A: Allocator> {
     pub(crate) source: R,
-    pub(crate) piece: Vec<u8, A>,
     pub(crate) text: Vec<u8, A>,
+    pub(crate) came: usize,
     pub(crate) at: usize,
     pub(crate) scan: Scan,
     pub(crate) room: usize,
@@ -39,13 +39,14 @@ impl<R: Source, A: Allocator + Copy> Input<R, A> {
     pub(crate) fn take_next(&mut self) -> Found
         requires { IsSound self.old }
         ensures sound { IsSound self.new }
-        ensures within { IsFoundWithin self.new.text.items result }
+        ensures within { IsFoundWithin (text_of self.new) result }
         ensures answers { AnswersAs
             (shown_input self.old (R.coming self.old.source)) (shown_input self.new (R.coming self.new.source))
-            (answer_at self.new.text.items result) }
+            (answer_at (text_of self.new) result) }
     {
         loop {
-            let found = look(&self.text, &mut self.at, &mut self.scan, self.state);
+            let came = &self.text[..self.came];
+            let found = look(came, &mut self.at, &mut self.scan, self.state);
             if is_whole(self.state, found) {
                 take(&mut self.at, &mut self.state, found);
                 self.scan = Scan::from_line(self.at);
@@ -68,7 +69,7 @@ impl<R: Source, A: Allocator + Copy> Input<R, A> {
         ensures refused { OnErr result (is_full self.new ≡ true) }
     {
         self.pull()?;
-        while is_open(self.state) && self.text.len() <= self.scan.wanted {
+        while is_open(self.state) && self.came <= self.scan.wanted {
             self.pull()?;
         }
         Ok(())
@@ -84,16 +85,16 @@ impl<R: Source, A: Allocator + Copy> Input<R, A> {
         ensures refused { OnErr result (is_full self.new ≡ true) }
         ensures unpulled { OnErr result (self.new.source ≡ self.old.source) }
     {
-        remove_front(&mut self.text, self.at);
+        remove_front(&mut self.text, &mut self.came, self.at);
         self.scan = self.scan.without(self.at);
         self.at = 0;
-        make_buffer(&mut self.piece)?;
-        self.state = append_piece(
+        make_room(&mut self.text, self.came)?;
+        self.state = pull_behind(
             &mut self.source,
-            &mut self.piece,
             &mut self.text,
+            &mut self.came,
             &mut self.room,
-        )?;
+        );
         Ok(())
     }
 }
@@ -145,52 +146,56 @@ fn take(at: &mut usize, state: &mut State, found: Found)
     }
 }
 
-/// Makes the buffer for a pull, where that wasn't done before.
-fn make_buffer<A: Allocator>(buffer: &mut Vec<u8, A>) -> Result<(), AllocError>
-    ensures made { OnOk result (0 < length buffer.new.items) }
-    ensures refused { OnErr result (length buffer.new.items ≡ 0) }
+/// Takes so many bytes from the front of those that came.
+fn remove_front(text: &mut [u8], came: &mut usize, count: usize)
+    requires { (count ≤ came.old) × (came.old ≤ length text.old) }
+    ensures rest { take came.new text.new ≡ drop count (take came.old text.old) }
+    ensures came { came.new + count ≡ came.old }
+    ensures len { length text.new ≡ length text.old }
 {
-    if buffer.is_empty() {
-        buffer.resize(PIECE, 0)?;
+    if count > 0 {
+        text.copy_within(count..*came, 0);
+        *came -= count;
+    }
+}
+
+/// Makes room for a piece behind so many bytes, where there is none.
+/// This comes before the pull: where it is refused nothing is pulled, so no read that failed is taken for it.
+fn make_room<A: Allocator>(text: &mut Vec<u8, A>, came: usize) -> Result<(), AllocError>
+    requires { (came ≤ length text.old.items) × (came ≤ 2 ^ 63 - 1) }
+    ensures same { take came text.new.items ≡ take came text.old.items }
+    ensures len { length text.old.items ≤ length text.new.items }
+    ensures made { OnOk result (came + 65536 ≤ length text.new.items) }
+    ensures refused { OnErr result (length text.new.items < came + 65536) }
+{
+    let wanted = came + PIECE;
+    if text.len() < wanted {
+        text.resize(wanted, 0)?;
     }
     Ok(())
 }
 
-/// Takes so many bytes from the front.
-fn remove_front<A: Allocator>(text: &mut Vec<u8, A>, count: usize)
-    requires { count ≤ length text.old.items }
-    ensures { text.new.items ≡ drop count text.old.items }
-{
-    if count > 0 {
-        let len = text.len();
-        text.copy_within(count.., 0);
-        text.truncate(len - count);
-    }
-}
-
-/// Pulls a piece through a buffer and appends what is taken of it. Answers what is known of the text then.
-/// Room for the whole buffer is made first: where that is refused nothing is pulled, so no read that failed is taken for it.
-fn append_piece<R: Source, A: Allocator>(
+/// Pulls a piece to behind what came. Answers what is known of the text then.
+fn pull_behind<R: Source>(
     source: &mut R,
-    buffer: &mut [u8],
-    text: &mut Vec<u8, A>,
+    text: &mut [u8],
+    came: &mut usize,
     room: &mut usize,
-) -> Result<State, AllocError>
-    requires { 0 < length buffer.old }
-    ensures longer { IsLonger text.old.items text.new.items }
-    ensures within { length text.new.items + room.new ≤ length text.old.items + room.old }
-    ensures keeps { IfOk result (λ state. KeepsStream
-        (shown_stream Open room.old (R.coming source.old) text.old.items)
-        (shown_stream state room.new (R.coming source.new) text.new.items)) }
-    ensures goes_on { IfOk result (λ state. shown_over state ≡ None) }
-    ensures fewer { IfOk result (λ state. pulls_left state room.new < pulls_left Open room.old) }
-    ensures refused { OnErr result (vec_capacity text.new < vec_len text.new + length buffer.new) }
-    ensures unpulled { OnErr result (source.new ≡ source.old) }
+) -> State
+    requires { came.old + 65536 ≤ length text.old }
+    ensures len { length text.new ≡ length text.old }
+    ensures longer { IsLonger (take came.old text.old) (take came.new text.new) }
+    ensures within { (came.new ≤ length text.new) × (came.new + room.new ≤ came.old + room.old) }
+    ensures keeps { KeepsStream
+        (shown_stream Open room.old (R.coming source.old) (take came.old text.old))
+        (shown_stream result room.new (R.coming source.new) (take came.new text.new)) }
+    ensures goes_on { shown_over result ≡ None }
+    ensures fewer { pulls_left result room.new < pulls_left Open room.old }
 {
-    text.reserve(buffer.len())?;
-    let (state, count) = pull_piece(source, buffer, room);
-    text.extend_from_slice(&buffer[..count])?;
-    Ok(state_of(state))
+    let piece = &mut text[*came..*came + PIECE];
+    let (state, count) = pull_piece(source, piece, room);
+    *came += count;
+    state_of(state)
 }
 
 /// What is known of a text by what is known of its source.

@@ -5,7 +5,8 @@ ghost use Rattle.std.specs.Option.{option_map};
 ghost use Rattle.std.specs.Borrow.{sem};
 ghost use Rattle.std.specs.Io.BufRead.{Rests};
 ghost use Rattle.gx_stream.specs.Heard.{items_from};
-ghost use Rattle.gx_stream.specs.Reading.{Answers};
+ghost use Rattle.gx_model.specs.Streams.Items.{Stream};
+ghost use Rattle.gx_stream.specs.Reading.{Answers, AreOfText, MayCome};
 ghost use Rattle.gx_stream.specs.contracts.reader.ItemReader.{the_row};
 
 use crate::fault::StreamFault;
@@ -40,12 +41,13 @@ impl<R: Source, A: Allocator + Copy> ItemReader<R, A> {
         ensures stream { result.stream ≡ option_map items_from (R.coming source) }
         ensures most { result.most ≡ 2 ^ 63 - 1 }
         ensures over { result.over ≡ None }
+        ensures explains { (items : Stream) → MayCome result items → AreOfText items }
     {
         ItemReader {
             input: Input {
                 source,
-                piece: Vec::new(alloc),
                 text: Vec::new(alloc),
+                came: 0,
                 at: 0,
                 scan: Scan::from_line(0),
                 room: LIMIT,
@@ -62,15 +64,17 @@ impl<R: Source, A: Allocator + Copy> ItemReader<R, A> {
     /// `TruncatedData`: the text ends within a block. `BadNumber`: a `data` line has neither a number nor `<<`.
     ///
     /// The source is asked for more only where no whole item is left, and for at most 64 KiB at a time. Memory: the longest
-    /// item that came, whatever a count states, and two pieces of 64 KiB. Cost: the bytes of the item and of the comments
+    /// item that came, whatever a count states, and a piece of 64 KiB. Cost: the bytes of the item and of the comments
     /// before it, however they are cut.
     /// Source: git-fast-import(1), "Comments" and "data".
     pub fn next(&mut self) -> Result<Option<Item<'_>>, StreamFault>
         ensures* reads { sem 𝓛 (Rests (the_row R.row A.row R.Source A.Allocator) self.entry (λ new. Answers self.old new result)) }
     {
-        match self.input.take_next() {
-            Found::Line(place) => Ok(Some(Item::Line(&self.input.text[place.start..place.end]))),
-            Found::Data(place) => Ok(Some(Item::Data(&self.input.text[place.start..place.end]))),
+        let found = self.input.take_next();
+        let came = &self.input.text[..self.input.came];
+        match found {
+            Found::Line(place) => Ok(Some(Item::Line(&came[place.start..place.end]))),
+            Found::Data(place) => Ok(Some(Item::Data(&came[place.start..place.end]))),
             Found::End(None) => Ok(None),
             Found::End(Some(fault)) => Err(fault),
         }

@@ -6,3 +6,6 @@ returns-clause-stream g c = search rules
 
 pub returns-clause-most : goal.returns-clause-most
 returns-clause-most g c = search rules
+
+pub returns-clause-explains : goal.returns-clause-explains
+returns-clause-explains g c = λ items m. m

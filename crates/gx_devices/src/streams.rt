@@ -26,6 +26,8 @@ impl<'a> Source for Allowed<'a> {
         ensures bytes { Pulls None None buffer.new result }
         ensures given { IfOk result (λ n.
             PullsFrom self.old.bytes.coming (Some self.new.bytes.coming) buffer.new (Ok n)) }
+        ensures few { IfOk result (λ n. n ≤ self.old.bytes.piece) }
+        ensures piece { self.new.bytes.piece ≡ self.old.bytes.piece }
         ensures unchanged { IsErr result → self.new.bytes.coming ≡ self.old.bytes.coming }
     {
         match self.pulls.get().checked_sub(1) {
@@ -60,6 +62,7 @@ impl<'a> Sink for Allowing<'a> {
         ensures some { IfOk result (λ n. 0 < n) }
         ensures bytes { Pushes None None bytes.now result }
         ensures all { result ≡ Ok (length bytes.now) }
+        ensures more { self.new.more ≡ self.old.more }
     {
         if bytes.ends_with(b"\n") {
             let pulls = self.pulls.get().saturating_add(self.more);

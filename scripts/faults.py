@@ -31,7 +31,7 @@ ENUMS = {
     "Files and memory": [
         "gx_cli/src/fault.rt CliFault",
         "gx_batch/src/fault.rt BatchFault",
-        "gx_line/src/command_line.rt LineFault",
+        "gx_line/src/fault.rt LineFault",
         "gx/src/fault.rt RunFault",
     ],
     "The library": ["gx_c/src/answer.rt Why"],

@@ -17,8 +17,8 @@ use Rattle.gx_line.specs.declared.command_line.ExportForm.{ExportForm}
 use Rattle.gx_line.specs.declared.command_line.ExportForm.TheVariants.{Changes, FullTree}
 use Rattle.gx_line.specs.declared.command_line.Line.{Line}
 use Rattle.gx_line.specs.declared.command_line.Line.TheVariants.{Blobs, Try, Check, Adapt, Where, WhereFault, Init, Import, Drop, Gc, Export, ExportRange, Show, Ls, Archive, Batch, Refs, Log, RevParse}
-use Rattle.gx_line.specs.declared.command_line.LineFault.{LineFault}
-use Rattle.gx_line.specs.declared.command_line.LineFault.TheVariants.{OutOfMemory, Status}
+use Rattle.gx_line.specs.declared.fault.LineFault.{LineFault}
+use Rattle.gx_line.specs.declared.fault.LineFault.TheVariants.{OutOfMemory, Status}
 use Rattle.gx_line.specs.declared.command_line.LogFormat.{LogFormat}
 use Rattle.gx_line.specs.declared.command_line.LogFormat.TheVariants.{Names, Oneline, Raw, Subject, Author, Dates}
 use Rattle.gx_line.specs.declared.command_line.LogOptions.{LogOptions}

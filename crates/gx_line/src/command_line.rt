@@ -9,11 +9,11 @@ mod commands;
 mod manual;
 mod values;
 
+use crate::LineFault;
 use clap::error::ErrorKind;
 use clap::{ArgMatches, Error};
 use commands::command_line;
-use std::alloc::{AllocError, Global};
-use thiserror::Error as Fault;
+use std::alloc::Global;
 use values::{
     any_words_of, batch_form_of, form_of, format_of, is_set, number_of, option_of, text_of,
     unknown, word_of, words_of,
@@ -177,22 +177,6 @@ pub enum Line<'a> {
         file: &'a str,
         revisions: Vec<&'a str>,
     },
-}
-
-/// Why there is no line: no memory, or the status to end with and the text to print, which are clap's.
-/// Status 0 is a request for help, 2 a command line that isn't accepted.
-#[derive(Debug, Drop, Fault)]
-pub enum LineFault {
-    #[error("gx: out of memory")]
-    OutOfMemory,
-    #[error("{text}")]
-    Status { status: u8, text: String },
-}
-
-impl From<AllocError> for LineFault {
-    fn from(_error: AllocError) -> LineFault {
-        LineFault::OutOfMemory
-    }
 }
 
 /// The line that the words after the program's name give.

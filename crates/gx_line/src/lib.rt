@@ -2,5 +2,7 @@
 #![tactic(auto)]
 
 mod command_line;
+mod fault;
 
-pub use command_line::{BatchForm, ExportForm, Line, LineFault, LogFormat, LogOptions, read_line};
+pub use command_line::{BatchForm, ExportForm, Line, LogFormat, LogOptions, read_line};
+pub use fault::LineFault;

@@ -4,7 +4,8 @@ ghost use Rattle.std.specs.Prelude.{◌≡◌, IfOk, IfSome, Some};
 ghost use Rattle.clap.specs.Words.{first_of, found_of, rows_of};
 ghost use Rattle.gx_line.specs.CommandLine as say;
 
-use super::{BatchForm, ExportForm, LineFault, LogFormat};
+use super::{BatchForm, ExportForm, LogFormat};
+use crate::LineFault;
 use clap::ArgMatches;
 use std::alloc::Global;
 

@@ -2,3 +2,4 @@ pub mod Weaker
 pub mod MadeCommands
 pub mod NeededArguments
 pub mod Flags
+pub mod NoLines

@@ -1,16 +1,16 @@
 -- The command line of gx: what clap is told of it, and what a line says of the words that clap took.
-use Rattle.std.specs.Prelude.{◌≡◌, ◌⊎◌, ⊤, ℕ, Bool, true, false, not, List, [], map, Option, Some, None, Result, IfOk, codes, IsSomeAnd, option_map, unwrap_or}
+use Rattle.std.specs.Prelude.{◌≡◌, ◌⊎◌, ⊤, ℕ, Bool, true, false, not, List, [], ◌∷◌, map, Option, Some, None, Result, IfOk, codes, IsSomeAnd, option_map, unwrap_or}
 use Rattle.std.specs.Borrow.{Bor}
 use Rattle.std.specs.Str.Parse.{ParsesUnsigned}
 use Rattle.std.specs.declared.num.ParseIntError.{ParseIntError}
 use Rattle.clap.specs.Lexer.{usize_max}
-use Rattle.clap.specs.Words.{App, ReadsOne, Row, Rule, Text, all_of, app_of, first_of, new_app, new_rule, one_of, subcommand_of, with_rule, with_subcommand}
+use Rattle.clap.specs.Words.{App, ReadsOne, Row, Rule, Text, all_of, app_of, first_of, new_app, new_rule, one_of, subcommand_of, takes, with_rule, with_subcommand}
 use Rattle.clap.specs.declared.builder.command.Command.{Command}
 use Rattle.clap.specs.declared.builder.command.Command.TheViews.{out-Command as fields_of}
 use Rattle.clap.specs.declared.builder.action.ArgAction.TheVariants.{SetTrue}
 use Rattle.clap.specs.declared.builder.value_parser.ValueParser.TheVariants as parser
 use Rattle.clap.specs.declared.error.kind.ErrorKind.{ErrorKind}
-use Rattle.clap.specs.declared.error.kind.ErrorKind.TheVariants.{DisplayHelp, DisplayVersion}
+use Rattle.clap.specs.declared.error.kind.ErrorKind.TheVariants as kind
 use Rattle.gx_line.specs.declared.command_line.BatchForm.{BatchForm}
 use Rattle.gx_line.specs.declared.command_line.BatchForm.TheVariants as form
 use Rattle.gx_line.specs.declared.command_line.ExportForm.{ExportForm}
@@ -351,19 +351,58 @@ Says name rows (Log options file ranges) = (name ≡ codes "log") × (AreLogOpti
 Says name rows (RevParse file revisions) = (name ≡ codes "rev-parse")
     × (IsWord (codes "file") rows file × AreWords (codes "rev") rows revisions.items)
 
+-- the commands that read a stream and keep nothing
+abbrev pub stream_names : List Text
+stream_names = codes "blobs" ∷ codes "try" ∷ codes "check" ∷ codes "adapt" ∷ codes "where" ∷ []
+
+-- the commands on a store, without those with a list of words
+abbrev pub store_names : List Text
+store_names = codes "init" ∷ codes "import" ∷ codes "gc" ∷ codes "export" ∷ codes "refs" ∷ codes "show" ∷ codes "ls"
+    ∷ codes "archive" ∷ codes "batch" ∷ []
+
+-- the name is none of these
+abbrev pub IsNoneOf : List Text → Text → Type 0
+IsNoneOf [] name = ⊤
+IsNoneOf (x ∷ xs) name = (name ≡ x → ⊥) × IsNoneOf xs name
+
 -- the line is what clap reads from the words
 abbrev pub IsReadFrom : List Text → Line → Type 0
 IsReadFrom ws line = IsSomeAnd (subcommand_of gx ws) (λ p. Says p.0 p.1 line)
 
 -- ---- why there is no line
 
+-- clap takes the words, and they give a line: memory ran out
+abbrev pub RefusesNoLine : List Text → LineFault → Type 0
+RefusesNoLine ws fault = (line : Line) → IsReadFrom ws line → takes gx ws ≡ true → fault ≡ OutOfMemory
+
+-- memory ran out, or the fault has this cause
+abbrev pub HasCause : Type 0 → LineFault → Type 0
+HasCause cause OutOfMemory = ⊤
+HasCause cause (Status status text) = cause
+
+-- no line is the command `name` with what clap found for it, unless memory ran out
+abbrev pub IsRefused : Text → List Row → LineFault → Type 0
+IsRefused name rows fault = HasCause ((line : Line) → Says name rows line → ⊥) fault
+
+-- --no-done stands without --changes
+abbrev pub HasNoForm : List Row → Type 0
+HasNoForm rows = IsFlag (codes "changes") rows false × IsFlag (codes "no-done") rows true
+
+-- --command stands beside --check
+abbrev pub HasNoBatchForm : List Row → Type 0
+HasNoBatchForm rows = IsFlag (codes "check") rows true × IsFlag (codes "command") rows true
+
+-- the word asks for no format
+abbrev pub HasNoFormat : Option Text → Type 0
+HasNoFormat word = (format : LogFormat) → word ≡ format_word format → ⊥
+
 -- help and the version were asked for, and all else is a line that isn't accepted
 abbrev pub status_of : ErrorKind → ℕ
-status_of DisplayHelp = 0
-status_of DisplayVersion = 0
+status_of kind.DisplayHelp = 0
+status_of kind.DisplayVersion = 0
 status_of _ = 2
 
--- the fault tells of an error of this kind
+-- the fault tells of an error of this kind, unless memory ran out
 abbrev pub IsAnswer : ErrorKind → LineFault → Type 0
 IsAnswer why OutOfMemory = ⊤
-IsAnswer why (Status status text) = status ≡ status_of why
+IsAnswer why (Status status text) = (why ≡ kind.OutOfMemory → ⊥) × (status ≡ status_of why)

@@ -1,6 +1,6 @@
 //! The command line of `gx`, read by `clap`.
 
-ghost use Rattle.std.specs.Prelude.{◌≡◌, IfOk, Some, codes, map};
+ghost use Rattle.std.specs.Prelude.{◌≡◌, IfErr, IfOk, Some, codes, map};
 ghost use Rattle.clap.specs.Words.{first_of, found_of, kind_of, rows_of};
 ghost use Rattle.gx_line.specs.CommandLine as say;
 
@@ -181,9 +181,11 @@ pub enum Line<'a> {
 
 /// The line that the words after the program's name give.
 ///
-/// Takes memory in proportion to the words.
+/// Takes memory in proportion to the words. Words that clap takes for a line are refused by want of memory alone. Of a
+/// command that has an argument with a rule on another one, clap doesn't tell which words it takes.
 pub fn read_line<'a>(alloc: Global, words: &'a [&'a str]) -> Result<Line<'a>, LineFault>
-    ensures { IfOk result (λ line. say.IsReadFrom (map (λ s. s.now) words.entry.now) line) }
+    ensures line { IfOk result (λ line. say.IsReadFrom (map (λ s. s.now) words.entry.now) line) }
+    ensures refused { IfErr result (say.RefusesNoLine (map (λ s. s.now) words.entry.now)) }
 {
     let matches = match command_line(alloc)?.try_get_matches_from(words) {
         Ok(matches) => matches,
@@ -202,7 +204,8 @@ fn line_of<'a>(
     name: &'a str,
     matches: &ArgMatches<'a>,
 ) -> Result<Line<'a>, LineFault>
-    ensures { IfOk result (λ line. say.Says name.now (rows_of (found_of matches.now)) line) }
+    ensures line { IfOk result (λ line. say.Says name.now (rows_of (found_of matches.now)) line) }
+    ensures refused { IfErr result (say.IsRefused name.now (rows_of (found_of matches.now))) }
 {
     match name {
         "blobs" => Ok(Line::Blobs),
@@ -228,7 +231,8 @@ fn line_of<'a>(
 /// The line of `where`. clap makes sure that there is a number or `--fault`.
 #[tactic(auto, unfolding(crate::specs::CommandLine::Says))]
 fn where_line<'a>(alloc: Global, matches: &ArgMatches<'a>) -> Result<Line<'a>, LineFault>
-    ensures { IfOk result (λ line. say.Says (codes "where") (rows_of (found_of matches.now)) line) }
+    ensures line { IfOk result (λ line. say.Says (codes "where") (rows_of (found_of matches.now)) line) }
+    ensures refused { IfErr result (say.IsRefused (codes "where") (rows_of (found_of matches.now))) }
 {
     if is_set(matches, "fault") {
         return Ok(Line::WhereFault {
@@ -250,8 +254,10 @@ fn file_line<'a>(
     matches: &ArgMatches<'a>,
     file: &'a str,
 ) -> Result<Line<'a>, LineFault>
-    requires { first_of (codes "file") (rows_of (found_of matches.now)) ≡ Some file.now }
-    ensures { IfOk result (λ line. say.Says name.now (rows_of (found_of matches.now)) line) }
+    requires file { first_of (codes "file") (rows_of (found_of matches.now)) ≡ Some file.now }
+    requires other { say.IsNoneOf say.stream_names name.now }
+    ensures line { IfOk result (λ line. say.Says name.now (rows_of (found_of matches.now)) line) }
+    ensures refused { IfErr result (say.IsRefused name.now (rows_of (found_of matches.now))) }
 {
     match name {
         "init" => Ok(Line::Init { file }),
@@ -303,7 +309,8 @@ fn export_line<'a>(
     file: &'a str,
 ) -> Result<Line<'a>, LineFault>
     requires { first_of (codes "file") (rows_of (found_of matches.now)) ≡ Some file.now }
-    ensures { IfOk result (λ line. say.Says (codes "export") (rows_of (found_of matches.now)) line) }
+    ensures line { IfOk result (λ line. say.Says (codes "export") (rows_of (found_of matches.now)) line) }
+    ensures refused { IfErr result (say.IsRefused (codes "export") (rows_of (found_of matches.now))) }
 {
     let Some(form) = form_of(matches) else {
         return Err(unknown(alloc));
@@ -329,8 +336,10 @@ fn list_line<'a>(
     matches: &ArgMatches<'a>,
     file: &'a str,
 ) -> Result<Line<'a>, LineFault>
-    requires { first_of (codes "file") (rows_of (found_of matches.now)) ≡ Some file.now }
-    ensures { IfOk result (λ line. say.Says name.now (rows_of (found_of matches.now)) line) }
+    requires file { first_of (codes "file") (rows_of (found_of matches.now)) ≡ Some file.now }
+    requires other { say.IsNoneOf say.stream_names name.now × say.IsNoneOf say.store_names name.now }
+    ensures line { IfOk result (λ line. say.Says name.now (rows_of (found_of matches.now)) line) }
+    ensures refused { IfErr result (say.IsRefused name.now (rows_of (found_of matches.now))) }
 {
     match name {
         "log" => Ok(Line::Log {

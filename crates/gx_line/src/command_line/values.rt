@@ -1,8 +1,9 @@
 //! What clap found for the arguments of a command.
 
-ghost use Rattle.std.specs.Prelude.{◌≡◌, IfOk, IfSome, Some};
-ghost use Rattle.clap.specs.Words.{first_of, found_of, rows_of};
+ghost use Rattle.std.specs.Prelude.{◌≡◌, IfErr, IfNone, IfOk, IfSome, None, Some, codes};
+ghost use Rattle.clap.specs.Words.{all_of, first_of, found_of, rows_of};
 ghost use Rattle.gx_line.specs.CommandLine as say;
+ghost use Rattle.gx_line.specs.declared.fault.LineFault.TheVariants.{OutOfMemory};
 
 use super::{BatchForm, ExportForm, LogFormat};
 use crate::LineFault;
@@ -23,7 +24,8 @@ pub(super) fn word_of<'a>(
     matches: &ArgMatches<'a>,
     id: &str,
 ) -> Result<&'a str, LineFault>
-    ensures { IfOk result (λ word. first_of id.now (rows_of (found_of matches.now)) ≡ Some word.now) }
+    ensures word { IfOk result (λ word. first_of id.now (rows_of (found_of matches.now)) ≡ Some word.now) }
+    ensures missing { IfErr result (λ _. first_of id.now (rows_of (found_of matches.now)) ≡ None) }
 {
     match matches.get_str(id) {
         Some(word) => Ok(word),
@@ -37,7 +39,8 @@ pub(super) fn words_of<'a>(
     matches: &ArgMatches<'a>,
     id: &str,
 ) -> Result<Vec<&'a str>, LineFault>
-    ensures { IfOk result (λ words. say.AreWords id.now (rows_of (found_of matches.now)) words.items) }
+    ensures words { IfOk result (λ words. say.AreWords id.now (rows_of (found_of matches.now)) words.items) }
+    ensures missing { IfErr result (say.HasCause (all_of id.now (rows_of (found_of matches.now)) ≡ None)) }
 {
     match matches.get_strs(id) {
         Some(words) => Ok(Vec::from_slice(alloc, words)?),
@@ -51,7 +54,8 @@ pub(super) fn any_words_of<'a>(
     matches: &ArgMatches<'a>,
     id: &str,
 ) -> Result<Vec<&'a str>, LineFault>
-    ensures { IfOk result (λ words. say.AreAnyWords id.now (rows_of (found_of matches.now)) words.items) }
+    ensures words { IfOk result (λ words. say.AreAnyWords id.now (rows_of (found_of matches.now)) words.items) }
+    ensures memory { IfErr result (λ fault. fault ≡ OutOfMemory) }
 {
     match matches.get_strs(id) {
         Some(words) => Ok(Vec::from_slice(alloc, words)?),
@@ -61,7 +65,8 @@ pub(super) fn any_words_of<'a>(
 
 /// The form that an export is asked for in. There is none where `--no-done` stands alone, of which clap makes sure.
 pub(super) fn form_of(matches: &ArgMatches<'_>) -> Option<ExportForm>
-    ensures { IfSome result (λ form. say.IsForm (rows_of (found_of matches.now)) form) }
+    ensures form { IfSome result (λ form. say.IsForm (rows_of (found_of matches.now)) form) }
+    ensures none { IfNone result (say.HasNoForm (rows_of (found_of matches.now))) }
 {
     let no_done = is_set(matches, "no-done");
     if is_set(matches, "changes") {
@@ -75,7 +80,8 @@ pub(super) fn form_of(matches: &ArgMatches<'_>) -> Option<ExportForm>
 
 /// What a batch is asked for. There is none where `--check` and `--command` stand together, of which clap makes sure.
 pub(super) fn batch_form_of(matches: &ArgMatches<'_>) -> Option<BatchForm>
-    ensures { IfSome result (λ form. say.IsBatchForm (rows_of (found_of matches.now)) form) }
+    ensures form { IfSome result (λ form. say.IsBatchForm (rows_of (found_of matches.now)) form) }
+    ensures none { IfNone result (say.HasNoBatchForm (rows_of (found_of matches.now))) }
 {
     let check = is_set(matches, "check");
     if is_set(matches, "command") {
@@ -93,7 +99,8 @@ pub(super) fn batch_form_of(matches: &ArgMatches<'_>) -> Option<BatchForm>
 
 /// The format that a list of commits is asked for in.
 pub(super) fn format_of(alloc: Global, matches: &ArgMatches<'_>) -> Result<LogFormat, LineFault>
-    ensures { IfOk result (λ format. say.IsLogFormat (rows_of (found_of matches.now)) format) }
+    ensures format { IfOk result (λ format. say.IsLogFormat (rows_of (found_of matches.now)) format) }
+    ensures none { IfErr result (say.HasCause (say.HasNoFormat (first_of (codes "format") (rows_of (found_of matches.now))))) }
 {
     match option_of(matches, "format") {
         None => Ok(LogFormat::Names),
@@ -103,7 +110,8 @@ pub(super) fn format_of(alloc: Global, matches: &ArgMatches<'_>) -> Result<LogFo
 
 /// The format that a word asks for.
 fn format_named(alloc: Global, word: &str) -> Result<LogFormat, LineFault>
-    ensures { IfOk result (λ format. say.format_word format ≡ Some word.now) }
+    ensures format { IfOk result (λ format. say.format_word format ≡ Some word.now) }
+    ensures none { IfErr result (say.HasCause (say.HasNoFormat (Some word.now))) }
 {
     match word {
         "oneline" => Ok(LogFormat::Oneline),

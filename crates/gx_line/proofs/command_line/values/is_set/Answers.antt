@@ -1,4 +1,4 @@
-use Rattle.std.proofs.Common.{◌≡◌, ◌∙◌, subst, sym}
+use Rattle.std.proofs.Common.{◌∙◌, subst, sym}
 use Rattle.clap.specs.Words.{found_of, rows_of, one_of}
 use Rattle.clap.proofs.WalkLemmas.{one_text-rows}
 use Rattle.gx_line.specs.CommandLine.{IsFlag}

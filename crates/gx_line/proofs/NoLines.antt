@@ -1,0 +1,46 @@
+-- What clap found for a command gives no line, and what a fault then tells.
+use Rattle.std.proofs.Common.{◌≡◌, ◌∙◌, true, false, List, Option, Some, None, refl, sym, codes, option_map}
+use Rattle.std.specs.Str.{bytes_eq}
+use Rattle.std.proofs.lemmas.Slice.Eq.{bytes_eq-Decides}
+use Rattle.clap.specs.Words.{Row, Text, all_of}
+use Rattle.clap.specs.declared.error.kind.ErrorKind.{ErrorKind}
+use Rattle.clap.specs.declared.error.kind.ErrorKind.TheVariants as kind
+use Rattle.gx_line.specs.CommandLine.{HasCause, IsAnswer, IsFlag, IsRefused, Says}
+use Rattle.gx_line.specs.declared.command_line.Line.{Line}
+use Rattle.gx_line.specs.declared.command_line.Line.TheVariants.{Blobs, Export, ExportRange}
+use Rattle.gx_line.specs.declared.fault.LineFault.{LineFault}
+use Rattle.gx_line.specs.declared.fault.LineFault.TheVariants.{OutOfMemory, Status}
+
+-- a fault without a cause of its own tells of it
+pub caused : (P : Type 0) (fault : LineFault) → P → HasCause P fault
+caused P OutOfMemory h = tt
+caused P (Status status text) h = h
+
+-- what a fault with no line behind it says of a line
+pub no_refusal : (name : Text) (rows : List Row) (fault : LineFault) → IsRefused name rows fault → (line : Line) → Says name rows line → fault ≡ OutOfMemory
+no_refusal name rows OutOfMemory h line says = refl
+no_refusal name rows (Status status text) h line says = absurd (h line says)
+
+-- clap had no memory
+pub for_memory : (why : ErrorKind) (fault : LineFault) → IsAnswer why fault → why ≡ kind.OutOfMemory → fault ≡ OutOfMemory
+for_memory why OutOfMemory h e = refl
+for_memory why (Status status text) h e = absurd (h.0 e)
+
+pub none_mapped : {X Y : Type 0} (f : X → Y) (o : Option X) → None ≡ option_map f o → o ≡ None
+none_mapped f None e = refl
+none_mapped f (Some x) e = cc
+
+differ : {a b : Text} → a ≡ b → bytes_eq a b ≡ false → ⊥
+differ {a} {b} e h = let same : bytes_eq a b ≡ true = (bytes_eq-Decides a b).1 e in cc
+
+missing : {X : Type 0} {o : Option X} {x : X} → o ≡ None → o ≡ Some x → ⊥
+missing {X} {o} {x} e h = let bad : None ≡ Some x = sym e ∙ h in cc
+
+-- range words stand without --changes
+pub no_ranges : (rows : List Row) (ranges : List Text) → IsFlag (codes "changes") rows false → all_of (codes "range") rows ≡ Some ranges
+    → (line : Line) → Says (codes "export") rows line → ⊥
+unfolding Says
+no_ranges rows ranges e some (Export form file) h = missing h.1.1.1 some
+no_ranges rows ranges e some (ExportRange done file words) h = e h.1.0.0
+no_ranges rows ranges e some Blobs h = differ h refl
+no_ranges rows ranges e some line h = differ h.0 refl

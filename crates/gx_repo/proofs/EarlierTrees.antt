@@ -1,6 +1,7 @@
 -- What a tree that is held names is held.
-use Rattle.std.proofs.Common.{◌≡◌, ◌≢◌, ℕ, true, List, [], ◌∷◌, map, take, slice_get, Option, Some, None, refl, sym, ap, subst, ◌∙◌}
+use Rattle.std.proofs.Common.{◌≡◌, ◌≢◌, ℕ, true, false, List, [], ◌∷◌, map, take, slice_get, Option, Some, None, refl, sym, ap, subst, ◌∙◌}
 use Rattle.std.specs.List.{AllByRecursion}
+use Rattle.std.specs.Option.{is_some}
 use Rattle.std.specs.Map.Iter.{TakesFirst}
 use Rattle.gx_model.specs.declared.objects.Kind.{Kind}
 use Rattle.gx_model.specs.declared.objects.Kind.TheVariants as kinds
@@ -62,3 +63,8 @@ left_behind rs (Some e) rest h = h.1
 pub left_taken : (rs : List Record) (old new : List Entry) (next : Option Shown) → TakesFirst shown old next new → AllByRecursion (IsThere rs) old → AllByRecursion (IsThere rs) (left next new)
 left_taken rs old new None (e, f) h = subst (AllByRecursion (IsThere rs)) (sym f) tt
 left_taken rs old new (Some x) e h = subst (AllByRecursion (IsThere rs)) e h
+
+-- where none was read already, the entry of a text that comes next is held with the others, and they stay so without it
+pub left_passed : (rs : List Record) (next : Option Shown) (old new : List Entry) (e : Entry) → is_some next ≡ false → old ≡ e ∷ new → AllByRecursion (IsThere rs) (left next old) → IsThere rs e × AllByRecursion (IsThere rs) (left next new)
+left_passed rs None old new e none s h = subst (AllByRecursion (IsThere rs)) s h
+left_passed rs (Some x) old new e none s h = absurd (cc)

@@ -12,6 +12,7 @@ pub mod EarlierTrees
 pub mod EntryRooms
 pub mod CheckedEntries
 pub mod ContentFaults
+pub mod ReadTrees
 pub mod AddedRecords
 pub mod WantingTrees
 pub mod PrunedRecords

@@ -7,7 +7,7 @@ use Rattle.gx_model.specs.Histories.{Record}
 use Rattle.gx_model.specs.Records.Growth.{record_named}
 use Rattle.gx_model.specs.Records.RecordFaults.{content_fault, is_without_entries}
 use Rattle.gx_repo.specs.declared.fault.AddFault.{AddFault}
-use Rattle.gx_repo.specs.declared.fault.AddFault.TheVariants.{OutOfMemory}
+use Rattle.gx_repo.specs.declared.fault.AddFault.TheVariants.{OutOfMemory, BadObject, Dangling}
 use Rattle.gx_repo.specs.Records.{IsLinkedTree, add_fault}
 use Rattle.gx_repo.specs.Rooms.{room_at}
 
@@ -27,6 +27,11 @@ entry_room records e =
 abbrev pub widest : List Record → List Entry → Option ℕ
 widest records [] = Some 0
 widest records (e ∷ es) = wider (entry_room records e) (widest records es)
+
+-- what is against a tree of which a link isn't held, by what is left of its entries: that, unless its body isn't canonical
+abbrev pub fault_behind : Option (List Entry) → AddFault
+fault_behind None = BadObject
+fault_behind (Some left) = Dangling
 
 -- this is against a body of this kind
 abbrev pub IsAgainst : List Record → Kind → Bytes → AddFault → Type 0

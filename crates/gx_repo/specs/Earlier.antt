@@ -7,6 +7,7 @@ use Rattle.gx_model.specs.Histories.{Record}
 use Rattle.gx_model.specs.Records.RecordFaults.{is_entry_held}
 use Rattle.gx_object.specs.declared.entry.Entry.{Entry}
 use Rattle.gx_object.specs.Entries.{shown}
+use Rattle.gx_object.specs.Trees.{IsEntryText}
 use Rattle.gx_repo.specs.declared.earlier.Earlier.{Earlier}
 
 -- what an entry names is held
@@ -33,6 +34,10 @@ KeepsLeftHeld old new = (records : List Record) → AreLeftHeld records old → 
 -- what an entry names is held wherever what is left is
 abbrev pub IsThereWithLeft : Earlier → Entry → Type 0
 IsThereWithLeft earlier entry = (records : List Record) → AreLeftHeld records earlier → IsThere records (shown entry)
+
+-- the entry of a text is held wherever what is left is
+abbrev pub IsTextThere : Earlier → Bytes → Type 0
+IsTextThere earlier text = (entry : TreeEntry) → IsEntryText entry text → (records : List Record) → AreLeftHeld records earlier → IsThere records entry
 
 -- a body is that of a tree whose entries are held, wherever both of these are
 abbrev pub IsHeldWithBoth : Bytes → Bytes → Bytes → Type 0

@@ -5,7 +5,7 @@ ghost use Rattle.gx_model.specs.Records.RecordFaults.{content_fault, is_entry_he
 ghost use Rattle.gx_object.specs.Entries.{shown};
 ghost use Rattle.gx_store.specs.Stores.{place_named};
 ghost use Rattle.gx_repo.specs.declared.fault.AddFault.TheVariants.{Dangling, OutOfMemory};
-ghost use Rattle.gx_repo.specs.Checking.{IsAgainst, MayRefuse, entry_room, wider};
+ghost use Rattle.gx_repo.specs.Checking.{IsAgainst, MayRefuse, entry_room, fault_behind, wider};
 ghost use Rattle.gx_repo.specs.Records.{IsLinkedTree};
 ghost use Rattle.gx_repo.specs.Rooms.{IsFront, room_below, rooms_of};
 ghost use Rattle.gx_repo.specs.Earlier.{IsThere};
@@ -15,7 +15,9 @@ use crate::earlier::Hints;
 use crate::fault::AddFault;
 use crate::rooms::enter_rooms;
 use gx_model::store_laws::bodies_are_read;
-use gx_object::{Entry, Kind, Mode, Name, Namer, decode_commit, decode_tag, decode_tree};
+use gx_object::{
+    BadObject, Entry, Kind, Mode, Name, Namer, TreeReader, decode_commit, decode_tag, decode_tree,
+};
 use gx_store::Store;
 use std::alloc::Allocator;
 
@@ -141,14 +143,15 @@ fn tree_room<N: Namer, A: Allocator + Copy>(
     ensures fault { IfErr result (IsAgainst store.now.1 kinds.Tree body.now) }
 {
     bodies_are_read();
-    let Ok(entries) = decode_tree(body) else {
-        return Err(AddFault::BadObject);
-    };
+    let mut reader = TreeReader::new(body);
     let mut earlier = hints.earlier(store, body);
     let mut widest = Some(0);
-    for entry in entries {
-        let is_known = earlier.takes(&entry);
-        widest = wider(widest, entry_room(store, rooms, is_known, &entry)?);
+    while let Some((entry, text)) = reader.read()? {
+        let is_known = earlier.takes(&entry, text);
+        let Ok(room) = entry_room(store, rooms, is_known, &entry) else {
+            return Err(fault_behind(&mut reader));
+        };
+        widest = wider(widest, room);
     }
     let Some(room) = widest else {
         return Err(AddFault::BadObject);
@@ -157,6 +160,19 @@ fn tree_room<N: Namer, A: Allocator + Copy>(
         return Err(AddFault::BadObject);
     }
     Ok(room)
+}
+
+/// What is against a tree of which a link isn't held: that, unless the rest of its body isn't canonical.
+fn fault_behind(reader: &mut TreeReader<'_>) -> AddFault
+    ensures { result ≡ fault_behind reader.old.entries }
+{
+    loop {
+        match reader.read() {
+            Ok(Some(_)) => {}
+            Ok(None) => return AddFault::Dangling,
+            Err(BadObject) => return AddFault::BadObject,
+        }
+    }
 }
 
 /// The greater of two rooms; none where one is missing.

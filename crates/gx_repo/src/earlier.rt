@@ -1,7 +1,10 @@
 //! A new tree beside an earlier one: an entry that stands in a tree that is held is held, too, and needs no look-up.
 ghost use Rattle.std.specs.Prelude.{◌≡◌, ◌<◌, IsTrue, OnErr};
 ghost use Rattle.gx_model.specs.declared.objects.Kind.TheVariants as kinds;
-ghost use Rattle.gx_repo.specs.Earlier.{AreLeftHeld, IsHeldTree, IsHeldWithBoth, IsThereWithLeft, KeepsLeftHeld};
+ghost use Rattle.gx_model.specs.Objects.{Entry as TreeEntry};
+ghost use Rattle.gx_object.specs.Entries.{shown};
+ghost use Rattle.gx_object.specs.Trees.{IsEntryText};
+ghost use Rattle.gx_repo.specs.Earlier.{AreLeftHeld, IsHeldTree, IsHeldWithBoth, IsTextThere, IsThereWithLeft, KeepsLeftHeld};
 ghost use Rattle.gx_repo.specs.Repositories.{IsSoundStore};
 
 use gx_object::{Entry, Kind, Namer, TreeEntries, held_tree};
@@ -67,9 +70,10 @@ impl<A: Allocator + Copy> Hints<A> {
     {
         let first = tree_at(store, self.place(first_slot(body)));
         let last = tree_at(store, self.place(SLOTS + last_slot(body)));
-        let mut rest = held_tree(nearer(body.len(), first, last));
-        let next = rest.next();
-        Earlier { next, rest }
+        Earlier {
+            next: None,
+            rest: held_tree(nearer(body.len(), first, last)),
+        }
     }
 
     /// Enters the place at which a tree with this body is to stand, and nothing for another kind.
@@ -84,35 +88,50 @@ impl<A: Allocator + Copy> Hints<A> {
 /// What is left of an earlier tree's entries.
 #[derive(Drop)]
 pub(crate) struct Earlier<'a> {
+    // The next entry, where it is read already.
     next: Option<Entry<'a>>,
     rest: TreeEntries<'a>,
 }
 
 impl<'a> Earlier<'a> {
     /// Whether an entry of this mode and name comes next, or next once those are passed whose components come before the
-    /// entry's. It is then passed, too.
+    /// entry's. It is then passed, too. The text is the entry's: where it comes next as it stands, nothing is read.
     ///
     /// Cost: each entry is passed once. Takes no memory.
-    pub(crate) fn takes(&mut self, entry: &Entry<'_>) -> bool
+    pub(crate) fn takes(&mut self, entry: &Entry<'_>, text: &[u8]) -> bool
+        requires text { IsEntryText (shown entry.now) text.now }
         ensures left { KeepsLeftHeld self.old self.new }
         ensures held { IsTrue result → IsThereWithLeft self.old entry.now }
     {
+        if self.passes(text) {
+            return true;
+        }
         if self.is_next(entry) {
-            self.pass_one();
+            self.next = None;
             return true;
         }
         self.pass_before(entry.component);
         if self.is_next(entry) {
-            self.pass_one();
+            self.next = None;
             return true;
         }
         false
     }
 
-    fn pass_one(&mut self)
-        ensures { KeepsLeftHeld self.old self.new }
+    /// Whether the next entry has this text. It is then passed, and else read, unless it is read already.
+    fn passes(&mut self, text: &[u8]) -> bool
+        requires text { (entry : TreeEntry) × IsEntryText entry text.now }
+        ensures left { KeepsLeftHeld self.old self.new }
+        ensures held { IsTrue result → IsTextThere self.old text.now }
     {
+        if self.next.is_some() {
+            return false;
+        }
+        if self.rest.pass(text) {
+            return true;
+        }
         self.next = self.rest.next();
+        false
     }
 
     fn is_next(&self, entry: &Entry<'_>) -> bool

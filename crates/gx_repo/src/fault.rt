@@ -2,6 +2,7 @@
 ghost use Rattle.std.specs.Prelude.{◌≡◌, Some};
 ghost use Rattle.gx_model.specs.Faults.FaultWords.{word_of};
 ghost use Rattle.gx_model.specs.Faults.StoreFaults.{word};
+ghost use Rattle.gx_repo.specs.declared.fault.AddFault.TheVariants.{BadObject};
 ghost use Rattle.gx_repo.specs.Dropping.{drop_fault};
 ghost use Rattle.gx_repo.specs.Publishing.{fault_of};
 ghost use Rattle.gx_repo.specs.Records.{add_fault};
@@ -33,6 +34,14 @@ impl fmt::Display for AddFault {
 
     fn fmt<W: fmt::Write>(&self, f: &mut fmt::Formatter<W>) -> fmt::Result {
         f.write_str(FileFault::from(*self).word())
+    }
+}
+
+impl From<gx_object::BadObject> for AddFault {
+    ghost from_gives = { λ _ fault. fault ≡ BadObject };
+
+    fn from(_fault: gx_object::BadObject) -> AddFault {
+        AddFault::BadObject
     }
 }
 

@@ -1,13 +1,9 @@
-use Rattle.std.proofs.Common.{◌≡◌}
-use Rattle.std.specs.List.{list_all}
-use Rattle.gx_model.specs.Records.HistoryOf.{entries_in}
-use Rattle.gx_model.specs.Records.RecordFaults.{is_entry_held}
-use Rattle.gx_repo.specs.Checking.{wider, widest}
 use Rattle.gx_repo.specs.Earlier.{AreLeftHeld}
+use Rattle.gx_repo.proofs.ReadTrees.{IsLeft}
 use Rattle.gx_repo.proofs.checking.tree_room.Given as goal
 
 abbrev pub invariant-loop-entry : goal.invariant-loop-entry
-invariant-loop-entry g l =
-    (list_all (λ e. is_entry_held l.store.1 e.mode e.name) (entries_in l.body) ≡ list_all (λ e. is_entry_held l.store.1 e.mode e.name) l.entry-iterator)
-    × (wider l.widest (widest l.store.1 l.entry-iterator) ≡ widest l.store.1 (entries_in l.body))
-    × AreLeftHeld l.store.1 l.earlier
+invariant-loop-entry g l = IsLeft l.store.1 l.body l.widest l.reader.entries × AreLeftHeld l.store.1 l.earlier
+
+abbrev pub decreases-loop-entry : goal.decreases-loop-entry
+decreases-loop-entry g l = l.reader.most

@@ -7,7 +7,8 @@ use Rattle.gx_stream.specs.declared.item.Item.{Item}
 use Rattle.gx_stream.specs.declared.fault.StreamFault.{StreamFault}
 use Rattle.gx_stream.specs.declared.fault.StreamFault.TheVariants as stream
 use Rattle.gx_stream.specs.Faults.{fault_of, ended}
-use Rattle.gx_stream.specs.Reading.{Reads, item_of}
+use Rattle.gx_stream.specs.Reading.{Answers, AreOfText, MayCome, Seen, item_of}
+use Rattle.gx_stream.proofs.Follows.{some_come}
 use Rattle.gx_adapt.specs.Lines as lines
 use Rattle.gx_adapt.specs.Lines.{items_for}
 use Rattle.gx_adapt.specs.Streams.{lot_in, lot_at, behind_of, items_in, is_spaced, is_deletion, is_requoted, is_marks, is_asking, on_line, report_of}
@@ -28,12 +29,12 @@ use Rattle.gx_adapt.proofs.Counts.{after_of, after-push, text_behind, text-push,
 abbrev pub after : List ModelItem → Stream → Stream
 after came left = record { items = came ++ left.items; end = left.end }
 
--- these items came, and then what is left
-abbrev pub Goes : Option Stream → Option Stream → List ModelItem → Type 0
-Goes None now front = Unit {0}
-Goes (Some r) now front = (left : Stream) × (now ≡ Some left) × (r ≡ after front left)
+-- these items came, and then what is left; where the source tells nothing, whatever may come behind them, they are all of some text
+abbrev pub Goes : Option Stream → Seen → List ModelItem → Type 0
+Goes None now front = (left : Stream) → MayCome now left → AreOfText (after front left)
+Goes (Some r) now front = (left : Stream) × (now.stream ≡ Some left) × (r ≡ after front left)
 
-pub record Progress {A : Type 0} (drops : Bool) (start now : Option Stream) (behind : Behind) (marks : Marks A) (was is : Option Taken) (report : Report) (most : ℕ) : Type 0 where
+pub record Progress {A : Type 0} (drops : Bool) (start : Option Stream) (now : Seen) (behind : Behind) (marks : Marks A) (was is : Option Taken) (report : Report) (most : ℕ) : Type 0 where
   pub front : List ModelItem
   pub goes : Goes start now front
   pub behind_is : behind ≡ after_of Other front
@@ -42,23 +43,27 @@ pub record Progress {A : Type 0} (drops : Bool) (start now : Option Stream) (beh
   pub counted : report ≡ report_of drops front
   pub few : length front + most ≤ 2 ^ 63 - 1
 
-Goes-none : (start now : Option Stream) → now ≡ start → Goes start now []
-Goes-none None now e = tt
-Goes-none (Some r) now e = (r, e, refl)
+Goes-none : (start : Option Stream) (now : Seen) → now.stream ≡ start → ((s : Stream) → MayCome now s → AreOfText s) → Goes start now []
+Goes-none None now e text = text
+Goes-none (Some r) now e text = (r, e, refl)
 
-pub Progress-none : {A : Type 0} (drops : Bool) (start now : Option Stream) (marks : Marks A) (was : Option Taken) (report : Report) (most : ℕ) → now ≡ start → StandsBehind [] marks → report ≡ report_of drops [] → most ≤ 2 ^ 63 - 1 → Progress drops start now Other marks was was report most
-Progress-none drops start now marks was report most e b r m =
-    record { front = []; goes = Goes-none start now e; behind_is = refl; stands = b; wrote = took_nothing was; counted = r; few = omega (arith, m) }
+pub Progress-none : {A : Type 0} (drops : Bool) (start : Option Stream) (now : Seen) (marks : Marks A) (was : Option Taken) (report : Report) (most : ℕ) → now.stream ≡ start → ((s : Stream) → MayCome now s → AreOfText s) → StandsBehind [] marks → report ≡ report_of drops [] → most ≤ 2 ^ 63 - 1 → Progress drops start now Other marks was was report most
+Progress-none drops start now marks was report most e text b r m =
+    record { front = []; goes = Goes-none start now e text; behind_is = refl; stands = b; wrote = took_nothing was; counted = r; few = omega (arith, m) }
 
-Goes-item : (start now new : Option Stream) (front : List ModelItem) (item : Item) → Goes start now front → Reads now new (Ok (Some item)) → Goes start new (front ++ item_of item ∷ [])
-Goes-item None now new front item g r = tt
-Goes-item (Some s) now new front item g r =
-    let t = rw g.1 at r in
-    (t.0, t.2, g.2 ∙ ap (after front) t.1 ∙ ap (λ is. record { items = is; end = t.0.end }) (sym (append_assoc front (item_of item ∷ []) t.0.items)))
+-- an item more came
+one_more : (front : List ModelItem) (i : ModelItem) (left : Stream) → after front (then_comes i left) ≡ after (front ++ i ∷ []) left
+one_more front i left = ap (λ is. record { items = is; end = left.end }) (sym (append_assoc front (i ∷ []) left.items))
 
-pub Progress-item : {A : Type 0} (drops : Bool) (start now new : Option Stream) (behind next : Behind) (marks passed : Marks A) (was is out : Option Taken) (report new_report : Report) (most left : ℕ) (item : Item) (lot : lines.Lot) → next ≡ behind_of (item_of item) → Passes (item_of item) marks passed
+Goes-item : (start : Option Stream) (now new : Seen) (front : List ModelItem) (item : Item) → Goes start now front → Answers now new (Ok (Some item)) → Goes start new (front ++ item_of item ∷ [])
+Goes-item None now new front item g a = λ left m. subst AreOfText (one_more front (item_of item) left) (g (then_comes (item_of item) left) (a.4 left m))
+Goes-item (Some s) now new front item g a =
+    let t = rw g.1 at a.0 in
+    (t.0, t.2, g.2 ∙ ap (after front) t.1 ∙ one_more front (item_of item) t.0)
+
+pub Progress-item : {A : Type 0} (drops : Bool) (start : Option Stream) (now new : Seen) (behind next : Behind) (marks passed : Marks A) (was is out : Option Taken) (report new_report : Report) (most left : ℕ) (item : Item) (lot : lines.Lot) → next ≡ behind_of (item_of item) → Passes (item_of item) marks passed
     → lot ≡ lot_in drops behind (item_of item) → new_report ≡ counted lot (names_held marks (item_of item)) (item_of item) report → left < most
-    → Took is out (items_text (items_for (item_of item) lot)) → Progress drops start now behind marks was is report most → Reads now new (Ok (Some item)) → Progress drops start new next passed was out new_report left
+    → Took is out (items_text (items_for (item_of item) lot)) → Progress drops start now behind marks was is report most → Answers now new (Ok (Some item)) → Progress drops start new next passed was out new_report left
 Progress-item drops start now new behind next marks passed was is out report new_report most left item lot e b l c m s p r =
     let i = item_of item in
     let here = l ∙ ap (λ b. lot_in drops b i) p.behind_is in
@@ -77,7 +82,7 @@ Progress-item drops start now new behind next marks passed was is out report new
 
 -- ---- there is room
 
-pub Progress-room : {A : Type 0} (drops : Bool) (start now : Option Stream) (behind : Behind) (marks : Marks A) (was is : Option Taken) (report : Report) (most : ℕ) → Progress drops start now behind marks was is report most → HasRoom report
+pub Progress-room : {A : Type 0} (drops : Bool) (start : Option Stream) (now : Seen) (behind : Behind) (marks : Marks A) (was is : Option Taken) (report : Report) (most : ℕ) → Progress drops start now behind marks was is report most → HasRoom report
 Progress-room drops start now behind marks was is report most p = subst HasRoom (sym p.counted) (record {
   identities = omega (arith, p.few, many-few (λ q. is_spaced (lot_at drops q)) p.front);
   deletions = omega (arith, p.few, many-few (λ q. is_deletion (lot_at drops q)) p.front);
@@ -97,10 +102,14 @@ Progress-room drops start now behind marks was is report most p = subst HasRoom 
 whole : (s left : Stream) (front : List ModelItem) (e : End) → s ≡ after front left → left ≡ ended e → s ≡ record { items = front; end = e }
 whole s left front e g h = g ∙ ap (after front) h ∙ ap (λ is. record { items = is; end = e }) (append-nil front)
 
-pub Adapts-end : {A : Type 0} (drops : Bool) (start now new : Option Stream) (behind : Behind) (marks : Marks A) (was is : Option Taken) (report : Report) (most : ℕ) → Progress drops start now behind marks was is report most → Reads now new (Ok None) → AdaptsFrom drops start was is (Ok report)
-Adapts-end drops None now new behind marks was is report most p r = (record { items = p.front; end = Finished }, tt, (p.counted, (refl, p.wrote)))
-Adapts-end drops (Some s) now new behind marks was is report most p r =
-    let t = rw p.goes.1 at r in
+-- where the source tells nothing they are all of some text
+whole_text : (front : List ModelItem) (e : End) → AreOfText (after front (ended e)) → AreOfText (record { items = front; end = e })
+whole_text front e t = subst AreOfText (ap (λ is. record { items = is; end = e }) (append-nil front)) t
+
+pub Adapts-end : {A : Type 0} (drops : Bool) (start : Option Stream) (now new : Seen) (behind : Behind) (marks : Marks A) (was is : Option Taken) (report : Report) (most : ℕ) → Progress drops start now behind marks was is report most → Answers now new (Ok None) → AdaptsFrom drops start was is (Ok report)
+Adapts-end drops None now new behind marks was is report most p a = (record { items = p.front; end = Finished }, whole_text p.front Finished (p.goes (ended Finished) a.4), (p.counted, (refl, p.wrote)))
+Adapts-end drops (Some s) now new behind marks was is report most p a =
+    let t = rw p.goes.1 at a.0 in
     subst (λ s. Adapts drops s was is (Ok report)) (sym (whole s p.goes.0 p.front Finished p.goes.2 t.0)) (p.counted, (refl, p.wrote))
 
 fault_at : (drops : Bool) (front : List ModelItem) (was is : Option Taken) (f : StreamFault) → Took was is (text_for drops front) → Adapts drops (record { items = front; end = Failed (fault_of f) }) was is (Err (of_stream f))
@@ -116,10 +125,19 @@ fault_case : (drops : Bool) (s left : Stream) (front : List ModelItem) (was is :
 fault_case drops s left front was is f g w (inl e) = subst (λ f. Adapts drops s was is (Err (of_stream f))) (sym e) (no_memory drops s left front was is g w)
 fault_case drops s left front was is f g w (inr e) = subst (λ s. Adapts drops s was is (Err (of_stream f))) (sym (whole s left front (Failed (fault_of f)) g e)) (fault_at drops front was is f w)
 
-pub Adapts-fault : {A : Type 0} (drops : Bool) (start now new : Option Stream) (behind : Behind) (marks : Marks A) (was is : Option Taken) (report : Report) (most : ℕ) (f : StreamFault) → Progress drops start now behind marks was is report most → Reads now new (Err f) → AdaptsFrom drops start was is (Err (of_stream f))
-Adapts-fault drops None now new behind marks was is report most f p r = (record { items = p.front; end = Failed (fault_of f) }, (f, refl), fault_at drops p.front was is f p.wrote)
-Adapts-fault drops (Some s) now new behind marks was is report most f p r =
-    let t = rw p.goes.1 at r in
+silent_fault : (drops : Bool) (now : Seen) (front : List ModelItem) (was is : Option Taken) (f : StreamFault) → Goes None now front → Took was is (text_for drops front) → (f ≡ stream.OutOfMemory) ⊎ MayCome now (ended (Failed (fault_of f))) → AdaptsFrom drops None was is (Err (of_stream f))
+silent_fault drops now front was is f g w (inl e) =
+    let some = some_come now in
+    let s = after front some.0 in
+    (s, g some.0 some.1, subst (λ f. Adapts drops s was is (Err (of_stream f))) (sym e) (no_memory drops s some.0 front was is refl w))
+silent_fault drops now front was is f g w (inr m) =
+    let end = Failed (fault_of f) in
+    (record { items = front; end = end }, whole_text front end (g (ended end) m), fault_at drops front was is f w)
+
+pub Adapts-fault : {A : Type 0} (drops : Bool) (start : Option Stream) (now new : Seen) (behind : Behind) (marks : Marks A) (was is : Option Taken) (report : Report) (most : ℕ) (f : StreamFault) → Progress drops start now behind marks was is report most → Answers now new (Err f) → AdaptsFrom drops start was is (Err (of_stream f))
+Adapts-fault drops None now new behind marks was is report most f p a = silent_fault drops now p.front was is f p.goes p.wrote a.4
+Adapts-fault drops (Some s) now new behind marks was is report most f p a =
+    let t = rw p.goes.1 at a.0 in
     fault_case drops s p.goes.0 p.front was is f p.goes.2 p.wrote t.1
 
 -- ---- an item that isn't sent
@@ -137,13 +155,14 @@ unsent drops s left front i was is out faults.ReadFailed g w f = absurd f
 unsent drops s left front i was is out faults.TruncatedData g w f = absurd f
 unsent drops s left front i was is out faults.BadNumber g w f = absurd f
 
-pub Adapts-unsent : {A : Type 0} (drops : Bool) (start now new : Option Stream) (behind : Behind) (marks : Marks A) (was is out : Option Taken) (report : Report) (most : ℕ) (item : Item) (lot : lines.Lot) (fault : AdaptFault) → lot ≡ lot_in drops behind (item_of item) → PutsIf {A = Unit {0}} (items_text (items_for (item_of item) lot)) is out (Err fault) → Progress drops start now behind marks was is report most → Reads now new (Ok (Some item))
+pub Adapts-unsent : {A : Type 0} (drops : Bool) (start : Option Stream) (now new : Seen) (behind : Behind) (marks : Marks A) (was is out : Option Taken) (report : Report) (most : ℕ) (item : Item) (lot : lines.Lot) (fault : AdaptFault) → lot ≡ lot_in drops behind (item_of item) → PutsIf {A = Unit {0}} (items_text (items_for (item_of item) lot)) is out (Err fault) → Progress drops start now behind marks was is report most → Answers now new (Ok (Some item))
     → AdaptsFrom drops start was out (Err fault)
-Adapts-unsent drops None now new behind marks was is out report most item lot fault l f p r =
+Adapts-unsent drops None now new behind marks was is out report most item lot fault l f p a =
     let i = item_of item in
-    let s = after p.front (then_comes i (ended Finished)) in
-    (s, tt, unsent drops s (ended Finished) p.front i was is out fault refl p.wrote (subst (λ l. PutsIf {A = Unit {0}} (items_text (items_for i l)) is out (Err fault)) (l ∙ ap (λ b. lot_in drops b i) p.behind_is) f))
-Adapts-unsent drops (Some s) now new behind marks was is out report most item lot fault l f p r =
+    let some = some_come new in
+    let s = after p.front (then_comes i some.0) in
+    (s, p.goes (then_comes i some.0) (a.4 some.0 some.1), unsent drops s some.0 p.front i was is out fault refl p.wrote (subst (λ l. PutsIf {A = Unit {0}} (items_text (items_for i l)) is out (Err fault)) (l ∙ ap (λ b. lot_in drops b i) p.behind_is) f))
+Adapts-unsent drops (Some s) now new behind marks was is out report most item lot fault l f p a =
     let i = item_of item in
-    let t = rw p.goes.1 at r in
+    let t = rw p.goes.1 at a.0 in
     unsent drops s t.0 p.front i was is out fault (p.goes.2 ∙ ap (after p.front) t.1) p.wrote (subst (λ l. PutsIf {A = Unit {0}} (items_text (items_for i l)) is out (Err fault)) (l ∙ ap (λ b. lot_in drops b i) p.behind_is) f)

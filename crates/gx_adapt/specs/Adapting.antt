@@ -8,8 +8,8 @@ use Rattle.gx_model.specs.Texts.{Bytes}
 use Rattle.gx_model.specs.Streams.Items.{Item, Line, Data, End, Finished, Failed, Stream}
 use Rattle.gx_model.specs.Texts.Sinks.{Taken, Took, FailedWithin}
 use Rattle.gx_text.specs.Devices.{Coming}
-use Rattle.gx_stream.specs.Faults.{IsEnd}
 use Rattle.gx_stream.specs.Heard.{items_from}
+use Rattle.gx_stream.specs.Reading.{AreOfText}
 use Rattle.gx_stream.specs.declared.fault.StreamFault.{StreamFault}
 use Rattle.gx_stream.specs.declared.fault.StreamFault.TheVariants as stream
 use Rattle.gx_adapt.specs.Lines as lines
@@ -50,9 +50,9 @@ Adapts drops s was is (Err BadNumber) = EndsWith drops s (Failed model.BadNumber
 Adapts drops s was is (Err OutOfMemory) = (front : List Item) × (rest : List Item) × (s.items ≡ front ++ rest) × Took was is (text_for drops front)
 Adapts drops s was is (Err WriteFailed) = FailedWithin was is (text_for drops s.items)
 
--- the same of a source's items; where it tells nothing, of some items with their end
+-- the same of a source's items; where it tells nothing, of those of some text
 abbrev pub AdaptsFrom : Bool → Option Stream → Option Taken → Option Taken → Result Report AdaptFault → Type 0
-AdaptsFrom drops None was is r = (s : Stream) × IsEnd s.end × Adapts drops s was is r
+AdaptsFrom drops None was is r = (s : Stream) × AreOfText s × Adapts drops s was is r
 AdaptsFrom drops (Some s) was is r = Adapts drops s was is r
 
 -- the stream of a source goes out adapted

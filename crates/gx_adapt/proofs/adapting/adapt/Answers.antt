@@ -4,17 +4,17 @@ use Rattle.gx_adapt.proofs.Readable.{again}
 use Rattle.gx_adapt.proofs.adapting.adapt.Goals as goal
 
 pub loop-fault-init : goal.loop-fault-init
-loop-fault-init g c = Progress-none _ _ _ _ _ _ _ c.new-reader.ensures.stream c.new-marks.ensures c.new-report.ensures (omega (arith, c.new-reader.ensures.most))
+loop-fault-init g c = Progress-none _ _ _ _ _ _ _ c.new-reader.ensures.stream c.new-reader.ensures.explains c.new-marks.ensures c.new-report.ensures (omega (arith, c.new-reader.ensures.most))
 
 pub returns-in-Err-clause-adapts : goal.returns-in-Err-clause-adapts
 returns-in-Err-clause-adapts g c =
     let read = rw c.in-Err.is at c.next.follows.holds-at-none in
-    rw c.from.ensures (Adapts-fault _ _ _ _ _ _ _ _ _ _ c.in-Err.fault c.loop-fault.invariant read.0)
+    rw c.from.ensures (Adapts-fault _ _ _ _ _ _ _ _ _ _ c.in-Err.fault c.loop-fault.invariant read)
 
 pub returns-in-Ok-None-clause-adapts : goal.returns-in-Ok-None-clause-adapts
 returns-in-Ok-None-clause-adapts g c =
     let read = rw c.in-Ok-None.field-0-is at (rw c.in-Ok-None.is at c.next.follows.holds-at-none) in
-    Adapts-end _ _ _ _ _ _ _ _ _ _ c.loop-fault.invariant read.0
+    Adapts-end _ _ _ _ _ _ _ _ _ _ c.loop-fault.invariant read
 
 pub returns-in-Ok-None-clause-again : goal.returns-in-Ok-None-clause-again
 returns-in-Ok-None-clause-again g c = again c.args.drop_signatures (g.R.Source.coming c.args.source)
@@ -25,9 +25,9 @@ send_item-requires g c = record { room = Progress-room _ _ _ _ _ _ _ _ _ c.loop-
 pub returns-in-Err-send_item-clause-adapts : goal.returns-in-Err-send_item-clause-adapts
 returns-in-Err-send_item-clause-adapts g c =
     let read = rw c.in-Ok-Some.field-0-is at (rw c.in-Ok-Some.is at c.next.follows.holds-at-none) in
-    Adapts-unsent _ _ _ _ _ _ _ _ _ _ _ c.in-Ok-Some.item _ c.in-Err-send_item.fault c.lot_in-lot.ensures c.in-Err-send_item.ensures.sends c.loop-fault.invariant read.0
+    Adapts-unsent _ _ _ _ _ _ _ _ _ _ _ c.in-Ok-Some.item _ c.in-Err-send_item.fault c.lot_in-lot.ensures c.in-Err-send_item.ensures.sends c.loop-fault.invariant read
 
 pub loop-fault-preserved : goal.loop-fault-preserved
 loop-fault-preserved g c =
     let read = rw c.in-Ok-Some.field-0-is at (rw c.in-Ok-Some.is at c.next.follows.holds-at-none) in
-    Progress-item _ _ _ _ _ _ _ _ _ _ _ _ _ _ _ c.in-Ok-Some.item _ c.behind_of-behind.ensures c.in_default.ensures.passes c.lot_in-lot.ensures c.in_default.ensures.counts read.1 c.in_default.ensures.sends c.loop-fault.invariant read.0
+    Progress-item _ _ _ _ _ _ _ _ _ _ _ _ _ _ _ c.in-Ok-Some.item _ c.behind_of-behind.ensures c.in_default.ensures.passes c.lot_in-lot.ensures c.in_default.ensures.counts read.1 c.in_default.ensures.sends c.loop-fault.invariant read

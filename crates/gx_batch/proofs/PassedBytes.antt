@@ -15,7 +15,7 @@ use Rattle.gx_batch.proofs.CutLines.{lacks_both, line_cut, line_first, line_last
 use Rattle.gx_batch.proofs.Endings.{ended_first, ended_kept, ended_none, trimmed_lacks}
 
 -- bytes behind bytes
-behind_both : (a b : Bytes) (c : Coming) → behind (a ++ b) c ≡ behind a (behind b c)
+pub behind_both : (a b : Bytes) (c : Coming) → behind (a ++ b) c ≡ behind a (behind b c)
 behind_both a b c = ap (λ bs. record { bytes = bs; fails = c.fails }) (append_assoc a b c.bytes)
 
 -- nothing is passed yet
@@ -23,7 +23,7 @@ pub passes_nothing : (was : Option Coming) → Passes [] was was
 passes_nothing None = tt
 passes_nothing (Some c) = (c, refl, refl)
 
-some_same : (c d : Coming) → Some c ≡ Some d → c ≡ d
+pub some_same : (c d : Coming) → Some c ≡ Some d → c ≡ d
 some_same c d e = cc
 
 -- bytes at the front are passed
@@ -52,17 +52,32 @@ lines_left ending was left front e = ap (lines_from ending) e
 pub none_left : (ending : LineEnding) (fails : Bool) → lines_of (byte_of ending) (single_ended ending []) fails ≡ []
 none_left ending fails = ap (λ bs. lines_of (byte_of ending) bs fails) (ended_none ending) ∙ no_lines (byte_of ending) fails
 
+-- a line and its ending before what is left
+line_before : (ending : LineEnding) (line : Bytes) (left : Coming) → lacks (byte_of ending) line ≡ true → lines_from ending (behind (line ++ byte_of ending ∷ []) left) ≡ trimmed ending line ∷ lines_from ending left
+line_before ending line left h =
+    let b = byte_of ending in
+    ap (λ bs. lines_of b (single_ended ending bs) left.fails) (append_assoc line (b ∷ []) left.bytes) ∙ ap (λ bs. lines_of b bs left.fails) (ended_first ending line left.bytes h)
+    ∙ line_first b (trimmed ending line) (single_ended ending left.bytes) left.fails (trimmed_lacks ending line h)
+
+-- nothing is left of a source that ended
+abbrev ended_now : Coming
+ended_now = record { bytes = []; fails = false }
+
+-- a line before the end
+line_at_end : (ending : LineEnding) (line : Bytes) → 0 < length line → lacks (byte_of ending) line ≡ true → lines_from ending (behind line ended_now) ≡ line ∷ lines_from ending ended_now
+line_at_end ending line some h =
+    ap (λ bs. lines_of (byte_of ending) (single_ended ending bs) false) (append-nil line) ∙ ap (λ bs. lines_of (byte_of ending) bs false) (ended_kept ending line h)
+    ∙ line_last (byte_of ending) line some h ∙ ap (λ ls. line ∷ ls) (sym (none_left ending false))
+
 -- a line and its ending were passed
 pub reads_line : (ending : LineEnding) (line : Bytes) (was now : Option Coming) → lacks (byte_of ending) line ≡ true → Passes (line ++ byte_of ending ∷ []) was now → Reads ending was now (trimmed ending line) (Ok true)
-reads_line ending line None now h p = tt
+reads_line ending line None now h p = (line ++ byte_of ending ∷ [], λ c m. line_before ending line c h)
 reads_line ending line (Some c) now h p =
     let left = p.0 in
     let b = byte_of ending in (
       left,
       p.1,
-      lines_left ending c left (line ++ b ∷ []) p.2 ∙ ap (λ bs. lines_of b (single_ended ending bs) left.fails) (append_assoc line (b ∷ []) left.bytes)
-          ∙ ap (λ bs. lines_of b bs left.fails) (ended_first ending line left.bytes h)
-          ∙ line_first b (trimmed ending line) (single_ended ending left.bytes) left.fails (trimmed_lacks ending line h),
+      lines_left ending c left (line ++ b ∷ []) p.2 ∙ line_before ending line left h,
       sym (ap (λ (d : Coming). d.fails) p.2),
       (line ++ b ∷ [], ap (λ (d : Coming). d.bytes) p.2),
     )
@@ -77,7 +92,8 @@ has_none (b ∷ bs) n empty long e h = grind (arith, nat_tests)
 
 -- all was passed, and the source ended
 pub reads_end : (ending : LineEnding) (room : ℕ) (coming : Option Coming) (line : Bytes) (was : Option Coming) (answer : Bool) → lacks (byte_of ending) line ≡ true → Passes line was (shown_coming Ended room coming []) → (answer ≡ true → 0 < length line) → (answer ≡ false → line ≡ []) → Reads ending was (shown_coming Ended room coming []) line (Ok answer)
-reads_end ending room coming line None true h p some none = tt
+reads_end ending room coming line None true h p some none =
+    (line, λ c m. ap (λ x. lines_from ending (behind line x)) m ∙ line_at_end ending line (some refl) h ∙ ap (λ x. line ∷ lines_from ending x) (sym m))
 reads_end ending room coming line None false h p some none = tt
 reads_end ending room coming line (Some c) true h p some none =
     let left = p.0 in
@@ -85,8 +101,7 @@ reads_end ending room coming line (Some c) true h p some none =
     let whole = p.2 ∙ ap (behind line) (sym same) in (
       left,
       p.1,
-      lines_left ending c (record { bytes = []; fails = false }) line whole ∙ ap (λ bs. lines_of (byte_of ending) (single_ended ending bs) false) (append-nil line) ∙ ap (λ bs. lines_of (byte_of ending) bs false) (ended_kept ending line h)
-          ∙ line_last (byte_of ending) line (some refl) h ∙ ap (λ ls. line ∷ ls) (sym (ap (lines_from ending) (sym same) ∙ none_left ending false)),
+      lines_left ending c ended_now line whole ∙ line_at_end ending line (some refl) h ∙ ap (λ x. line ∷ lines_from ending x) same,
       sym (ap (λ (d : Coming). d.fails) p.2),
       (line, ap (λ (d : Coming). d.bytes) p.2),
     )

@@ -1,11 +1,12 @@
 -- The parts of a format, read one after the other.
-use Rattle.std.proofs.Common.{◌≡◌, ℕ, suc, ◌+◌, ◌<◌, true, false, eqb, [], ◌∷◌, ◌++◌, List, Option, None, Some, Err, refl, sym, ap, ◌∙◌, arith, length, get_or, drop, length-append, append_assoc, append-nil}
+use Rattle.std.proofs.Common.{◌≡◌, ℕ, suc, ◌+◌, ◌<◌, true, false, eqb, [], ◌∷◌, ◌++◌, List, Option, None, Some, Err, refl, sym, ap, subst, ◌∙◌, arith, length, get_or, drop, length-append, append_assoc, append-nil}
+use Rattle.std.specs.Prelude.{IsSome}
 use Rattle.std.specs.List.{flat_map}
 use Rattle.std.specs.Option.{option_map}
 use Rattle.std.proofs.Math.Seq.{drop-cons}
 use Rattle.gx_model.specs.Texts.{Bytes, cut_at, lacks}
 use Rattle.gx_model.proofs.Texts.Cuts.{cut_spelled, lacks-cons}
-use Rattle.gx_batch.specs.Formats.{GivesFormat, GivesPart, format_of, part_named, parts_behind, with_named, with_part}
+use Rattle.gx_batch.specs.Formats.{GivesFormat, GivesPart, IsUnread, format_of, part_named, parts_behind, with_named, with_part}
 use Rattle.gx_batch.specs.declared.fault.FormatFault.{FormatFault}
 use Rattle.gx_batch.specs.declared.fault.FormatFault.TheVariants.{BadFormat, OutOfMemory}
 use Rattle.gx_batch.specs.declared.format.Part.{Part}
@@ -80,10 +81,20 @@ module _ (whole : Option (List Part)) (done : List Part) where
   pub all_done : (rest : Bytes) → rest ≡ [] → whole ≡ option_map (λ ps. done ++ ps) (format_of rest) → whole ≡ Some done
   all_done rest r e = e ∙ ap (λ bs. option_map (λ ps. done ++ ps) (format_of bs)) r ∙ ap (option_map (λ ps. done ++ ps)) nothing ∙ ap Some (append-nil done)
 
+-- why what is left isn't read is why all isn't
+pub unread_behind : (whole rest : Option (List Part)) (done : List Part) (fault : FormatFault) → whole ≡ option_map (λ ps. done ++ ps) rest → IsUnread rest fault → IsUnread whole fault
+unread_behind whole rest done BadFormat e h = e ∙ ap (option_map (λ ps. done ++ ps)) h
+unread_behind whole None done OutOfMemory e h = absurd (cc h)
+unread_behind whole (Some ps) done OutOfMemory e h = subst IsSome (sym e) refl
+
+-- nothing is a format
+pub nothing_read : (text : Bytes) → text ≡ [] → IsUnread (format_of text) OutOfMemory
+nothing_read text e = subst IsSome (sym (ap format_of e ∙ nothing)) refl
+
 -- what is left is no format, and so is all
 pub none_read : (A : Type 0) (text rest : Bytes) (done : List Part) (fault : FormatFault) → format_of text ≡ option_map (λ ps. done ++ ps) (format_of rest) → GivesPart (format_of rest) rest (Err fault) → GivesFormat {A = A} text (Err fault)
 none_read A text rest done BadFormat e h = e ∙ ap (option_map (λ ps. done ++ ps)) h
-none_read A text rest done OutOfMemory e h = tt
+none_read A text rest done OutOfMemory e h = absurd h
 
 -- what a list gives, one after the other: one more, and what the others give
 pub parts_next : {X Y : Type 0} (f : X → List Y) (xs : List X) (i : ℕ) (x d : X) (all mid now : List Y) → i < length xs → x ≡ get_or xs i d → mid ++ flat_map f (drop i xs) ≡ all → now ≡ mid ++ f x → now ++ flat_map f (drop (i + 1) xs) ≡ all

@@ -6,6 +6,7 @@ use Rattle.std.proofs.lemmas.List.{map-append}
 use Rattle.gx_model.specs.Texts.{Bytes}
 use Rattle.gx_text.specs.Devices.{Coming}
 use Rattle.gx_stream.specs.Heard.{heard}
+use Rattle.gx_stream.specs.Pulled.{behind}
 use Rattle.gx_batch.specs.Lines.{lines_from}
 use Rattle.gx_batch.specs.Reading.{Reads}
 use Rattle.gx_batch.specs.Batches.{GivesLines, texts_of}
@@ -13,6 +14,7 @@ use Rattle.gx_batch.specs.declared.ending.LineEnding.{LineEnding}
 use Rattle.gx_batch.specs.declared.fault.BatchFault.{BatchFault}
 use Rattle.gx_batch.specs.declared.fault.BatchFault.TheVariants.{OutOfMemory, ReadFailed, WriteFailed}
 use Rattle.gx_batch.proofs.Answering.{ArePassed}
+use Rattle.gx_batch.proofs.PassedBytes.{none_left}
 
 -- the texts of no lines, and of one line more
 pub texts_none : {A : Type 0} (lines : Vec (Vec ℕ A) A) → lines.items ≡ [] → texts_of lines ≡ []
@@ -25,12 +27,18 @@ texts_more {A} lines more line text e m =
 module _ (A : Type 0) (ending : LineEnding) where
   -- there is no memory
   pub lines_unheld : (coming : Option Coming) → GivesLines {A = A} ending coming (Err OutOfMemory)
-  lines_unheld None = ([], false, tt)
+  lines_unheld None = (record { bytes = []; fails = false }, tt)
   lines_unheld (Some c) = tt
 
   -- no line is left
   pub lines_read : (coming here next : Option Coming) (line : Bytes) (lines : Vec (Vec ℕ A) A) → ArePassed ending (texts_of lines) (option_map heard coming) here → Reads ending here next line (Ok false) → GivesLines ending coming (Ok lines)
-  lines_read None here next line lines a r = (texts_of lines, false, (refl, refl))
+  lines_read None None next line lines a r =
+      let front = texts_of lines in
+      let none : Coming = record { bytes = []; fails = false } in
+      (behind a.0 none, (refl, sym (a.1 none tt ∙ ap (λ ls. front ++ ls) (none_left ending false) ∙ append-nil front)))
+  lines_read None (Some d) next line lines a r =
+      let front = texts_of lines in
+      (behind a.0 d, (r.1, sym (a.1 d refl ∙ ap (λ ls. front ++ ls) r.0 ∙ append-nil front)))
   lines_read (Some c) None next line lines a r = absurd (cc a.1)
   lines_read (Some c) (Some d) next line lines a r =
       let same : d ≡ a.0 = cc a.1 in
@@ -41,8 +49,8 @@ module _ (A : Type 0) (ending : LineEnding) where
   -- no line is left, and the source failed
   pub lines_failed : (coming here next : Option Coming) (line : Bytes) (front : List Bytes) (fault : BatchFault) → ArePassed ending front (option_map heard coming) here → Reads ending here next line (Err fault) → GivesLines {A = A} ending coming (Err fault)
   lines_failed coming here next line front OutOfMemory a r = lines_unheld coming
-  lines_failed None None next line front ReadFailed a r = ([], true, refl)
-  lines_failed None (Some d) next line front ReadFailed a r = ([], true, refl)
+  lines_failed None None next line front ReadFailed a r = (record { bytes = []; fails = true }, refl)
+  lines_failed None (Some d) next line front ReadFailed a r = (record { bytes = []; fails = true }, refl)
   lines_failed (Some c) None next line front ReadFailed a r = absurd (cc a.1)
   lines_failed (Some c) (Some d) next line front ReadFailed a r =
       let same : d ≡ a.0 = cc a.1 in

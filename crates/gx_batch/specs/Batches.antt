@@ -37,9 +37,9 @@ AnsweredFrom answer ending coming was now (Err OutOfMemory) =
     (left : Coming) × (front : List Bytes) × (lines_from ending coming ≡ front ++ lines_from ending left) × IsPast coming left
     × ((front ≡ []) ⊎ (0 < length left.bytes)) × Took was now (flat_map answer front)
 
--- The same of the lines of a source. Where it tells nothing, there are lines that it gave.
+-- The same of the lines of a source. Where it tells nothing, they are those of some text.
 abbrev pub Answers : (Bytes → Bytes) → LineEnding → Option Coming → Option Taken → Option Taken → Result (Unit {0}) BatchFault → Type 0
-Answers answer ending None was now result = (lines : List Bytes) × (fails : Bool) × Answered answer lines fails was now result
+Answers answer ending None was now result = (coming : Coming) × AnsweredFrom answer ending coming was now result
 Answers answer ending (Some coming) was now result = AnsweredFrom answer ending (heard coming) was now result
 
 -- the texts of lines
@@ -53,7 +53,7 @@ AreRead lines fails (Err ReadFailed) = fails ≡ true
 AreRead lines fails (Err OutOfMemory) = ⊤
 AreRead lines fails (Err WriteFailed) = ⊥
 
--- The same of the lines of a source. Where it tells nothing, there are lines that it gave.
+-- The same of the lines of a source. Where it tells nothing, they are those of some text.
 abbrev pub GivesLines : {A : Type 0} → LineEnding → Option Coming → Result (Vec (Vec ℕ A) A) BatchFault → Type 0
-GivesLines ending None result = (lines : List Bytes) × (fails : Bool) × AreRead lines fails result
+GivesLines ending None result = (coming : Coming) × AreRead (lines_from ending coming) coming.fails result
 GivesLines ending (Some coming) result = AreRead (lines_from ending (heard coming)) (heard coming).fails result

@@ -1,6 +1,6 @@
 -- Formats: how the line of an object is made.
 -- Source: git-cat-file(1), "BATCH OUTPUT", and what git 2.39 does with a percent sign.
-use Rattle.std.specs.Prelude.{◌≡◌, ◌≢◌, ℕ, ◌<◌, ◌==◌, ◌&&◌, if◌then◌else◌, List, [], ◌∷◌, ◌++◌, length, codes, Option, Some, None, Result, Ok, Err, ⊤}
+use Rattle.std.specs.Prelude.{◌≡◌, ◌≢◌, ℕ, ◌<◌, ◌==◌, ◌&&◌, if◌then◌else◌, List, [], ◌∷◌, ◌++◌, length, codes, Option, Some, None, IsSome, Result, Ok, Err}
 use Rattle.std.specs.Borrow.{Bor}
 use Rattle.std.specs.Fmt.{decimal}
 use Rattle.std.specs.List.{flat_map}
@@ -72,11 +72,15 @@ object_line parts called kind size = flat_map (part_text called kind size) parts
 
 -- ---- what the reader of formats answers
 
--- the format of a text was read, or the text is none
+-- why a text isn't read, whose parts these are: it is no format, or it is one, and there is no memory for it
+abbrev pub IsUnread : Option (List Part) → FormatFault → Type 0
+IsUnread parts BadFormat = parts ≡ None
+IsUnread parts OutOfMemory = IsSome parts
+
+-- the format of a text was read, or why it wasn't
 abbrev pub GivesFormat : {A : Type 0} → Bytes → Result (Format A) FormatFault → Type 0
 GivesFormat text (Ok format) = format_of text ≡ Some format.parts.items
-GivesFormat text (Err BadFormat) = format_of text ≡ None
-GivesFormat text (Err OutOfMemory) = ⊤
+GivesFormat text (Err fault) = IsUnread (format_of text) fault
 
 -- Of these parts of a text the first was read, and the shorter text of the others is left; or there are none since the text is no format.
 abbrev pub GivesPart : Option (List Part) → Bytes → Result (Part × Bor Bytes) FormatFault → Type 0

@@ -1,8 +1,8 @@
 -- What a reader of lines is seen as, and what one call answers and leaves.
-use Rattle.std.specs.Prelude.{◌≡◌, ℕ, ◌+◌, ◌<◌, ◌≤◌, Bool, true, false, [], ◌∷◌, ◌++◌, length, slice_range, Option, None, Some, Result, Ok, Err, ⊤}
+use Rattle.std.specs.Prelude.{◌≡◌, ℕ, ◌+◌, ◌<◌, ◌≤◌, Bool, true, false, List, [], ◌∷◌, ◌++◌, length, slice_range, Option, None, Some, Result, Ok, Err, ⊤}
 use Rattle.gx_model.specs.Texts.{Bytes, lacks}
 use Rattle.gx_text.specs.Devices.{Coming}
-use Rattle.gx_stream.specs.Pulled.{shown_coming}
+use Rattle.gx_stream.specs.Pulled.{behind, shown_coming}
 use Rattle.gx_batch.specs.Lines.{lines_from}
 use Rattle.gx_batch.specs.declared.ending.LineEnding.{LineEnding}
 use Rattle.gx_batch.specs.declared.fault.BatchFault.{BatchFault}
@@ -55,7 +55,17 @@ ReadsFrom ending was now line (Err ReadFailed) = (lines_from ending was ≡ []) 
 ReadsFrom ending was now line (Err OutOfMemory) = 0 < length was.bytes
 ReadsFrom ending was now line (Err WriteFailed) = ⊥
 
+-- whether this may come, as far as that is known
+abbrev pub MayCome : Option Coming → Coming → Type 0
+MayCome None c = ⊤
+MayCome (Some known) c = c ≡ known
+
+-- Where it isn't known what comes, there are bytes before whatever may come then, whose lines these are.
+abbrev pub AreOfBytes : LineEnding → List Bytes → Option Coming → Type 0
+AreOfBytes ending lines now = (gone : Bytes) × ((c : Coming) → MayCome now c → lines_from ending (behind gone c) ≡ lines ++ lines_from ending c)
+
 abbrev pub Reads : LineEnding → Option Coming → Option Coming → Bytes → Result Bool BatchFault → Type 0
+Reads ending None now line (Ok true) = AreOfBytes ending (line ∷ []) now
 Reads ending None now line (Err WriteFailed) = ⊥
 Reads ending None now line answer = ⊤
 Reads ending (Some was) now line answer = ReadsFrom ending was now line answer

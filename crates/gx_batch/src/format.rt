@@ -2,7 +2,7 @@
 
 ghost use Rattle.std.specs.Prelude.{◌≡◌, ◌++◌, IfOk, Ok, OnOk};
 ghost use Rattle.std.specs.List.{flat_map};
-ghost use Rattle.gx_batch.specs.Formats.{GivesFirst, GivesFormat, GivesNamed, IsPlain, default_parts, object_line, part_named, part_text};
+ghost use Rattle.gx_batch.specs.Formats.{GivesFirst, GivesFormat, GivesNamed, IsPlain, IsUnread, default_parts, format_of, object_line, part_named, part_text};
 
 use crate::FormatFault;
 use gx_object::{Kind, Name};
@@ -42,7 +42,7 @@ impl<A: Allocator + Copy> Format<A> {
     /// Reads a format: `%(objectname)`, `%(objecttype)` and `%(objectsize)` stand for what an object has, `%%` for a percent
     /// sign, and each other byte for itself.
     ///
-    /// `BadFormat`: behind `%(` stands another name, or no `)`. `OutOfMemory`: a growth was refused.
+    /// `BadFormat`: behind `%(` stands another name, or no `)`. `OutOfMemory`: it is a format, and a growth was refused.
     /// Cost: the length of the text. Memory: the format's parts, two bytes each.
     pub fn read(alloc: A, text: &[u8]) -> Result<Format<A>, FormatFault>
         ensures { GivesFormat text.now result }
@@ -50,8 +50,10 @@ impl<A: Allocator + Copy> Format<A> {
         let mut parts = Vec::new(alloc);
         let mut rest = text;
         while let Some((part, after)) = first_part(rest)? {
-            parts.push(part)?;
-            rest = after;
+            match parts.push(part) {
+                Ok(()) => rest = after,
+                Err(_) => return Err(fault_without_room(after)),
+            }
         }
         Ok(Format { parts })
     }
@@ -71,6 +73,20 @@ impl<A: Allocator + Copy> Format<A> {
         add_parts(&self.parts, name, kind, size, line)?;
         line.push(b'\n')?;
         Ok(())
+    }
+}
+
+/// Why a format isn't read that ends with this text, where there is no memory for its parts: what is left may be no format.
+fn fault_without_room(text: &[u8]) -> FormatFault
+    ensures { IsUnread (format_of text.now) result }
+{
+    let mut rest = text;
+    loop {
+        match first_part(rest) {
+            Ok(Some((_, after))) => rest = after,
+            Ok(None) => return FormatFault::OutOfMemory,
+            Err(fault) => return fault,
+        }
     }
 }
 

@@ -1,6 +1,6 @@
 //! Replies to lines: a line, with a text behind it or without one.
 
-ghost use Rattle.std.specs.Prelude.{◌≡◌, ◌∷◌, ◌++◌, [], IfErr, OnOk};
+ghost use Rattle.std.specs.Prelude.{◌≡◌, ◌≤◌, ◌∷◌, ◌++◌, [], length, IfErr, OnOk};
 ghost use Rattle.gx_model.specs.Objects.{line};
 ghost use Rattle.gx_batch.specs.Batches.{Sent};
 ghost use Rattle.gx_batch.specs.declared.fault.BatchFault.TheVariants.{WriteFailed};
@@ -44,8 +44,8 @@ pub fn refuse<W: Sink, A: Allocator>(
     put(sink, buffer)
 }
 
-/// Sends the line that stands in a buffer, a text behind it and an LF: at once where the text has less than 64 KiB.
-/// What stands in the buffer is lost.
+/// Sends the line that stands in a buffer, a text behind it and an LF: at once where the text has less than 64 KiB. A longer one
+/// takes no memory. What stands in the buffer is lost.
 ///
 /// `WriteFailed`: the sink didn't take all of it. `OutOfMemory`: nothing of it went out.
 /// Cost: what goes out. Memory: what goes out at once.
@@ -54,8 +54,9 @@ pub fn put_behind<W: Sink, A: Allocator>(
     buffer: &mut Vec<u8, A>,
     sink: &mut W,
 ) -> Result<(), BatchFault>
-    ensures { Sent (buffer.old.items ++ (text.now ++ 10 ∷ []))
+    ensures sent { Sent (buffer.old.items ++ (text.now ++ 10 ∷ []))
         (W.taken sink.old) (W.taken sink.new) result }
+    ensures memory { 65_536 ≤ length text.now → IfErr result (λ fault. fault ≡ WriteFailed) }
 {
     if text.len() < SMALL {
         buffer.extend_from_slice(text)?;
@@ -66,9 +67,11 @@ pub fn put_behind<W: Sink, A: Allocator>(
     }
 }
 
-/// Sends a line, a text and an LF, one after the other.
+/// Sends a line, a text and an LF, one after the other. Takes no memory.
 fn put_parts<W: Sink>(sink: &mut W, line: &[u8], text: &[u8]) -> Result<(), BatchFault>
-    ensures { Sent (line.now ++ (text.now ++ 10 ∷ [])) (W.taken sink.old) (W.taken sink.new) result }
+    ensures sent { Sent (line.now ++ (text.now ++ 10 ∷ []))
+        (W.taken sink.old) (W.taken sink.new) result }
+    ensures memory { IfErr result (λ fault. fault ≡ WriteFailed) }
 {
     put(sink, line)?;
     put(sink, text)?;

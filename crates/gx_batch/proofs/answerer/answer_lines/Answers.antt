@@ -5,7 +5,7 @@ use Rattle.gx_model.specs.Texts.Sinks.{Took}
 use Rattle.gx_stream.specs.Heard.{heard}
 use Rattle.gx_batch.specs.Batches.{Sent}
 use Rattle.gx_batch.specs.Reading.{Reads, shown_reader}
-use Rattle.gx_batch.proofs.Answering.{Goes, goes_on, not_begun, of_source, starts, unanswered}
+use Rattle.gx_batch.proofs.Answering.{Goes, answered, goes_on, not_begun, of_source, starts, unanswered, unread}
 use Rattle.gx_batch.proofs.answerer.answer_lines.Goals as goal
 
 pub returns-in_err-lines : goal.returns-in_err-lines
@@ -58,3 +58,27 @@ returns-in_err-answer g c =
     let read = subst (λ more. Reads c.args.ending here next line (Ok more)) c.if-branch.true c.in_ok-next.ensures.reads in
     let sent = subst (λ bs. Sent (answer bs) mid now (Err fault)) c.deref.ensures.value c.in_err-answer.ensures in
     rw (p.1, p.2) (of_source answer c.args.ending coming was now (Err fault) (unanswered answer c.args.ending start here next was mid now line fault c.loop-buffer.invariant.goes read sent))
+
+pub returns-in_err-next : goal.returns-in_err-next
+returns-in_err-next g c =
+    let p = err_from_is_err_and c.from_residual-in_err-next.result c.from_residual-in_err-next.ensures.1 in
+    let answer = g.T.Answerer.answer_to c.args.answerer.now in
+    let coming = g.R.Source.coming c.args.source in
+    let here = shown_reader c.loop-buffer.lines (g.R.Source.coming c.loop-buffer.lines.source) in
+    let next = shown_reader c.next.new.self (g.R.Source.coming c.next.new.self.source) in
+    let was = g.W.Sink.taken c.args.sink.now in
+    let now = g.W.Sink.taken c.loop-buffer.sink in
+    let fault = c.in_err-next.field-0.0 in
+    rw (p.1, p.2) (of_source answer c.args.ending coming was now (Err fault) (unread answer c.args.ending (option_map heard coming) here next was now c.next.new.line.items fault c.loop-buffer.invariant.goes c.in_err-next.ensures.reads))
+
+pub returns : goal.returns
+returns g c =
+    let answer = g.T.Answerer.answer_to c.args.answerer.now in
+    let coming = g.R.Source.coming c.args.source in
+    let here = shown_reader c.loop-buffer.lines (g.R.Source.coming c.loop-buffer.lines.source) in
+    let next = shown_reader c.next.new.self (g.R.Source.coming c.next.new.self.source) in
+    let line = c.next.new.line.items in
+    let was = g.W.Sink.taken c.args.sink.now in
+    let now = g.W.Sink.taken c.loop-buffer.sink in
+    let read = subst (λ more. Reads c.args.ending here next line (Ok more)) c.if-branch.false c.in_ok-next.ensures.reads in
+    of_source answer c.args.ending coming was now (Ok tt) (answered answer c.args.ending (option_map heard coming) here next was now line c.loop-buffer.invariant.goes read)

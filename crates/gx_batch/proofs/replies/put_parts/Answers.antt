@@ -3,13 +3,13 @@ use Rattle.std.proofs.lemmas.Result.{err_from_is_err_and}
 use Rattle.gx_batch.proofs.SentTexts.{sent_behind, sent_longer}
 use Rattle.gx_batch.proofs.replies.put_parts.Goals as goal
 
-pub returns-in_err-put : goal.returns-in_err-put
-returns-in_err-put g c =
+pub returns-in_err-put-clause-sent : goal.returns-in_err-put-clause-sent
+returns-in_err-put-clause-sent g c =
     let p = err_from_is_err_and c.from_residual.result c.from_residual.ensures.1 in
     rw (p.1, p.2) (sent_longer (g.W.Sink.taken c.args.sink.now) (g.W.Sink.taken c.put.new.sink) c.args.line.now (c.args.text.now ++ 10 ∷ []) c.in_err-put.field-0.0 c.in_err-put.ensures.sent c.in_err-put.ensures.memory)
 
-pub returns-in_err-put-2 : goal.returns-in_err-put-2
-returns-in_err-put-2 g c =
+pub returns-in_err-put-2-clause-sent : goal.returns-in_err-put-2-clause-sent
+returns-in_err-put-2-clause-sent g c =
     let p = err_from_is_err_and c.from_residual-in_err-put-2.result c.from_residual-in_err-put-2.ensures.1 in
     let was = g.W.Sink.taken c.args.sink.now in
     let mid = g.W.Sink.taken c.put.new.sink in
@@ -20,8 +20,8 @@ returns-in_err-put-2 g c =
     let longer = sent_longer mid now text (10 ∷ []) fault c.in_err-put-2.ensures.sent c.in_err-put-2.ensures.memory in
     rw (p.1, p.2) (sent_behind was mid now line (text ++ 10 ∷ []) (Err fault) c.in_ok-put.ensures.sent longer c.in_err-put-2.ensures.memory)
 
-pub returns : goal.returns
-returns g c =
+pub returns-clause-sent : goal.returns-clause-sent
+returns-clause-sent g c =
     let was = g.W.Sink.taken c.args.sink.now in
     let mid = g.W.Sink.taken c.put.new.sink in
     let later = g.W.Sink.taken c.put-2.new.sink in

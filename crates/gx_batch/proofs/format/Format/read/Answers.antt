@@ -1,9 +1,9 @@
-use Rattle.std.proofs.Common.{◌≡◌, ◌++◌, List, Ok, subst, sym}
+use Rattle.std.proofs.Common.{◌≡◌, [], ◌∷◌, ◌++◌, List, Ok, refl, subst, sym}
 use Rattle.std.specs.Option.{option_map}
 use Rattle.std.proofs.lemmas.Result.{err_from_is_err_and}
 use Rattle.gx_batch.specs.Formats.{GivesFirst, format_of}
 use Rattle.gx_batch.specs.declared.format.Part.{Part}
-use Rattle.gx_batch.proofs.ReadFormats.{all_done, none_done, none_read, one_done}
+use Rattle.gx_batch.proofs.ReadFormats.{all_done, none_done, none_read, one_done, unread_behind}
 use Rattle.gx_batch.proofs.format.Format.read.Goals as goal
 
 pub loop-parts-init : goal.loop-parts-init
@@ -20,10 +20,18 @@ pub loop-parts-preserved : goal.loop-parts-preserved
 loop-parts-preserved g c =
     let rest = c.loop-parts.rest.now in
     let first = subst (λ found. GivesFirst rest (Ok found)) c.in-Some.is c.in_ok-part.ensures in
-    one_done (format_of c.args.text.now) c.loop-parts.parts.items (format_of rest) (format_of c.in-Some.after.now) c.push.new.self.items c.in-Some.part c.loop-parts.invariant first.0 c.in_ok-push.ensures.items
+    one_done (format_of c.args.text.now) c.loop-parts.parts.items (format_of rest) (format_of c.in-Some.after.now) c.push.new.self.items c.in-Some.part c.loop-parts.invariant first.0 c.in-Ok.ensures.items
 
 pub returns : goal.returns
 returns g c =
     let rest = c.loop-parts.rest.now in
     let none = subst (λ found. GivesFirst rest (Ok found)) c.in_default.is c.in_ok-part.ensures in
     all_done (format_of c.args.text.now) c.loop-parts.parts.items rest none c.loop-parts.invariant
+
+pub returns-in-Err : goal.returns-in-Err
+returns-in-Err g c =
+    let rest = c.loop-parts.rest.now in
+    let all = format_of c.args.text.now in
+    let first = subst (λ found. GivesFirst rest (Ok found)) c.in-Some.is c.in_ok-part.ensures in
+    let behind = one_done all c.loop-parts.parts.items (format_of rest) (format_of c.in-Some.after.now) (c.loop-parts.parts.items ++ c.in-Some.part ∷ []) c.in-Some.part c.loop-parts.invariant first.0 refl in
+    unread_behind all (format_of c.in-Some.after.now) (c.loop-parts.parts.items ++ c.in-Some.part ∷ []) c.fault_without_room.result behind c.fault_without_room.ensures

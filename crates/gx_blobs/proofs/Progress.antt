@@ -17,10 +17,11 @@ use Rattle.gx_stream.specs.declared.item.Item.{Item}
 use Rattle.gx_stream.specs.declared.fault.StreamFault.{StreamFault}
 use Rattle.gx_stream.specs.declared.fault.StreamFault.TheVariants as stream
 use Rattle.gx_stream.specs.Faults.{fault_of, ended as only}
-use Rattle.gx_stream.specs.Reading.{Reads, item_of}
+use Rattle.gx_stream.specs.Reading.{Answers, MayCome, Seen, item_of}
+use Rattle.gx_stream.proofs.Follows.{some_come}
 use Rattle.gx_blobs.specs.Blobs.{BlobRun, refused, blobs_of, behind, first_body}
 use Rattle.gx_blobs.specs.Steps.{Step, stop, go, body, run_of, step_of, stepped, stop_at}
-use Rattle.gx_blobs.specs.Printing.{blob_line, printed, blob_record, stop_of, Clashes, FailsWithin, Prints, PrintsBlobs, PrintsOne, ended_at, of_stream}
+use Rattle.gx_blobs.specs.Printing.{blob_line, printed, blob_record, stop_of, Clashes, FailsWithin, Prints, PrintsItems, PrintsOne, ended_at, of_stream}
 use Rattle.gx_blobs.specs.declared.blob_names.Stage.{Stage}
 use Rattle.gx_blobs.specs.declared.blob_names.Stage.TheVariants.{Expected}
 use Rattle.gx_blobs.specs.declared.blob_names.BlobsKind.{BlobsKind}
@@ -47,10 +48,11 @@ after came left = record { items = came ++ left.items; end = left.end }
 abbrev pub GoesOn : List ModelItem → Stage → List Bytes → Type 0
 GoesOn came stage front = (left : Stream) → staged Expected (after came left) ≡ behind front (staged stage left)
 
--- the blobs so far, and then those of what is left; where a source tells nothing, of the items that came
-abbrev pub Goes : Option Stream → Option Stream → Stage → List Bytes → Type 0
-Goes None now stage front = (came : List ModelItem) × GoesOn came stage front
-Goes (Some r) now stage front = (left : Stream) × (now ≡ Some left) × (staged Expected r ≡ behind front (staged stage left))
+-- the blobs so far, and then those of what is left; where a source tells nothing, of the items that came, which with whatever may
+-- come behind them may be its own
+abbrev pub Goes : Seen → Option Stream → Seen → Stage → List Bytes → Type 0
+Goes first None now stage front = (came : List ModelItem) × GoesOn came stage front × ((left : Stream) → MayCome now left → MayCome first (after came left))
+Goes first (Some r) now stage front = (left : Stream) × (now.stream ≡ Some left) × (staged Expected r ≡ behind front (staged stage left))
 
 abbrev pub IsIn : Bytes → List Bytes → Type 0
 IsIn x [] = ⊥
@@ -61,23 +63,23 @@ abbrev pub HeldAmong : (Kind → Bytes → Bytes) → List Bytes → List Record
 HeldAmong names front [] = Unit {0}
 HeldAmong names front (h ∷ hs) = ((x : Bytes) × IsIn x front × (h ≡ blob_record names x)) × HeldAmong names front hs
 
-pub record Progress (names : Kind → Bytes → Bytes) (start now : Option Stream) (stage : Stage) (was is : Option Taken) (held : List Record) (count : ℕ) : Type 0 where
+pub record Progress (names : Kind → Bytes → Bytes) (first : Seen) (start : Option Stream) (now : Seen) (stage : Stage) (was is : Option Taken) (held : List Record) (count : ℕ) : Type 0 where
   pub front : List Bytes
   pub counted : count ≡ length front
-  pub goes : Goes start now stage front
+  pub goes : Goes first start now stage front
   pub wrote : Took was is (printed names front)
   pub among : HeldAmong names front held
 
-Goes-none : (start : Option Stream) → Goes start start Expected []
-Goes-none None = ([], λ left. refl)
-Goes-none (Some r) = (r, refl, refl)
+Goes-none : (start : Option Stream) (now : Seen) → now.stream ≡ start → Goes now start now Expected []
+Goes-none None now e = ([], (λ left. refl), (λ left m. m))
+Goes-none (Some r) now e = (r, e, refl)
 
-pub Progress-none : (names : Kind → Bytes → Bytes) (start now : Option Stream) (was : Option Taken) (held : List Record) → now ≡ start → held ≡ [] → Progress names start now Expected was was held 0
-Progress-none names start now was held e h =
+pub Progress-none : (names : Kind → Bytes → Bytes) (now : Seen) (was : Option Taken) (held : List Record) → held ≡ [] → Progress names now now.stream now Expected was was held 0
+Progress-none names now was held h =
     record {
       front = [];
       counted = refl;
-      goes = subst (λ v. Goes start v Expected []) (sym e) (Goes-none start);
+      goes = Goes-none now.stream now refl;
       wrote = took_nothing was;
       among = subst (HeldAmong names []) (sym h) tt;
     }
@@ -92,36 +94,40 @@ comes_on : (came : List ModelItem) (stage : Stage) (front : List Bytes) (p : Mod
 comes_on came stage front p s e g left = g (then_comes p left) ∙ ap (behind front) (staged-item stage p left ∙ ap (λ v. stepped v (λ n. staged n left)) e)
 
 -- an item more came
-one_more : (came : List ModelItem) (p : ModelItem) (left : Stream) → staged Expected (after (came ++ p ∷ []) left) ≡ staged Expected (after came (then_comes p left))
-one_more came p left = ap (λ is. run_of is Expected left.end) (append_assoc came (p ∷ []) left.items)
+one_more : (came : List ModelItem) (p : ModelItem) (left : Stream) → after (came ++ p ∷ []) left ≡ after came (then_comes p left)
+one_more came p left = ap (λ is. record { items = is; end = left.end }) (append_assoc came (p ∷ []) left.items)
+
+-- whatever may come behind it may come behind those before
+more_comes : (first now new : Seen) (came : List ModelItem) (item : Item) → ((left : Stream) → MayCome now left → MayCome first (after came left)) → Answers now new (Ok (Some item)) → (left : Stream) → MayCome new left → MayCome first (after (came ++ item_of item ∷ []) left)
+more_comes first now new came item h a left m = subst (MayCome first) (sym (one_more came (item_of item) left)) (h (then_comes (item_of item) left) (a.4 left m))
 
 -- a blob more
 body_behind : (front : List Bytes) (x : Bytes) (run : BlobRun) → behind front (first_body x run) ≡ behind (front ++ x ∷ []) run
 body_behind front x run = ap (λ bs. record { bodies = bs; stop = run.stop }) (sym (append_assoc front (x ∷ []) run.bodies))
 
-Goes-go : (start now new : Option Stream) (stage next : Stage) (front : List Bytes) (item : Item) → step_of stage (item_of item) ≡ go next → Goes start now stage front → Reads now new (Ok (Some item)) → Goes start new next front
-Goes-go None now new stage next front item e g r =
+Goes-go : (first : Seen) (start : Option Stream) (now new : Seen) (stage next : Stage) (front : List Bytes) (item : Item) → step_of stage (item_of item) ≡ go next → Goes first start now stage front → Answers now new (Ok (Some item)) → Goes first start new next front
+Goes-go first None now new stage next front item e g a =
     let p = item_of item in
-    (g.0 ++ p ∷ [], λ left. one_more g.0 p left ∙ comes_on g.0 stage front p (go next) e g.1 left)
-Goes-go (Some s) now new stage next front item e g r =
-    let t = rw g.1 at r in
+    (g.0 ++ p ∷ [], (λ left. ap (staged Expected) (one_more g.0 p left) ∙ comes_on g.0 stage front p (go next) e g.1 left), more_comes first now new g.0 item g.2 a)
+Goes-go first (Some s) now new stage next front item e g a =
+    let t = rw g.1 at a.0 in
     (t.0, t.2, g.2 ∙ ap (λ v. behind front (staged stage v)) t.1 ∙ ap (behind front) (staged-item stage (item_of item) t.0 ∙ ap (λ v. stepped v (λ n. staged n t.0)) e))
 
-Goes-body : (start now new : Option Stream) (stage : Stage) (front : List Bytes) (item : Item) (x : Bytes) → step_of stage (item_of item) ≡ body x → Goes start now stage front → Reads now new (Ok (Some item)) → Goes start new Expected (front ++ x ∷ [])
-Goes-body None now new stage front item x e g r =
+Goes-body : (first : Seen) (start : Option Stream) (now new : Seen) (stage : Stage) (front : List Bytes) (item : Item) (x : Bytes) → step_of stage (item_of item) ≡ body x → Goes first start now stage front → Answers now new (Ok (Some item)) → Goes first start new Expected (front ++ x ∷ [])
+Goes-body first None now new stage front item x e g a =
     let p = item_of item in
-    (g.0 ++ p ∷ [], λ left. one_more g.0 p left ∙ comes_on g.0 stage front p (body x) e g.1 left ∙ body_behind front x (staged Expected left))
-Goes-body (Some s) now new stage front item x e g r =
-    let t = rw g.1 at r in
+    (g.0 ++ p ∷ [], (λ left. ap (staged Expected) (one_more g.0 p left) ∙ comes_on g.0 stage front p (body x) e g.1 left ∙ body_behind front x (staged Expected left)), more_comes first now new g.0 item g.2 a)
+Goes-body first (Some s) now new stage front item x e g a =
+    let t = rw g.1 at a.0 in
     let here = staged-item stage (item_of item) t.0 ∙ ap (λ v. stepped v (λ n. staged n t.0)) e in
     (t.0, t.2, g.2 ∙ ap (λ v. behind front (staged stage v)) t.1 ∙ ap (behind front) here ∙ body_behind front x (staged Expected t.0))
 
-pub Progress-go : (names : Kind → Bytes → Bytes) (start now new : Option Stream) (stage next : Stage) (was is : Option Taken) (held : List Record) (count : ℕ) (item : Item) → step_of stage (item_of item) ≡ go next → Progress names start now stage was is held count → Reads now new (Ok (Some item)) → Progress names start new next was is held count
-Progress-go names start now new stage next was is held count item e p r =
+pub Progress-go : (names : Kind → Bytes → Bytes) (first : Seen) (start : Option Stream) (now new : Seen) (stage next : Stage) (was is : Option Taken) (held : List Record) (count : ℕ) (item : Item) → step_of stage (item_of item) ≡ go next → Progress names first start now stage was is held count → Answers now new (Ok (Some item)) → Progress names first start new next was is held count
+Progress-go names first start now new stage next was is held count item e p r =
     record {
       front = p.front;
       counted = p.counted;
-      goes = Goes-go start now new stage next p.front item e p.goes r;
+      goes = Goes-go first start now new stage next p.front item e p.goes r;
       wrote = p.wrote;
       among = p.among;
     }
@@ -166,12 +172,12 @@ added : (names : Kind → Bytes → Bytes) (front : List Bytes) (x : Bytes) (hel
 added names front x held now (inl e) h = subst (HeldAmong names (front ++ x ∷ [])) (sym e) (HeldAmong-push names front x held h)
 added names front x held now (inr e) h = subst (HeldAmong names (front ++ x ∷ [])) (sym e) (HeldAmong-added names front x held h)
 
-pub Progress-body : (names : Kind → Bytes → Bytes) (start now new : Option Stream) (stage : Stage) (was is out : Option Taken) (held kept : List Record) (count : ℕ) (item : Item) (x : Bytes) (u : Unit {0}) → step_of stage (item_of item) ≡ body x → Progress names start now stage was is held count → Reads now new (Ok (Some item)) → PrintsOne names held kept is out x (Ok u) → Progress names start new Expected was out kept (count + 1)
-Progress-body names start now new stage was is out held kept count item x u e p r o =
+pub Progress-body : (names : Kind → Bytes → Bytes) (first : Seen) (start : Option Stream) (now new : Seen) (stage : Stage) (was is out : Option Taken) (held kept : List Record) (count : ℕ) (item : Item) (x : Bytes) (u : Unit {0}) → step_of stage (item_of item) ≡ body x → Progress names first start now stage was is held count → Answers now new (Ok (Some item)) → PrintsOne names held kept is out x (Ok u) → Progress names first start new Expected was out kept (count + 1)
+Progress-body names first start now new stage was is out held kept count item x u e p r o =
     record {
       front = p.front ++ x ∷ [];
       counted = omega (arith, p.counted, length_push p.front x);
-      goes = Goes-body start now new stage p.front item x e p.goes r;
+      goes = Goes-body first start now new stage p.front item x e p.goes r;
       wrote = subst (Took was out) (sym (printed-push names p.front x)) (Wrote-more was is out (printed names p.front) (blob_line names x) p.wrote o.1);
       among = added names p.front x held kept (put-grows held kept (blob_record names x) o.0) p.among;
     }
@@ -195,13 +201,13 @@ all_printed names run front was is count e n w = rw e (refl, n, w)
 ends_on : (came : List ModelItem) (stage : Stage) (front : List Bytes) (end : End) → GoesOn came stage front → staged Expected (after came (only end)) ≡ record { bodies = front; stop = stop_at stage end }
 ends_on came stage front end g = at_end (after came (only end)) (only end) stage front end refl (g (only end))
 
-pub Prints-end : (names : Kind → Bytes → Bytes) (start : Option Stream) (now new : Option Stream) (stage : Stage) (was is : Option Taken) (held : List Record) (count : ℕ) → stop_at stage Finished ≡ None → Progress names start now stage was is held count → Reads now new (Ok None) → PrintsBlobs names start was is (Ok count)
-Prints-end names None now new stage was is held count e p r =
+pub Prints-end : (names : Kind → Bytes → Bytes) (first : Seen) (start : Option Stream) (now new : Seen) (stage : Stage) (was is : Option Taken) (held : List Record) (count : ℕ) → stop_at stage Finished ≡ None → Progress names first start now stage was is held count → Answers now new (Ok None) → PrintsItems names (MayCome first) start was is (Ok count)
+Prints-end names first None now new stage was is held count e p r =
     let s = after p.goes.0 (only Finished) in
     let run = ends_on p.goes.0 stage p.front Finished p.goes.1 ∙ ap (λ k. record { bodies = p.front; stop = k }) e in
-    (s, tt, as_blobs names s was is (Ok count) (all_printed names (staged Expected s) p.front was is count run p.counted p.wrote))
-Prints-end names (Some c) now new stage was is held count e p r =
-    let t = rw p.goes.1 at r in
+    (s, p.goes.2 (only Finished) r.4, as_blobs names s was is (Ok count) (all_printed names (staged Expected s) p.front was is count run p.counted p.wrote))
+Prints-end names first (Some c) now new stage was is held count e p r =
+    let t = rw p.goes.1 at r.0 in
     let run = at_end c p.goes.0 stage p.front Finished t.0 p.goes.2 ∙ ap (λ k. record { bodies = p.front; stop = k }) e in
     as_blobs names c was is (Ok count) (all_printed names (staged Expected c) p.front was is count run p.counted p.wrote)
 
@@ -209,19 +215,19 @@ own_fault : (names : Kind → Bytes → Bytes) (run : BlobRun) (front : List Byt
 own_fault names run front was is count kind e n w =
     rw e (front, [], sym (append-nil front), ap (λ k. k + 1) n, inl (refl, refl, w))
 
-pub Prints-cut : (names : Kind → Bytes → Bytes) (start : Option Stream) (now new : Option Stream) (stage : Stage) (was is : Option Taken) (held : List Record) (count : ℕ) (kind : BlobsKind) → stop_at stage Finished ≡ Some (stop_of kind) → Progress names start now stage was is held count → Reads now new (Ok None) → PrintsBlobs names start was is (Err (record { command = count + 1; kind = kind }))
-Prints-cut names None now new stage was is held count kind e p r =
+pub Prints-cut : (names : Kind → Bytes → Bytes) (first : Seen) (start : Option Stream) (now new : Seen) (stage : Stage) (was is : Option Taken) (held : List Record) (count : ℕ) (kind : BlobsKind) → stop_at stage Finished ≡ Some (stop_of kind) → Progress names first start now stage was is held count → Answers now new (Ok None) → PrintsItems names (MayCome first) start was is (Err (record { command = count + 1; kind = kind }))
+Prints-cut names first None now new stage was is held count kind e p r =
     let s = after p.goes.0 (only Finished) in
     let run = ends_on p.goes.0 stage p.front Finished p.goes.1 ∙ ap (λ k. record { bodies = p.front; stop = k }) e in
-    (s, tt, as_blobs names s was is (refused_at count kind) (own_fault names (staged Expected s) p.front was is count kind run p.counted p.wrote))
-Prints-cut names (Some c) now new stage was is held count kind e p r =
-    let t = rw p.goes.1 at r in
+    (s, p.goes.2 (only Finished) r.4, as_blobs names s was is (refused_at count kind) (own_fault names (staged Expected s) p.front was is count kind run p.counted p.wrote))
+Prints-cut names first (Some c) now new stage was is held count kind e p r =
+    let t = rw p.goes.1 at r.0 in
     as_blobs names c was is (refused_at count kind) (own_fault names (staged Expected c) p.front was is count kind (at_end c p.goes.0 stage p.front Finished t.0 p.goes.2 ∙ ap (λ k. record { bodies = p.front; stop = k }) e) p.counted p.wrote)
 
 -- the stream ends, and so do its blobs, or one of them isn't whole
-pub Prints-last : (names : Kind → Bytes → Bytes) (start : Option Stream) (now new : Option Stream) (stage : Stage) (was is : Option Taken) (held : List Record) (count : ℕ) (kind : Option BlobsKind) → option_map stop_of kind ≡ stop_at stage Finished → Progress names start now stage was is held count → Reads now new (Ok None) → PrintsBlobs names start was is (ended_at count kind)
-Prints-last names start now new stage was is held count None e p r = Prints-end names start now new stage was is held count (sym e) p r
-Prints-last names start now new stage was is held count (Some kind) e p r = Prints-cut names start now new stage was is held count kind (sym e) p r
+pub Prints-last : (names : Kind → Bytes → Bytes) (first : Seen) (start : Option Stream) (now new : Seen) (stage : Stage) (was is : Option Taken) (held : List Record) (count : ℕ) (kind : Option BlobsKind) → option_map stop_of kind ≡ stop_at stage Finished → Progress names first start now stage was is held count → Answers now new (Ok None) → PrintsItems names (MayCome first) start was is (ended_at count kind)
+Prints-last names first start now new stage was is held count None e p r = Prints-end names first start now new stage was is held count (sym e) p r
+Prints-last names first start now new stage was is held count (Some kind) e p r = Prints-cut names first start now new stage was is held count kind (sym e) p r
 
 no_memory : (names : Kind → Bytes → Bytes) (run next : BlobRun) (front : List Bytes) (was is : Option Taken) (count : ℕ) → run ≡ behind front next → count ≡ length front → Took was is (printed names front) → Prints names run was is (Err (record { command = count + 1; kind = kinds.OutOfMemory }))
 no_memory names run next front was is count e n w =
@@ -233,30 +239,39 @@ fault_case names r left stage front was is count f g n w (inl e) =
 fault_case names r left stage front was is count f g n w (inr e) =
     own_fault names (staged Expected r) front was is count (of_stream f) (at_end r left stage front (Failed (fault_of f)) e g ∙ ap (λ k. record { bodies = front; stop = Some k }) (sym (stop_of-fault f))) n w
 
-pub Prints-fault : (names : Kind → Bytes → Bytes) (start : Option Stream) (now new : Option Stream) (stage : Stage) (was is : Option Taken) (held : List Record) (count : ℕ) (f : StreamFault) → Progress names start now stage was is held count → Reads now new (Err f) → PrintsBlobs names start was is (Err (record { command = count + 1; kind = of_stream f }))
-Prints-fault names None now new stage was is held count f p r =
-    let end = Failed (fault_of f) in
-    let s = after p.goes.0 (only end) in
-    let run = ends_on p.goes.0 stage p.front end p.goes.1 ∙ ap (λ k. record { bodies = p.front; stop = Some k }) (sym (stop_of-fault f)) in
-    (s, (f, refl), as_blobs names s was is (refused_at count (of_stream f)) (own_fault names (staged Expected s) p.front was is count (of_stream f) run p.counted p.wrote))
-Prints-fault names (Some c) now new stage was is held count f p r =
-    let t = rw p.goes.1 at r in
+silent_fault : (names : Kind → Bytes → Bytes) (first now : Seen) (stage : Stage) (front : List Bytes) (was is : Option Taken) (count : ℕ) (f : StreamFault) → Goes first None now stage front → count ≡ length front → Took was is (printed names front) → (f ≡ stream.OutOfMemory) ⊎ MayCome now (only (Failed (fault_of f)))
+    → PrintsItems names (MayCome first) None was is (refused_at count (of_stream f))
+silent_fault names first now stage front was is count f g n w (inl e) =
+    let some = some_come now in
+    let s = after g.0 some.0 in
+    (s, g.2 some.0 some.1, as_blobs names s was is (refused_at count (of_stream f)) (fault_case names s some.0 stage front was is count f (g.1 some.0) n w (inl e)))
+silent_fault names first now stage front was is count f g n w (inr m) =
+    let left = only (Failed (fault_of f)) in
+    let s = after g.0 left in
+    (s, g.2 left m, as_blobs names s was is (refused_at count (of_stream f)) (fault_case names s left stage front was is count f (g.1 left) n w (inr refl)))
+
+pub Prints-fault : (names : Kind → Bytes → Bytes) (first : Seen) (start : Option Stream) (now new : Seen) (stage : Stage) (was is : Option Taken) (held : List Record) (count : ℕ) (f : StreamFault) → Progress names first start now stage was is held count → Answers now new (Err f) → PrintsItems names (MayCome first) start was is (Err (record { command = count + 1; kind = of_stream f }))
+Prints-fault names first None now new stage was is held count f p r = silent_fault names first now stage p.front was is count f p.goes p.counted p.wrote r.4
+Prints-fault names first (Some c) now new stage was is held count f p r =
+    let t = rw p.goes.1 at r.0 in
     as_blobs names c was is (refused_at count (of_stream f)) (fault_case names c p.goes.0 stage p.front was is count f p.goes.2 p.counted p.wrote t.1)
 
 -- what is left where an item came
-comes : (r : Stream) (now new : Option Stream) (stage : Stage) (front : List Bytes) (item : Item) (s : Step) → step_of stage (item_of item) ≡ s → Goes (Some r) now stage front → Reads now new (Ok (Some item)) → (left : Stream) × (staged Expected r ≡ behind front (stepped s (λ n. staged n left)))
-comes r now new stage front item s e g h =
-    let t = rw g.1 at h in
+comes : (first : Seen) (r : Stream) (now new : Seen) (stage : Stage) (front : List Bytes) (item : Item) (s : Step) → step_of stage (item_of item) ≡ s → Goes first (Some r) now stage front → Answers now new (Ok (Some item)) → (left : Stream) × (staged Expected r ≡ behind front (stepped s (λ n. staged n left)))
+comes first r now new stage front item s e g h =
+    let t = rw g.1 at h.0 in
     (t.0, g.2 ∙ ap (λ v. behind front (staged stage v)) t.1 ∙ ap (behind front) (staged-item stage (item_of item) t.0 ∙ ap (λ v. stepped v (λ n. staged n t.0)) e))
 
-pub Prints-stop : (names : Kind → Bytes → Bytes) (start : Option Stream) (now new : Option Stream) (stage : Stage) (was is : Option Taken) (held : List Record) (count : ℕ) (item : Item) (kind : BlobsKind) → step_of stage (item_of item) ≡ stop (stop_of kind) → Progress names start now stage was is held count → Reads now new (Ok (Some item)) → PrintsBlobs names start was is (Err (record { command = count + 1; kind = kind }))
-Prints-stop names None now new stage was is held count item kind e p r =
-    let s = after p.goes.0 (then_comes (item_of item) (only Finished)) in
-    let run = comes_on p.goes.0 stage p.front (item_of item) (stop (stop_of kind)) e p.goes.1 (only Finished) in
+pub Prints-stop : (names : Kind → Bytes → Bytes) (first : Seen) (start : Option Stream) (now new : Seen) (stage : Stage) (was is : Option Taken) (held : List Record) (count : ℕ) (item : Item) (kind : BlobsKind) → step_of stage (item_of item) ≡ stop (stop_of kind) → Progress names first start now stage was is held count → Answers now new (Ok (Some item)) → PrintsItems names (MayCome first) start was is (Err (record { command = count + 1; kind = kind }))
+Prints-stop names first None now new stage was is held count item kind e p r =
+    let some = some_come new in
+    let left = then_comes (item_of item) some.0 in
+    let s = after p.goes.0 left in
+    let run = comes_on p.goes.0 stage p.front (item_of item) (stop (stop_of kind)) e p.goes.1 some.0 in
     let stopped = run ∙ ap (λ bs. record { bodies = bs; stop = Some (stop_of kind) }) (append-nil p.front) in
-    (s, tt, as_blobs names s was is (refused_at count kind) (own_fault names (staged Expected s) p.front was is count kind stopped p.counted p.wrote))
-Prints-stop names (Some c) now new stage was is held count item kind e p r =
-    let t = comes c now new stage p.front item (stop (stop_of kind)) e p.goes r in
+    (s, p.goes.2 left (r.4 some.0 some.1), as_blobs names s was is (refused_at count kind) (own_fault names (staged Expected s) p.front was is count kind stopped p.counted p.wrote))
+Prints-stop names first (Some c) now new stage was is held count item kind e p r =
+    let t = comes first c now new stage p.front item (stop (stop_of kind)) e p.goes r in
     as_blobs names c was is (refused_at count kind) (own_fault names (staged Expected c) p.front was is count kind (t.1 ∙ ap (λ bs. record { bodies = bs; stop = Some (stop_of kind) }) (append-nil p.front)) p.counted p.wrote)
 
 -- a held object under the name at hand came from one of the blobs before
@@ -308,13 +323,15 @@ one_case names run next front x was is out held kept count kinds.BadNumber e n w
 one_case names run next front x was is out held kept count kinds.TruncatedData e n w h o = absurd o
 one_case names run next front x was is out held kept count kinds.NotABlob e n w h o = absurd o
 
-pub Prints-one : (names : Kind → Bytes → Bytes) (start : Option Stream) (now new : Option Stream) (stage : Stage) (was is out : Option Taken) (held kept : List Record) (count : ℕ) (item : Item) (x : Bytes) (kind : BlobsKind) → step_of stage (item_of item) ≡ body x → Progress names start now stage was is held count → Reads now new (Ok (Some item)) → PrintsOne names held kept is out x (Err kind) → PrintsBlobs names start was out (Err (record { command = count + 1; kind = kind }))
-Prints-one names None now new stage was is out held kept count item x kind e p r o =
-    let s = after p.goes.0 (then_comes (item_of item) (only Finished)) in
-    let run = comes_on p.goes.0 stage p.front (item_of item) (body x) e p.goes.1 (only Finished) in
-    (s, tt, as_blobs names s was out (refused_at count kind) (one_case names (staged Expected s) (staged Expected (only Finished)) p.front x was is out held kept count kind run p.counted p.wrote p.among o))
-Prints-one names (Some c) now new stage was is out held kept count item x kind e p r o =
-    let t = comes c now new stage p.front item (body x) e p.goes r in
+pub Prints-one : (names : Kind → Bytes → Bytes) (first : Seen) (start : Option Stream) (now new : Seen) (stage : Stage) (was is out : Option Taken) (held kept : List Record) (count : ℕ) (item : Item) (x : Bytes) (kind : BlobsKind) → step_of stage (item_of item) ≡ body x → Progress names first start now stage was is held count → Answers now new (Ok (Some item)) → PrintsOne names held kept is out x (Err kind) → PrintsItems names (MayCome first) start was out (Err (record { command = count + 1; kind = kind }))
+Prints-one names first None now new stage was is out held kept count item x kind e p r o =
+    let some = some_come new in
+    let left = then_comes (item_of item) some.0 in
+    let s = after p.goes.0 left in
+    let run = comes_on p.goes.0 stage p.front (item_of item) (body x) e p.goes.1 some.0 in
+    (s, p.goes.2 left (r.4 some.0 some.1), as_blobs names s was out (refused_at count kind) (one_case names (staged Expected s) (staged Expected some.0) p.front x was is out held kept count kind run p.counted p.wrote p.among o))
+Prints-one names first (Some c) now new stage was is out held kept count item x kind e p r o =
+    let t = comes first c now new stage p.front item (body x) e p.goes r in
     as_blobs names c was out (refused_at count kind) (one_case names (staged Expected c) (staged Expected t.0) p.front x was is out held kept count kind t.1 p.counted p.wrote p.among o)
 
 pub PrintsOne-at : {N : Type 0} (f : N → Kind → Bytes → Bytes) (a b : N) (held kept : List Record) (is out : Option Taken) (x : Bytes) (r : Result (Unit {0}) BlobsKind) → a ≡ b → PrintsOne (f a) held kept is out x r → PrintsOne (f b) held kept is out x r

@@ -10,7 +10,7 @@ use Rattle.gx_model.specs.Streams.Items.{Stream}
 use Rattle.gx_model.specs.Histories.{Record}
 use Rattle.gx_model.specs.Records.Growth.{put, record_named}
 use Rattle.gx_model.specs.Texts.Sinks.{Sends, Taken, Took}
-use Rattle.gx_stream.specs.Faults.{IsEnd}
+use Rattle.gx_stream.specs.Reading.{AreOfText}
 use Rattle.gx_stream.specs.declared.fault.StreamFault.{StreamFault}
 use Rattle.gx_stream.specs.declared.fault.StreamFault.TheVariants as stream
 use Rattle.gx_blobs.specs.Blobs.{Stop, refused, not_a_blob, BlobRun, blobs_of}
@@ -114,7 +114,11 @@ module _ (name : Kind → Bytes → Bytes) where
   Prints run was is (Ok n) = (run.stop ≡ None) × (n ≡ length run.bodies) × HasNames run.bodies was is
   Prints run was is (Err f) = (front : List Bytes) × (rest : List Bytes) × (run.bodies ≡ front ++ rest) × (f.command ≡ length front + 1) × Stops front rest run.stop was is f.kind
 
-  -- the same of a stream's items; where its source tells nothing, of some items with their end
+  -- the same of a stream's items; where its source tells nothing, of some that may be its
+  abbrev pub PrintsItems : (Stream → Type 0) → Option Stream → Option Taken → Option Taken → Result ℕ BlobsFault → Type 0
+  PrintsItems may None was is r = (s : Stream) × may s × Prints (blobs_of s) was is r
+  PrintsItems may (Some s) was is r = Prints (blobs_of s) was is r
+
+  -- the same of a source's; where it tells nothing, of those of some text
   abbrev pub PrintsBlobs : Option Stream → Option Taken → Option Taken → Result ℕ BlobsFault → Type 0
-  PrintsBlobs None was is r = (s : Stream) × IsEnd s.end × Prints (blobs_of s) was is r
-  PrintsBlobs (Some s) was is r = Prints (blobs_of s) was is r
+  PrintsBlobs items was is r = PrintsItems AreOfText items was is r

@@ -105,7 +105,7 @@ fn name_all<N: Namer, R: Source, W: Sink, A: Allocator + Copy>(
 ) -> Result<u64, BlobsFault>
     requires few { reader.old.most ≤ 2 ^ 63 - 1 }
     requires empty { store.old.1 ≡ [] }
-    ensures { NamesItems N.name_of W.taken store.old.0 reader.old.stream sink.old sink.new result }
+    ensures { NamesItems N.name_of W.taken store.old.0 reader.old sink.old sink.new result }
 {
     let mut stage = Stage::Expected;
     let mut count = 0u64;

@@ -5,9 +5,9 @@ use Rattle.std.specs.Option.{option_map}
 use Rattle.gx_model.specs.Faults.{◌>>=◌}
 use Rattle.gx_model.specs.Streams.Items.{Item, Stream}
 use Rattle.gx_model.specs.Streams.Commands.{Commands}
-use Rattle.gx_model.specs.Streams.Grammar.{is_done, stops, with_command}
+use Rattle.gx_model.specs.Streams.Grammar.{commands_asked, is_done, stops, with_command}
 use Rattle.gx_model.specs.declared.features.Features.{Features}
-use Rattle.gx_stream.specs.declared.fault.StreamFault.{StreamFault}
+use Rattle.gx_stream.specs.Reading as stream
 use Rattle.gx_command.specs.CommandFaults.{fault_of}
 use Rattle.gx_command.specs.Explaining.{Explains, ItemsMayCome}
 use Rattle.gx_command.specs.Heads.{first}
@@ -24,69 +24,71 @@ use Rattle.gx_command.proofs.ExplainedItems.{some_comes}
 use Rattle.gx_command.proofs.NextCommands.{after_fault, after_none, after_some, later_is, led_is, options_after}
 
 -- what is known in a state
-abbrev pub known_in : State → Option Item → Option (Option StreamFault) → Known
-known_in state held last = record { before = known_before state; held = held; last = last }
+abbrev pub known_in : State → Option Item → stream.Seen → Known
+known_in state held reader = record { before = known_before state; held = held; reader = reader }
 
 -- what may follow a reader in a state
-abbrev pub FollowsState : State → Option Item → Option (Option StreamFault) → Commands → Type 0
-FollowsState state held last = MayFollow (over_of state) (known_in state held last)
+abbrev pub FollowsState : State → Option Item → stream.Seen → Commands → Type 0
+FollowsState state held reader = MayFollow (over_of state) (known_in state held reader)
 
 -- some commands may always follow
 pub some_follow : (over : Option (Option CommandFault)) (known : Known) → (commands : Commands) × MayFollow over known commands
 some_follow None known =
-    let a = some_comes known.held known.last in
+    let a = some_comes known.held known.reader in
     (commands_after known.before a.0, (a.0, a.1, refl))
 some_follow (Some None) known = (stops None, refl)
 some_follow (Some (Some f)) known = (stops (Some (fault_of f)), refl)
 
--- those of a reader that has read none yet are those of some items
-pub asked_items : (f : Features) (commands : Commands) → FollowsState (Open (options_of f)) None None commands → AreOfItems f commands
-asked_items f commands (s, ends, e) = (s, ends, e ∙ after_asked f s)
+-- those of a reader that has read none yet are those of some text
+pub asked_items : (f : Features) (reader : stream.Seen) → ((s : Stream) → stream.MayCome reader s → stream.AreOfText s) → (commands : Commands) → FollowsState (Open (options_of f)) None reader commands → AreOfItems f commands
+asked_items f reader text commands (s, comes, e) =
+    let t = text s comes in
+    (t.0, e ∙ after_asked f s ∙ ap (commands_asked f) t.1)
 
-module _ (o : Options) (held held' : Option Item) (last last' : Option (Option StreamFault)) where
-  pub explained_some : {A : Type 0} (c : Command A) → Explains (option_map shown_command) (next_after o) (ItemsMayCome held last) (ItemsMayCome held' last') (Ok (Some c))
-      → ExplainsNext (FollowsState (Open o) held last) (FollowsState (state_after o (shown_command c)) held' last') (Ok (Some c))
+module _ (o : Options) (held held' : Option Item) (reader reader' : stream.Seen) where
+  pub explained_some : {A : Type 0} (c : Command A) → Explains (option_map shown_command) (next_after o) (ItemsMayCome held reader) (ItemsMayCome held' reader') (Ok (Some c))
+      → ExplainsNext (FollowsState (Open o) held reader) (FollowsState (state_after o (shown_command c)) held' reader') (Ok (Some c))
   unfolding Explains
   explained_some c h = by (is_done (shown_command c)) refl where
     behind : (d : Bool) → is_done (shown_command c) ≡ d → (s t : Stream) → next_after o s ≡ Ok (Some (shown_command c), t)
         → commands_after (before_of o) s ≡ (if d then with_command (shown_command c) (stops None) else with_command (shown_command c) (commands_after (before_of o ++ shown_command c ∷ []) t))
     behind d is s t e = led_is o s _ (after_some o (first o.are_all s) (shown_command c) t e) ∙ rw is refl
 
-    by : (d : Bool) → is_done (shown_command c) ≡ d → (left : Commands) → FollowsState (if d then Ended else Open (options_after o (shown_command c))) held' last' left
-        → FollowsState (Open o) held last (with_command (shown_command c) left)
+    by : (d : Bool) → is_done (shown_command c) ≡ d → (left : Commands) → FollowsState (if d then Ended else Open (options_after o (shown_command c))) held' reader' left
+        → FollowsState (Open o) held reader (with_command (shown_command c) left)
     by true is left e =
-        let some = some_comes held' last' in
+        let some = some_comes held' reader' in
         let a = h some.0 some.1 in
         (a.0, a.1, ap (with_command (shown_command c)) e ∙ sym (behind true is a.0 some.0 a.2))
     by false is left (t, m, e) =
         let a = h t m in
         (a.0, a.1, ap (with_command (shown_command c)) (e ∙ sym (later_is o (shown_command c) t)) ∙ sym (behind false is a.0 t a.2))
 
-  pub explained_end : (A : Type 0) → Explains {X = Option (Command A)} (option_map shown_command) (next_after o) (ItemsMayCome held last) (ItemsMayCome held' last') (Ok None)
-      → FollowsState (Open o) held last (stops None)
+  pub explained_end : (A : Type 0) → Explains {X = Option (Command A)} (option_map shown_command) (next_after o) (ItemsMayCome held reader) (ItemsMayCome held' reader') (Ok None)
+      → FollowsState (Open o) held reader (stops None)
   unfolding Explains
   explained_end A h =
-      let some = some_comes held' last' in
+      let some = some_comes held' reader' in
       let a = h some.0 some.1 in
       (a.0, a.1, sym (led_is o a.0 _ refl ∙ after_none o (first o.are_all a.0) some.0 a.2))
 
-  pub explained_failure : (A : Type 0) (f : CommandFault) → Explains {X = Option (Command A)} (option_map shown_command) (next_after o) (ItemsMayCome held last) (ItemsMayCome held' last') (Err f)
-      → (f ≡ own.OutOfMemory) ⊎ FollowsState (Open o) held last (stops (Some (fault_of f)))
+  pub explained_failure : (A : Type 0) (f : CommandFault) → Explains {X = Option (Command A)} (option_map shown_command) (next_after o) (ItemsMayCome held reader) (ItemsMayCome held' reader') (Err f)
+      → (f ≡ own.OutOfMemory) ⊎ FollowsState (Open o) held reader (stops (Some (fault_of f)))
   unfolding Explains
   explained_failure A f (inl out) = inl out
   explained_failure A f (inr (s, m, e)) = inr (s, m, sym (led_is o s _ refl ∙ after_fault o (first o.are_all s) (fault_of f) e))
 
   -- the same of what a reader is seen as
-  module _ (old : Seen) (items : Option Stream) (bound : ℕ) (view : seen_commands (Open o) items bound held last ≡ old) where
-    pub seen_some : {A : Type 0} (c : Command A) → Explains (option_map shown_command) (next_after o) (ItemsMayCome held last) (ItemsMayCome held' last') (Ok (Some c))
-        → ExplainsNext (MayCome old) (FollowsState (state_after o (shown_command c)) held' last') (Ok (Some c))
-    seen_some c h = subst (λ (v : Seen). ExplainsNext (MayCome v) (FollowsState (state_after o (shown_command c)) held' last') (Ok (Some c))) view (explained_some c h)
+  module _ (old : Seen) (items : Option Stream) (bound : ℕ) (view : seen_commands (Open o) items bound held reader ≡ old) where
+    pub seen_some : {A : Type 0} (c : Command A) → Explains (option_map shown_command) (next_after o) (ItemsMayCome held reader) (ItemsMayCome held' reader') (Ok (Some c))
+        → ExplainsNext (MayCome old) (FollowsState (state_after o (shown_command c)) held' reader') (Ok (Some c))
+    seen_some c h = subst (λ (v : Seen). ExplainsNext (MayCome v) (FollowsState (state_after o (shown_command c)) held' reader') (Ok (Some c))) view (explained_some c h)
 
-    pub seen_end : (A : Type 0) → Explains {X = Option (Command A)} (option_map shown_command) (next_after o) (ItemsMayCome held last) (ItemsMayCome held' last') (Ok None)
+    pub seen_end : (A : Type 0) → Explains {X = Option (Command A)} (option_map shown_command) (next_after o) (ItemsMayCome held reader) (ItemsMayCome held' reader') (Ok None)
         → MayCome old (stops None)
     seen_end A h = subst (λ (v : Seen). MayCome v (stops None)) view (explained_end A h)
 
-    pub seen_failure : (A : Type 0) (f : CommandFault) → Explains {X = Option (Command A)} (option_map shown_command) (next_after o) (ItemsMayCome held last) (ItemsMayCome held' last') (Err f)
+    pub seen_failure : (A : Type 0) (f : CommandFault) → Explains {X = Option (Command A)} (option_map shown_command) (next_after o) (ItemsMayCome held reader) (ItemsMayCome held' reader') (Err f)
         → (f ≡ own.OutOfMemory) ⊎ MayCome old (stops (Some (fault_of f)))
     seen_failure A f h = subst (λ (v : Seen). (f ≡ own.OutOfMemory) ⊎ MayCome v (stops (Some (fault_of f)))) view (explained_failure A f h)
 

@@ -1,5 +1,5 @@
 -- Items that are taken, as what explains an answer.
-use Rattle.std.proofs.Common.{◌≡◌, Bool, true, false, Option, Some, None, Result, Ok, Err, refl, sym, ap, subst, ◌∙◌, inl, inr}
+use Rattle.std.proofs.Common.{◌≡◌, Bool, true, false, Option, Some, None, Result, Ok, Err, refl, sym, ap, subst, ◌∙◌, ◌⊎◌, inl, inr}
 use Rattle.std.specs.Borrow.{Bor}
 use Rattle.std.specs.Option.{is_some, option_map}
 use Rattle.gx_model.specs.Texts.{Bytes}
@@ -7,15 +7,16 @@ use Rattle.gx_model.specs.Faults.{Given, Gives}
 use Rattle.gx_model.specs.Streams.Items as model
 use Rattle.gx_model.specs.Streams.Items.{Failed, Finished, Stream, then_comes}
 use Rattle.gx_model.specs.Streams.Lines.{Read, block, block_in, optional, rest_line}
-use Rattle.gx_stream.specs.Faults.{ended, fault_of as stream_fault, shown_end}
-use Rattle.gx_stream.specs.Reading.{AnswersAs, RepeatsAs, Seen, item_of}
+use Rattle.gx_stream.specs.Faults.{ended, fault_of as stream_fault}
+use Rattle.gx_stream.specs.Reading.{AnswersAs, MayCome, MayFollow, Seen, item_of}
 use Rattle.gx_stream.specs.declared.fault.StreamFault.{StreamFault}
 use Rattle.gx_stream.specs.declared.fault.StreamFault.TheVariants as faults
 use Rattle.gx_stream.specs.declared.item.Item.{Item}
+use Rattle.gx_stream.proofs.Follows.{some_come}
 use Rattle.gx_command.specs.Ahead.{AnswersRest, Fails, shown_held_item}
 use Rattle.gx_command.specs.Bodies.{ChangeIn, begun_change, next_change}
 use Rattle.gx_command.specs.CommandFaults.{fault_of, of_stream}
-use Rattle.gx_command.specs.Explaining.{Explains, ExplainsFrom, ExplainsLine, ExplainsTaken, ItemsMayCome, MayBeAhead, ItemsMayFollow}
+use Rattle.gx_command.specs.Explaining.{Explains, ExplainsFrom, ExplainsLine, ExplainsTaken, ItemsMayCome, MayBeAhead}
 use Rattle.gx_command.specs.Heads.{BeginsIn, begun_there, first, started}
 use Rattle.gx_command.specs.declared.ahead.Ahead.{Ahead}
 use Rattle.gx_command.specs.declared.ahead.Held.{Held}
@@ -31,54 +32,17 @@ use Rattle.gx_command.proofs.TakenLines.{Says, failed_line, line_fails, line_of_
 
 -- ---- something may always come
 
-some_follows : (over : Option (Option StreamFault)) → (s : Stream) × ItemsMayFollow over s
-some_follows None = (ended Finished, tt)
-some_follows (Some last) = (ended (shown_end last), refl)
-
-pub some_comes : (held : Option model.Item) (over : Option (Option StreamFault)) → (s : Stream) × ItemsMayCome held over s
-some_comes None over = some_follows over
-some_comes (Some i) over = let a = some_follows over in (then_comes i a.0, (a.0, a.1, refl))
+pub some_comes : (held : Option model.Item) (reader : Seen) → (s : Stream) × ItemsMayCome held reader s
+some_comes None reader = some_come reader
+some_comes (Some i) reader = let a = some_come reader in (then_comes i a.0, (a.0, a.1, refl))
 
 pub some_ahead : {R A : Type 0} (a : Ahead R A) → (s : Stream) × MayBeAhead a s
 unfolding MayBeAhead
-some_ahead a = some_comes (option_map shown_held_item a.held) a.items.over
+some_ahead a = some_comes (option_map shown_held_item a.held) a.items
 
--- ---- the item that a reader of items gives
-
-module _ (old new : Seen) where
-  -- an item: more may come
-  pub item_follows : (i : model.Item) → AnswersAs old new (Ok (Some i)) → (old.over ≡ None) × (new.over ≡ None)
-  item_follows i a = (by old.over refl a.3, a.2) where
-    by : (o : Option (Option StreamFault)) → old.over ≡ o → RepeatsAs o old new (Ok (Some i)) → old.over ≡ None
-    by None e r = e
-    by (Some None) e r = absurd (cc r.0)
-    by (Some (Some f)) e r = absurd (cc r.0)
-
-  -- the end
-  pub end_follows : AnswersAs old new (Ok None) → ItemsMayFollow old.over (ended Finished)
-  end_follows a = by old.over a.3 where
-    by : (o : Option (Option StreamFault)) → RepeatsAs o old new (Ok None) → ItemsMayFollow o (ended Finished)
-    by None r = tt
-    by (Some None) r = refl
-    by (Some (Some f)) r = absurd (cc r.0)
-
-  -- a fault
-  pub fault_follows : (f : StreamFault) → AnswersAs old new (Err f) → ItemsMayFollow old.over (ended (Failed (stream_fault f)))
-  fault_follows f a = by old.over a.3 where
-    by : (o : Option (Option StreamFault)) → RepeatsAs o old new (Err f) → ItemsMayFollow o (ended (Failed (stream_fault f)))
-    by None r = (f, refl)
-    by (Some None) r = absurd (cc r.0)
-    by (Some (Some g)) r = let same : f ≡ g = cc r.0 in ap (λ h. ended (Failed (stream_fault h))) same
-
-  -- behind an item that comes next
-  pub item_before : (i : model.Item) → AnswersAs old new (Ok (Some i)) → (t : Stream) → ItemsMayFollow new.over t → ItemsMayFollow old.over (then_comes i t)
-  item_before i a t m =
-      let q = item_follows i a in
-      subst (λ o. ItemsMayFollow o (then_comes i t)) (sym q.0) (subst (λ o. ItemsMayFollow o t) q.1 m)
-
-  -- behind the end nothing comes
-  pub end_behind : AnswersAs old new (Ok None) → (t : Stream) → ItemsMayFollow new.over t → t ≡ ended Finished
-  end_behind a t m = subst (λ o. ItemsMayFollow o t) a.2 m
+-- behind the end nothing comes
+end_behind : (old new : Seen) → AnswersAs old new (Ok None) → (t : Stream) → MayCome new t → t ≡ ended Finished
+end_behind old new a t m = subst (λ o. MayFollow o new.unread new.whole t) a.2 m
 
 -- the fault of a stream is a command's
 pub of_stream_is : (f : StreamFault) → fault_of (of_stream f) ≡ stream_fault f
@@ -91,97 +55,103 @@ of_stream_is faults.BadNumber = refl
 
 module _ {X : Type 0} (view : X → Bytes) where
   -- the item that is a block
-  pub block_there : (x : X) (over : Option (Option StreamFault)) → Explains view block (ItemsMayCome (Some (model.Data (view x))) over) (ItemsMayCome None over) (Ok x)
+  pub block_there : (x : X) (reader : Seen) → Explains view block (ItemsMayCome (Some (model.Data (view x))) reader) (ItemsMayCome None reader) (Ok x)
   unfolding block_in Explains
-  block_there x over = λ t n. (then_comes (model.Data (view x)) t, (t, n, refl), refl)
+  block_there x reader = λ t n. (then_comes (model.Data (view x)) t, (t, n, refl), refl)
 
   -- the item that is a line
-  pub line_there : (l : Bytes) (over : Option (Option StreamFault)) (new : Stream → Type 0) → Explains view block (ItemsMayCome (Some (model.Line l)) over) new (Err own.BadLine)
+  pub line_there : (l : Bytes) (reader : Seen) (new : Stream → Type 0) → Explains view block (ItemsMayCome (Some (model.Line l)) reader) new (Err own.BadLine)
   unfolding block_in Explains
-  line_there l over new = let some = some_follows over in inr (then_comes (model.Line l) some.0, (some.0, some.1, refl), refl)
+  line_there l reader new = let some = some_come reader in inr (then_comes (model.Line l) some.0, (some.0, some.1, refl), refl)
 
   module _ (old now : Seen) where
     -- the next item is a block
-    pub block_comes : (x : X) → AnswersAs old now (Ok (Some (model.Data (view x)))) → Explains view block (ItemsMayCome None old.over) (ItemsMayCome None now.over) (Ok x)
+    pub block_comes : (x : X) → AnswersAs old now (Ok (Some (model.Data (view x)))) → Explains view block (ItemsMayCome None old) (ItemsMayCome None now) (Ok x)
     unfolding block_in Explains
-    block_comes x a = λ t n. (then_comes (model.Data (view x)) t, item_before old now (model.Data (view x)) a t n, refl)
+    block_comes x a = λ t n. (then_comes (model.Data (view x)) t, a.4 t n, refl)
 
     -- it is a line
-    pub line_comes : (l : Bytes) (new : Stream → Type 0) → AnswersAs old now (Ok (Some (model.Line l))) → Explains view block (ItemsMayCome None old.over) new (Err own.BadLine)
+    pub line_comes : (l : Bytes) (new : Stream → Type 0) → AnswersAs old now (Ok (Some (model.Line l))) → Explains view block (ItemsMayCome None old) new (Err own.BadLine)
     unfolding block_in Explains
-    line_comes l new a = let some = some_follows now.over in inr (then_comes (model.Line l) some.0, item_before old now (model.Line l) a some.0 some.1, refl)
+    line_comes l new a = let some = some_come now in inr (then_comes (model.Line l) some.0, a.4 some.0 some.1, refl)
 
     -- none comes
-    pub end_comes : (new : Stream → Type 0) → AnswersAs old now (Ok None) → Explains view block (ItemsMayCome None old.over) new (Err own.BadLine)
+    pub end_comes : (new : Stream → Type 0) → AnswersAs old now (Ok None) → Explains view block (ItemsMayCome None old) new (Err own.BadLine)
     unfolding block_in Explains
-    end_comes new a = inr (ended Finished, end_follows old now a, refl)
+    end_comes new a = inr (ended Finished, a.4, refl)
 
     -- a fault comes
-    pub fault_comes : (f : StreamFault) (new : Stream → Type 0) → AnswersAs old now (Err f) → Explains view block (ItemsMayCome None old.over) new (Err (of_stream f))
+    pub fault_comes : (f : StreamFault) (new : Stream → Type 0) → AnswersAs old now (Err f) → Explains view block (ItemsMayCome None old) new (Err (of_stream f))
     unfolding block_in Explains
-    fault_comes f new a = inr (ended (Failed (stream_fault f)), fault_follows old now f a, ap (λ g. Err g) (sym (of_stream_is f)))
+    fault_comes f new a = by a.4 where
+      by : (f ≡ faults.OutOfMemory) ⊎ MayCome old (ended (Failed (stream_fault f))) → Explains view block (ItemsMayCome None old) new (Err (of_stream f))
+      by (inl out) = inl (ap of_stream out)
+      by (inr m) = inr (ended (Failed (stream_fault f)), m, ap (λ g. Err g) (sym (of_stream_is f)))
 
 -- ---- the item that comes next, taken or left
 
 module _ {T : Type 0} (post : Item → Result (Option T) CommandFault → Type 0) where
   -- the item that was read ahead is taken
-  pub held_taken : (i : Item) (h : model.Item) → item_of i ≡ h → (over : Option (Option StreamFault)) (x : T) → post i (Ok (Some x))
-      → ExplainsTaken post (ItemsMayCome (Some h) over) (ItemsMayCome None over) (Ok (Some x))
-  held_taken i h e over x read = λ t n. (then_comes h t, (t, n, refl), record { item = i; first = ap (λ j. then_comes j t) (sym e); read = read })
+  pub held_taken : (i : Item) (h : model.Item) → item_of i ≡ h → (reader : Seen) (x : T) → post i (Ok (Some x))
+      → ExplainsTaken post (ItemsMayCome (Some h) reader) (ItemsMayCome None reader) (Ok (Some x))
+  held_taken i h e reader x read = λ t n. (then_comes h t, (t, n, refl), record { item = i; first = ap (λ j. then_comes j t) (sym e); read = read })
 
   -- it stays
-  pub held_left : (i : Item) (h : model.Item) → item_of i ≡ h → (over : Option (Option StreamFault)) → post i (Ok None)
-      → ExplainsTaken post (ItemsMayCome (Some h) over) (ItemsMayCome (Some h) over) (Ok None)
-  held_left i h e over read = λ t m. (m, inr (m.0, record { item = i; first = m.2 ∙ ap (λ j. then_comes j m.0) (sym e); read = read }))
+  pub held_left : (i : Item) (h : model.Item) → item_of i ≡ h → (reader : Seen) → post i (Ok None)
+      → ExplainsTaken post (ItemsMayCome (Some h) reader) (ItemsMayCome (Some h) reader) (Ok None)
+  held_left i h e reader read = λ t m. (m, inr (m.0, record { item = i; first = m.2 ∙ ap (λ j. then_comes j m.0) (sym e); read = read }))
 
   -- it is refused
-  pub held_refused : (i : Item) (h : model.Item) → item_of i ≡ h → (over : Option (Option StreamFault)) (new : Stream → Type 0) (f : CommandFault) → post i (Err f)
-      → ExplainsTaken post (ItemsMayCome (Some h) over) new (Err f)
-  held_refused i h e over new f read =
-      let some = some_follows over in
+  pub held_refused : (i : Item) (h : model.Item) → item_of i ≡ h → (reader : Seen) (new : Stream → Type 0) (f : CommandFault) → post i (Err f)
+      → ExplainsTaken post (ItemsMayCome (Some h) reader) new (Err f)
+  held_refused i h e reader new f read =
+      let some = some_come reader in
       inr (then_comes h some.0, (some.0, some.1, refl), inr (some.0, record { item = i; first = ap (λ j. then_comes j some.0) (sym e); read = read }))
 
   -- it is taken where it is read
-  pub held_read : (i : Item) (h : model.Item) → item_of i ≡ h → (over : Option (Option StreamFault)) (taken : Option T) → is_some taken ≡ true → post i (Ok taken)
-      → ExplainsTaken post (ItemsMayCome (Some h) over) (ItemsMayCome None over) (Ok taken)
-  held_read i h e over None some read = absurd (cc some)
-  held_read i h e over (Some x) some read = held_taken i h e over x read
+  pub held_read : (i : Item) (h : model.Item) → item_of i ≡ h → (reader : Seen) (taken : Option T) → is_some taken ≡ true → post i (Ok taken)
+      → ExplainsTaken post (ItemsMayCome (Some h) reader) (ItemsMayCome None reader) (Ok taken)
+  held_read i h e reader None some read = absurd (cc some)
+  held_read i h e reader (Some x) some read = held_taken i h e reader x read
 
   -- and stays where it is not
-  pub held_unread : (i : Item) (h : model.Item) → item_of i ≡ h → (over : Option (Option StreamFault)) (taken : Option T) → is_some taken ≡ false → post i (Ok taken)
-      → ExplainsTaken post (ItemsMayCome (Some h) over) (ItemsMayCome (Some h) over) (Ok taken)
-  held_unread i h e over None none read = held_left i h e over read
-  held_unread i h e over (Some x) none read = absurd (cc none)
+  pub held_unread : (i : Item) (h : model.Item) → item_of i ≡ h → (reader : Seen) (taken : Option T) → is_some taken ≡ false → post i (Ok taken)
+      → ExplainsTaken post (ItemsMayCome (Some h) reader) (ItemsMayCome (Some h) reader) (Ok taken)
+  held_unread i h e reader None none read = held_left i h e reader read
+  held_unread i h e reader (Some x) none read = absurd (cc none)
 
   module _ (old now : Seen) where
     -- the next item is taken
     pub item_taken : (i : Item) → AnswersAs old now (Ok (Some (item_of i))) → (x : T) → post i (Ok (Some x))
-        → ExplainsTaken post (ItemsMayCome None old.over) (ItemsMayCome None now.over) (Ok (Some x))
-    item_taken i a x read = λ t n. (then_comes (item_of i) t, item_before old now (item_of i) a t n, record { item = i; first = refl; read = read })
+        → ExplainsTaken post (ItemsMayCome None old) (ItemsMayCome None now) (Ok (Some x))
+    item_taken i a x read = λ t n. (then_comes (item_of i) t, a.4 t n, record { item = i; first = refl; read = read })
 
     -- it is kept
     pub item_left : (i : Item) → AnswersAs old now (Ok (Some (item_of i))) → (h : model.Item) → h ≡ item_of i → post i (Ok None)
-        → ExplainsTaken post (ItemsMayCome None old.over) (ItemsMayCome (Some h) now.over) (Ok None)
+        → ExplainsTaken post (ItemsMayCome None old) (ItemsMayCome (Some h) now) (Ok None)
     item_left i a h e read = λ t m.
         let first : t ≡ then_comes (item_of i) m.0 = m.2 ∙ ap (λ j. then_comes j m.0) e in
-        (subst (ItemsMayFollow old.over) (sym first) (item_before old now (item_of i) a m.0 m.1), inr (m.0, record { item = i; first = first; read = read }))
+        (subst (MayCome old) (sym first) (a.4 m.0 m.1), inr (m.0, record { item = i; first = first; read = read }))
 
     -- it is refused
     pub item_refused : (i : Item) → AnswersAs old now (Ok (Some (item_of i))) → (new : Stream → Type 0) (f : CommandFault) → post i (Err f)
-        → ExplainsTaken post (ItemsMayCome None old.over) new (Err f)
+        → ExplainsTaken post (ItemsMayCome None old) new (Err f)
     item_refused i a new f read =
-        let some = some_follows now.over in
-        inr (then_comes (item_of i) some.0, item_before old now (item_of i) a some.0 some.1, inr (some.0, record { item = i; first = refl; read = read }))
+        let some = some_come now in
+        inr (then_comes (item_of i) some.0, a.4 some.0 some.1, inr (some.0, record { item = i; first = refl; read = read }))
 
     -- none comes
-    pub none_left : AnswersAs old now (Ok None) → ExplainsTaken post (ItemsMayCome None old.over) (ItemsMayCome None now.over) (Ok None)
+    pub none_left : AnswersAs old now (Ok None) → ExplainsTaken post (ItemsMayCome None old) (ItemsMayCome None now) (Ok None)
     none_left a = λ t n.
         let end = end_behind old now a t n in
-        (subst (ItemsMayFollow old.over) (sym end) (end_follows old now a), inl end)
+        (subst (MayCome old) (sym end) a.4, inl end)
 
     -- a fault comes
-    pub none_read : (f : StreamFault) → AnswersAs old now (Err f) → (new : Stream → Type 0) → ExplainsTaken post (ItemsMayCome None old.over) new (Err (of_stream f))
-    none_read f a new = inr (ended (Failed (stream_fault f)), fault_follows old now f a, inl (ap (λ g. ended (Failed g)) (sym (of_stream_is f))))
+    pub none_read : (f : StreamFault) → AnswersAs old now (Err f) → (new : Stream → Type 0) → ExplainsTaken post (ItemsMayCome None old) new (Err (of_stream f))
+    none_read f a new = by a.4 where
+      by : (f ≡ faults.OutOfMemory) ⊎ MayCome old (ended (Failed (stream_fault f))) → ExplainsTaken post (ItemsMayCome None old) new (Err (of_stream f))
+      by (inl out) = inl (ap of_stream out)
+      by (inr m) = inr (ended (Failed (stream_fault f)), m, inl (ap (λ g. ended (Failed g)) (sym (of_stream_is f))))
 
 -- the same of a reader that has read an item ahead
 module _ {R A T : Type 0} (post : Item → Result (Option T) CommandFault → Type 0) (old new : Ahead R A) (h : Held A) (i : Item) (before : old.held ≡ Some h) (same : item_of i ≡ shown_held_item h) (taken : Option T) where
@@ -189,15 +159,15 @@ module _ {R A T : Type 0} (post : Item → Result (Option T) CommandFault → Ty
   unfolding MayBeAhead
   ahead_read after some read =
       subst (λ (n : Ahead R A). ExplainsTaken post (MayBeAhead old) (MayBeAhead n) (Ok taken)) (sym after)
-      (subst (λ a. ExplainsTaken post (ItemsMayCome (option_map shown_held_item a) old.items.over) (ItemsMayCome None old.items.over) (Ok taken)) (sym before)
-      (held_read post i (shown_held_item h) same old.items.over taken some read))
+      (subst (λ a. ExplainsTaken post (ItemsMayCome (option_map shown_held_item a) old.items) (ItemsMayCome None old.items) (Ok taken)) (sym before)
+      (held_read post i (shown_held_item h) same old.items taken some read))
 
   pub ahead_unread : new ≡ old → is_some taken ≡ false → post i (Ok taken) → ExplainsTaken post (MayBeAhead old) (MayBeAhead new) (Ok taken)
   unfolding MayBeAhead
   ahead_unread after none read =
       subst (λ (n : Ahead R A). ExplainsTaken post (MayBeAhead old) (MayBeAhead n) (Ok taken)) (sym after)
-      (subst (λ a. ExplainsTaken post (ItemsMayCome (option_map shown_held_item a) old.items.over) (ItemsMayCome (option_map shown_held_item a) old.items.over) (Ok taken)) (sym before)
-      (held_unread post i (shown_held_item h) same old.items.over taken none read))
+      (subst (λ a. ExplainsTaken post (ItemsMayCome (option_map shown_held_item a) old.items) (ItemsMayCome (option_map shown_held_item a) old.items) (Ok taken)) (sym before)
+      (held_unread post i (shown_held_item h) same old.items taken none read))
 
 -- ---- a fault, by what it may be of
 

@@ -6,8 +6,8 @@ use Rattle.gx_model.specs.Texts.{Bytes}
 use Rattle.gx_model.specs.Streams.Items as model
 use Rattle.gx_model.specs.Streams.Items.{Stream, then_comes, Finished, Failed}
 use Rattle.gx_model.specs.Streams.Lines.{Read, rest_line}
-use Rattle.gx_stream.specs.Faults.{IsEnd, ended, shown_end}
-use Rattle.gx_stream.specs.declared.fault.StreamFault.{StreamFault}
+use Rattle.gx_stream.specs.Faults.{ended}
+use Rattle.gx_stream.specs.Reading.{Seen, MayCome}
 use Rattle.gx_stream.specs.declared.item.Item.{Item}
 use Rattle.gx_command.specs.Ahead.{ReadNext, ReadRest, shown_held_item}
 use Rattle.gx_command.specs.CommandFaults.{fault_of}
@@ -15,19 +15,14 @@ use Rattle.gx_command.specs.declared.fault.CommandFault.{CommandFault}
 use Rattle.gx_command.specs.declared.fault.CommandFault.TheVariants.{OutOfMemory}
 use Rattle.gx_command.specs.declared.ahead.Ahead.{Ahead}
 
--- what a reader of items may still give: any items, with an end of its own; or where it is over, no item and its last answer
-abbrev pub ItemsMayFollow : Option (Option StreamFault) → Stream → Type 0
-ItemsMayFollow None s = IsEnd s.end
-ItemsMayFollow (Some last) s = s ≡ ended (shown_end last)
-
--- the same behind an item that was read ahead
-abbrev pub ItemsMayCome : Option model.Item → Option (Option StreamFault) → Stream → Type 0
-ItemsMayCome None over s = ItemsMayFollow over s
-ItemsMayCome (Some held) over s = (left : Stream) × ItemsMayFollow over left × (s ≡ then_comes held left)
+-- these items may come of a reader of items, behind the one that was read ahead
+abbrev pub ItemsMayCome : Option model.Item → Seen → Stream → Type 0
+ItemsMayCome None items s = MayCome items s
+ItemsMayCome (Some held) items s = (left : Stream) × MayCome items left × (s ≡ then_comes held left)
 
 -- these items may be ahead
 unfoldable pub MayBeAhead : {R A : Type 0} → Ahead R A → Stream → Type 0
-MayBeAhead a s = ItemsMayCome (option_map shown_held_item a.held) a.items.over s
+MayBeAhead a s = ItemsMayCome (option_map shown_held_item a.held) a.items s
 
 -- Whatever may come behind, there are items that may have come before, of which the definition gives the answer, seen so,
 -- and those behind. A fault other than want of memory is what it gives of some.

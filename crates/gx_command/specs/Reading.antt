@@ -6,15 +6,14 @@ use Rattle.gx_model.specs.declared.features.Features.{Features}
 use Rattle.gx_model.specs.declared.faults.Fault.TheVariants as faults
 use Rattle.gx_model.specs.Faults.{◌>>=◌}
 use Rattle.gx_model.specs.Streams.Gitlinks.{BringsNoNullGitlink}
-use Rattle.gx_model.specs.Streams.Items.{Item, Stream}
+use Rattle.gx_model.specs.Streams.Items.{Item, Stream, items_of}
 use Rattle.gx_model.specs.Streams.Commands as model
 use Rattle.gx_model.specs.Streams.Commands.{Commands, no_features}
 use Rattle.gx_model.specs.Streams.Grammar.{commands_asked, commands_within, is_done, is_option, asks_done, stops, with_command}
 use Rattle.gx_model.specs.Streams.Lines.{Read}
 use Rattle.gx_text.specs.Devices.{Coming}
-use Rattle.gx_stream.specs.Faults.{IsEnd}
 use Rattle.gx_stream.specs.Heard.{items_from}
-use Rattle.gx_stream.specs.declared.fault.StreamFault.{StreamFault}
+use Rattle.gx_stream.specs.Reading as stream
 use Rattle.gx_command.specs.CommandFaults.{fault_of}
 use Rattle.gx_command.specs.Explaining.{ItemsMayCome}
 use Rattle.gx_command.specs.Heads.{first}
@@ -27,11 +26,11 @@ use Rattle.gx_command.specs.declared.reader.State.{State}
 use Rattle.gx_command.specs.declared.reader.State.TheVariants.{Open, Ended, Failed}
 
 -- What is known of what comes, whatever the source tells: commands that stand for those that came before, the item that was
--- read ahead, and where the items are over, how.
+-- read ahead, and the reader of items.
 pub record Known : Type 0 where
   pub before : List model.Command
   pub held : Option Item
-  pub last : Option (Option StreamFault)
+  pub reader : stream.Seen
 
 -- What a reader is seen as: the commands still to come with their fault, where the source tells its bytes, a bound on
 -- how many may come, where it is over, how: at the end, or at a fault; and what is known without the source's bytes.
@@ -41,9 +40,9 @@ pub record Seen : Type 0 where
   pub over : Option (Option CommandFault)
   pub known : Known
 
--- the commands of some items with an end of a reader of items, where these features are asked for as if it began with them
+-- the commands of some text's items, where these features are asked for as if it began with them
 abbrev pub AreOfItems : Features → Commands → Type 0
-AreOfItems f commands = (s : Stream) × IsEnd s.end × (commands ≡ commands_asked f s)
+AreOfItems f commands = (c : Coming) × (commands ≡ commands_asked f (items_of c.bytes c.fails))
 
 -- the commands of all that a source gives, where these features are asked for as if it began with them
 abbrev pub commands_asked_from : Features → Coming → Commands
@@ -134,19 +133,19 @@ known_before Ended = []
 known_before (Failed f) = []
 
 -- a reader in this state, ahead of which these items come, and at most so many, behind the one that was read ahead
-abbrev pub seen_commands : State → Option Stream → ℕ → Option Item → Option (Option StreamFault) → Seen
-seen_commands state items bound held last = record {
+abbrev pub seen_commands : State → Option Stream → ℕ → Option Item → stream.Seen → Seen
+seen_commands state items bound held reader = record {
   commands = shown_commands state items;
   most = most_of state bound;
   over = over_of state;
-  known = record { before = known_before state; held = held; last = last };
+  known = record { before = known_before state; held = held; reader = reader };
 }
 
 -- ---- what may still come, whatever the source tells
 
 -- the commands of some items behind what is known, or where the reader is over, none and its last answer
 abbrev pub MayFollow : Option (Option CommandFault) → Known → Commands → Type 0
-MayFollow None known commands = (s : Stream) × ItemsMayCome known.held known.last s × (commands ≡ commands_after known.before s)
+MayFollow None known commands = (s : Stream) × ItemsMayCome known.held known.reader s × (commands ≡ commands_after known.before s)
 MayFollow (Some None) known commands = commands ≡ stops None
 MayFollow (Some (Some f)) known commands = commands ≡ stops (Some (fault_of f))
 

@@ -2,8 +2,9 @@
 
 ghost use Rattle.std.specs.Prelude.{◌≡◌, ◌-◌, ◌^◌, IfOk, None};
 ghost use Rattle.std.specs.Option.{option_map};
+ghost use Rattle.gx_model.specs.Streams.Items.{Stream};
 ghost use Rattle.gx_stream.specs.Heard.{items_from};
-ghost use Rattle.gx_stream.specs.Reading.{item_of};
+ghost use Rattle.gx_stream.specs.Reading.{AreOfText, MayCome, item_of};
 ghost use Rattle.gx_command.specs.Ahead.{AnswersRest, Takes, TakesLine, Falls, to_come, most, shown_held_item};
 ghost use Rattle.gx_command.specs.Explaining.{ExplainsLine, ExplainsTaken, MayBeAhead};
 
@@ -55,7 +56,7 @@ impl<R: Source, A: Allocator + Copy> Ahead<R, A> {
         ensures comes { to_come result ≡ option_map items_from (R.coming source) }
         ensures most { most result ≡ 2 ^ 63 - 1 }
         ensures held { result.held ≡ None }
-        ensures over { result.items.over ≡ None }
+        ensures explains { (items : Stream) → MayCome result.items items → AreOfText items }
     {
         Ahead {
             alloc,

@@ -49,7 +49,7 @@ impl<R: Source, A: Allocator> Model for CommandReader<R, A> {
 
     ghost Value = { Seen };
 
-    ghost view = { λ r. seen_commands r.state (to_come r.ahead) (most r.ahead) (option_map shown_held_item r.ahead.held) r.ahead.items.over };
+    ghost view = { λ r. seen_commands r.state (to_come r.ahead) (most r.ahead) (option_map shown_held_item r.ahead.held) r.ahead.items };
 }
 
 impl<R: Source, A: Allocator + Copy> CommandReader<R, A> {

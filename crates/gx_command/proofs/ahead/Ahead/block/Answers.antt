@@ -9,13 +9,13 @@ pub returns-in-Some-Data-clause-explains : goal.returns-in-Some-Data-clause-expl
 unfolding MayBeAhead Explains
 returns-in-Some-Data-clause-explains g c =
     let before : c.args.self.now.held ≡ Some (held.Data c.in-Some-Data.bytes) = sym c.take.ensures.value ∙ c.in-Some-Data.is ∙ ap (λ h. Some h) c.in-Some-Data.field-0-is in
-    rw (before, c.take.ensures.after) (block_there {X = Vec ℕ g.row.A.Denot} (λ v. v.items) c.in-Some-Data.bytes c.args.self.now.items.over)
+    rw (before, c.take.ensures.after) (block_there {X = Vec ℕ g.row.A.Denot} (λ v. v.items) c.in-Some-Data.bytes c.args.self.now.items)
 
 pub returns-in-Some-Line-clause-explains : goal.returns-in-Some-Line-clause-explains
 unfolding MayBeAhead Explains
 returns-in-Some-Line-clause-explains g c =
     let before : c.args.self.now.held ≡ Some (held.Line c.in-Some-Line.field-0-0) = sym c.take.ensures.value ∙ c.in-Some-Line.is ∙ ap (λ h. Some h) c.in-Some-Line.field-0-is in
-    rw before (line_there {X = Vec ℕ g.row.A.Denot} (λ v. v.items) c.in-Some-Line.field-0-0.items c.args.self.now.items.over (λ s. Unit {0}))
+    rw before (line_there {X = Vec ℕ g.row.A.Denot} (λ v. v.items) c.in-Some-Line.field-0-0.items c.args.self.now.items (λ s. Unit {0}))
 
 pub returns-in_err-bytes-clause-explains : goal.returns-in_err-bytes-clause-explains
 unfolding MayBeAhead Explains

@@ -21,7 +21,7 @@ unfolding MayBeAhead
 returns-in_err-taken-clause-explains g c =
     let before : c.args.self.now.held ≡ Some c.in-Some.held = search rules in
     let p = err_from_is_err_and c.from_residual.result c.from_residual.ensures.1 in
-    rw (p.1, p.2, before) (held_refused _ c.lent.result (shown_held_item c.in-Some.held) c.lent.ensures c.args.self.now.items.over (λ s. Unit {0}) c.in_err-taken.field-0.0 c.in_err-taken.ensures)
+    rw (p.1, p.2, before) (held_refused _ c.lent.result (shown_held_item c.in-Some.held) c.lent.ensures c.args.self.now.items (λ s. Unit {0}) c.in_err-taken.field-0.0 c.in_err-taken.ensures)
 
 pub returns-in-Some-clause-explains : goal.returns-in-Some-clause-explains
 returns-in-Some-clause-explains g c =

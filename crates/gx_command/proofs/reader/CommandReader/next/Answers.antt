@@ -1,4 +1,6 @@
 use Rattle.std.proofs.Common.{ap, refl}
+use Rattle.std.specs.Option.{option_map}
+use Rattle.gx_command.specs.Ahead.{shown_held_item}
 use Rattle.gx_command.specs.Reading.{Seen}
 use Rattle.gx_command.proofs.BroughtGitlinks.{none_brought}
 use Rattle.gx_command.proofs.NextCommands.{reads_some, reads_none, reads_fault, over_some, repeats_failed, repeats_none}
@@ -51,10 +53,10 @@ pub returns-in-Ok-None-clause-explains : goal.returns-in-Ok-None-clause-explains
 unfolding MayBeAhead
 returns-in-Ok-None-clause-explains g c =
     let view = rw c.in-Open.is at c.self.view_is in
-    seen_end c.in-Open.options _ _ _ _ _ _ _ view g.row.A.Denot (rw c.in-Ok-None.field-0-is at c.in-Ok-None.ensures.explains)
+    seen_end c.in-Open.options _ (option_map shown_held_item c.next_command.new.ahead.held) _ c.next_command.new.ahead.items _ _ _ view g.row.A.Denot (rw c.in-Ok-None.field-0-is at c.in-Ok-None.ensures.explains)
 
 pub returns-in-Err-clause-explains : goal.returns-in-Err-clause-explains
 unfolding MayBeAhead
 returns-in-Err-clause-explains g c =
     let view = rw c.in-Open.is at c.self.view_is in
-    seen_failure c.in-Open.options _ _ _ _ _ _ _ view g.row.A.Denot c.in-Err.fault c.in-Err.ensures.explains
+    seen_failure c.in-Open.options _ (option_map shown_held_item c.next_command.new.ahead.held) _ c.next_command.new.ahead.items _ _ _ view g.row.A.Denot c.in-Err.fault c.in-Err.ensures.explains

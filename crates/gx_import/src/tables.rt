@@ -5,10 +5,10 @@ ghost use Rattle.std.specs.FinMap.Entries.{put};
 ghost use Rattle.gx_model.specs.Texts.{byte_cmp};
 ghost use Rattle.gx_import.specs.AtHand.{IsEntered};
 ghost use Rattle.gx_import.specs.Rows.{AreRows};
-ghost use Rattle.gx_import.specs.Standing.{AreEmpty, IsTaken, tip_at};
+ghost use Rattle.gx_import.specs.Standing.{AreEmpty, IsTaken, is_published, tip_at};
 
 use crate::at_hand::AtHand;
-use crate::branches::{Tip, is_published, take_files};
+use crate::branches::{Tip, take_files};
 use crate::marks::Marks;
 use crate::table::Table;
 use gx_object::Name;
@@ -63,11 +63,11 @@ impl<A: Allocator + Copy> Tables<A> {
             ≡ put byte_cmp branch.items (tip_at commit files self.old.branches branch.items) self.old.branches) }
         ensures entered { OnOk result (IsEntered self.new.at_hand branch.items commit files) }
     {
-        self.forget_tip(branch.as_slice());
+        let was_published = self.forget_tip(branch.as_slice());
         let tip = Tip {
             commit,
             files,
-            was_published: is_published(&self.branches, branch.as_slice()),
+            was_published,
         };
         self.enter_tip(branch.as_slice(), &tip)?;
         self.branches.set(branch, tip)
@@ -88,15 +88,18 @@ impl<A: Allocator + Copy> Tables<A> {
         take_files(&mut self.branches, branch.as_slice(), &commit);
     }
 
-    /// Forgets the commit at which a branch has files at hand.
-    fn forget_tip(&mut self, branch: &[u8])
-        ensures { self.new ≡ record self.old { at_hand = self.new.at_hand } }
+    /// Forgets the commit at which a branch has files at hand, and answers whether the branch was published with a commit.
+    fn forget_tip(&mut self, branch: &[u8]) -> bool
+        ensures others { self.new ≡ record self.old { at_hand = self.new.at_hand } }
+        ensures published { result ≡ is_published self.old.branches branch.now }
     {
-        if let Some(tip) = self.branches.get(branch) {
-            if let Some(commit) = tip.commit {
-                self.at_hand.forget(&commit, branch);
-            }
+        let Some(tip) = self.branches.get(branch) else {
+            return false;
+        };
+        if let Some(commit) = tip.commit {
+            self.at_hand.forget(&commit, branch);
         }
+        tip.was_published
     }
 
     /// Enters the commit of a branch, where its files are at hand.

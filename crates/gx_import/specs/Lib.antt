@@ -20,3 +20,4 @@ pub mod Keeping
 pub mod Replaying
 pub mod Exported
 pub mod Stopping
+pub mod Faults

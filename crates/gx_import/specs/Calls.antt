@@ -1,17 +1,19 @@
 -- What the calls of an import do, from each state of the replay that the repository and the tables stand for.
 -- Source: git-fast-import(1), "Commands".
-use Rattle.std.specs.Prelude.{◌≡◌, ◌||◌, ℕ, List, [], ◌∷◌, map, Bool, Option, Some, Result, Ok, IfOk}
+use Rattle.std.specs.Prelude.{◌≡◌, ◌||◌, ℕ, List, [], ◌∷◌, map, Bool, ◌≢◌, Option, Some, None, Result, Ok, Err, IfOk, ⊤}
 use Rattle.std.specs.Map.{lookup}
 use Rattle.std.specs.Option.{option_map}
 use Rattle.std.specs.declared.vec.Vec.{Vec}
 use Rattle.gx_model.specs.declared.objects.Kind.{Kind}
+use Rattle.gx_model.specs.declared.objects.Kind.TheVariants as kinds
 use Rattle.gx_model.specs.declared.objects.Mode.{Mode}
 use Rattle.gx_model.specs.Texts.{Bytes, same_bytes}
 use Rattle.gx_model.specs.Faults.{◌>>=◌}
 use Rattle.gx_model.specs.Histories.Files.{FileMap}
 use Rattle.gx_model.specs.Histories.Values.{Commit, Value, commit, commit_value, commits_of, tag_value}
 use Rattle.gx_model.specs.Records.{name_of, named_map}
-use Rattle.gx_model.specs.Histories.{Record, Records}
+use Rattle.gx_model.specs.Histories.{Record, Records, record_for}
+use Rattle.gx_model.specs.Records.Growth.{put, record_named}
 use Rattle.gx_model.specs.Records.HistoryOf.{history_of, target_in, value_of_name}
 use Rattle.gx_model.specs.Revisions.Denotation as denoted
 use Rattle.gx_model.specs.Revisions.Denotation.{value_denoted}
@@ -24,6 +26,7 @@ use Rattle.gx_model.specs.Laws.RepositoryLaws.{values_of}
 use Rattle.gx_model.specs.Replay as replay
 use Rattle.gx_model.specs.Replay.{State, added, all_changed, all_committed, changed, content, first_parent, marked, on_branch, own_commit, starting_files, step, step_reset, text_made, with_first_parent}
 use Rattle.gx_command.specs.Views.{commit_parts, shown_change, shown_commit_ish, shown_data, tag_parts}
+use Rattle.gx_command.specs.declared.commands.Blob.{Blob}
 use Rattle.gx_command.specs.declared.commands.Change.{Change}
 use Rattle.gx_command.specs.declared.commands.Commit.{Commit as CommitCommand}
 use Rattle.gx_command.specs.declared.commands.CommitIsh.{CommitIsh}
@@ -40,6 +43,7 @@ use Rattle.gx_import.specs.Rows.{AreAll, AreBoth}
 use Rattle.gx_import.specs.Standing.{AreTipsAtHome, Follows, HasFilesOf, IsContentName, Stands}
 use Rattle.gx_import.specs.Steps.{bytes_held, optional_commit, value_named}
 use Rattle.gx_model.specs.declared.faults.Fault.{Fault}
+use Rattle.gx_model.specs.declared.faults.Fault.TheVariants.{OutOfMemory}
 use Rattle.gx_import.specs.declared.object.Object.{Object}
 use Rattle.gx_import.specs.declared.tables.Tables.{Tables}
 
@@ -158,6 +162,13 @@ module _ {N : Type 0} (names : N → Kind → Bytes → Bytes) {A : Type 0} wher
       → IfOk answer (λ files. files.files ≡ named_map (names repository.0) (starting_files made))
 
   -- ---- what is added
+
+  -- Want of memory hides no blob's clash with another object, nor a blob that is held and gets no mark.
+  abbrev pub HidesNoBlob : {X : Type 0} → Repository N → Blob A → Result X Fault → Type 0
+  HidesNoBlob repository blob (Err OutOfMemory) =
+      (put repository.1.records (record_for (names repository.0) kinds.Blob blob.bytes.items) ≢ None)
+      × (blob.mark ≡ None → record_named repository.1.records (names repository.0 kinds.Blob blob.bytes.items) ≡ None)
+  HidesNoBlob repository blob answer = ⊤
 
   -- a commit with these files and parents, and its trees
   abbrev pub AddsWithTrees : Repository N → Repository N → NamedTree → List Name → CommitCommand A → Result Name Fault → Type 0

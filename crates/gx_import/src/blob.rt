@@ -3,7 +3,7 @@
 ghost use Rattle.std.specs.Prelude.{◌≡◌};
 ghost use Rattle.gx_command.specs.Views.{shown_blob};
 ghost use Rattle.gx_import.specs.Standing.{OnlyAdds};
-ghost use Rattle.gx_import.specs.Calls.{Makes};
+ghost use Rattle.gx_import.specs.Calls.{HidesNoBlob, Makes};
 
 use crate::ImportKind;
 use crate::object::Object;
@@ -23,6 +23,7 @@ pub(crate) fn apply_blob<N: Namer, A: Allocator + Copy>(
     ensures branches { tables.new.branches ≡ tables.old.branches }
     ensures loaded { tables.new.loaded ≡ tables.old.loaded }
     ensures only { OnlyAdds repo.old repo.new }
+    ensures hidden { HidesNoBlob N.name_of repo.old blob result }
     ensures steps { Makes N.name_of repo.old repo.new tables.old tables.new (shown_blob blob) result }
 {
     repo.sound();

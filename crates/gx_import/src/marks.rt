@@ -1,6 +1,6 @@
 //! The objects that marks stand for. Source: git-fast-import(1), "mark".
 
-ghost use Rattle.std.specs.Prelude.{◌≡◌, ℕ, None, OnOk};
+ghost use Rattle.std.specs.Prelude.{◌≡◌, ℕ, None, IsOk, OnOk};
 ghost use Rattle.gx_import.specs.Marks.{SetsMark, object_at, object_or_fault};
 
 use crate::ImportKind;
@@ -42,7 +42,8 @@ impl<A: Allocator + Copy> Marks<A> {
         mark: Option<u64>,
         object: Object,
     ) -> Result<(), AllocFailed<(u64, Object)>>
-        ensures { OnOk result (SetsMark mark object self.old self.new) }
+        ensures sets { OnOk result (SetsMark mark object self.old self.new) }
+        ensures unmarked { mark ≡ None → IsOk result }
     {
         if let Some(number) = mark {
             self.objects.insert(number, object)?;

@@ -12,5 +12,5 @@ returns-clause-homes g c = λ name records home homes.
 
 pub returns-clause-steps : goal.returns-clause-steps
 returns-clause-steps g c = λ name repository s made h is files.
-    commit_set name repository c.args.tables.now s s (record { stands = h; progress = refl; held = refl }) made c.args.name is.stands is.named c.args.mark c.set.new.self _ refl refl c.in_ok-set.ensures c.args.branch.bytes.items c.args.branch.proper
+    commit_set name repository c.args.tables.now s s (record { stands = h; progress = refl; held = refl }) made c.args.name is.stands is.named c.args.mark c.set.new.self _ refl refl c.in_ok-set.ensures.sets c.args.branch.bytes.items c.args.branch.proper
     c.unless_held-files.result (kept_files name made c.args.files c.unless_held-files.result c.unless_held-files.ensures files) _ c.set_tip.ensures.others c.in_ok-set_tip.ensures.branches

@@ -48,7 +48,7 @@ returns-clause-steps g c = λ s h.
     let ref = c.in_ok-tag_ref.ensures ∙ ap tag_ref c.as_slice.ensures.value in (
       tagged t v (added (tag_value v) s),
       tag_step name s t ∙ ap (λ o. o >>= tag_next t s) d.1,
-      tag_set name c.add.new.repo.1 c.args.tables.now s (added (tag_value v) s) f v called (one_has s.history.values (tag_value v)) a.2.1 t.mark c.set.new.self _ refl refl c.in_ok-set.ensures c.set-2.new.self
+      tag_set name c.add.new.repo.1 c.args.tables.now s (added (tag_value v) s) f v called (one_has s.history.values (tag_value v)) a.2.1 t.mark c.set.new.self _ refl refl c.in_ok-set.ensures.sets c.set-2.new.self
           (c.in_ok-set-2.ensures ∙ ap (λ n. put byte_cmp n called c.args.tables.now.tags) ref),
     )
 

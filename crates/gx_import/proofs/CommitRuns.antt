@@ -24,7 +24,7 @@ use Rattle.gx_import.specs.Additions.{Clash, added_by_commit, blobs_added, commi
 use Rattle.gx_import.specs.Answers.{AddsAs}
 use Rattle.gx_import.specs.Asking.{Reference, TellsVain}
 use Rattle.gx_import.specs.Calls.{SetsCommit}
-use Rattle.gx_import.specs.Explaining.{Tells}
+use Rattle.gx_import.specs.Explaining.{Tells, TellsNoChange}
 use Rattle.gx_import.specs.declared.explanation.Asked.{Asked}
 use Rattle.gx_import.specs.declared.explanation.Explanation.{Explanation}
 use Rattle.gx_import.specs.Objects.{IsCommitOf}
@@ -104,7 +104,7 @@ module _ (name : Kind → Bytes → Bytes) {A : Type 0} (r mid new : Records) (b
         (λ (u : State) (called : Name). Follows name new tables m.0.0 u × (called.bytes ≡ name_of name (commit_value v))) Be e (added_as (Err e) adds))
 
     -- and no change is told
-    pub add_told : {B : Type 0} (e : Fault) → AddGives name A mid new stop parents t (Err e) → (told : Explanation B) → told.change ≡ None → Tells name {X = Unit {0}} s (command.Commit t) (Err e) told
+    pub add_told : {B : Type 0} (e : Fault) → AddGives name A mid new stop parents t (Err e) → (told : Explanation B) → TellsNoChange told → Tells name {X = Unit {0}} s (command.Commit t) (Err e) told
     add_told e adds told blank = adding_told name {X = Name} {Y = State} s (command.Commit t) told blank (Clash name (values_of mid) (commit_added m.0.1 v))
         (λ u called. Follows name new tables m.0.0 u × (called.bytes ≡ name_of name (commit_value v))) e (added (commit_value v) m.0.0) (added_as (Err e) adds)
 

@@ -25,7 +25,7 @@ use Rattle.gx_command.specs.CommandFaults.{fault_of as of_command}
 use Rattle.gx_command.specs.declared.fault.CommandFault.{CommandFault}
 use Rattle.gx_command.specs.declared.fault.CommandFault.TheVariants as reader
 use Rattle.gx_import.specs.Asking.{AsksInVain, TellsVainIn, is_of_reference}
-use Rattle.gx_import.specs.Explaining.{Tells, TellsAll}
+use Rattle.gx_import.specs.Explaining.{Tells, TellsAll, TellsNoChange}
 use Rattle.gx_import.specs.Losing.{IsLoss, LosesCommit, TellsLoss, TellsLossAt, TellsLossBy}
 use Rattle.gx_import.specs.Objects.{IsCommitOf}
 use Rattle.gx_import.specs.Rows.{AreBoth}
@@ -81,14 +81,14 @@ module _ (name : Kind → Bytes → Bytes) {A : Type 0} (s : State) where
   at_checkpoint fault (Some loss) h = (refl, h.0, h.1)
 
   -- all that is told of a checkpoint
-  pub checkpoint_told : {X : Type 0} (told : Explanation A) → told.change ≡ None → told.asked ≡ None → (r : Result X Fault) → TellsLossAt name s r told.loss → IfErr r (λ e. is_of_reference e ≡ false) → TellsAll name s Checkpoint r told
-  checkpoint_told told blank unasked (Ok x) h free = record { change = blank; asked = unasked; loss = h }
+  pub checkpoint_told : {X : Type 0} (told : Explanation A) → TellsNoChange told → told.asked ≡ None → (r : Result X Fault) → TellsLossAt name s r told.loss → IfErr r (λ e. is_of_reference e ≡ false) → TellsAll name s Checkpoint r told
+  checkpoint_told told blank unasked (Ok x) h free = record { change = blank.0; path = blank.1; asked = unasked; loss = h }
   checkpoint_told told blank unasked (Err e) h free =
       (none_told name s Checkpoint e told blank (inr (inr (λ number path none. none))), at_checkpoint e told.loss h, none_vain (AsksInVain name s Checkpoint e) e told.asked unasked free)
 
   -- and of another command
   pub all_told : {X : Type 0} (c : Command) → (c ≡ Checkpoint → ⊥) → (told : Explanation A) (r : Result X Fault) → Tells name s c r told → told.loss ≡ None → TellsVainIn (AsksInVain name s c) r told.asked → TellsAll name s c r told
-  all_told c other told (Ok x) h blank asked = record { change = h; asked = asked; loss = blank }
+  all_told c other told (Ok x) h blank asked = record { change = h.0; path = h.1; asked = asked; loss = blank }
   all_told c other told (Err e) h blank asked = (h, none_lost_by c e told.loss blank (λ is. absurd (other is)), asked)
 
 module _ (name : Kind → Bytes → Bytes) (namer : IsNamer name) (r : Records) (sound : IsSound name r) where

@@ -17,9 +17,13 @@ use Rattle.gx_model.specs.Texts.Sinks.{Taken}
 use Rattle.gx_text.specs.Devices.{Coming}
 use Rattle.gx_stream.specs.Heard.{heard}
 use Rattle.gx_command.specs.Reading.{commands_asked_from}
+use Rattle.gx_import.specs.Explaining.{TellsNoChange}
+use Rattle.gx_import.specs.Losing.{TellsLoss}
+use Rattle.gx_import.specs.declared.explanation.Explanation.{Explanation}
 use Rattle.gx_import.specs.Imports.{Imports, Leaves, Replays, StandsForIts, StandsForReplay, last_number, only, progress_of, replayed_on, report_of}
 use Rattle.gx_import.specs.Publishing.{Publishes}
 use Rattle.gx_import.specs.Replaying.{EndsAs, IsLast}
+use Rattle.gx_import.specs.Retelling.{IsOfOneReplay}
 use Rattle.gx_import.specs.Standing.{Extends}
 use Rattle.gx_import.specs.declared.report.Report.{Report}
 use Rattle.gx_import.specs.declared.tables.Tables.{Tables}
@@ -99,6 +103,17 @@ module _ (asks : Features) (name : Kind → Bytes → Bytes) where
   imports_none old new last tables (Some coming) n s was now k count leaves e h =
       subst (λ o. Replays asks name old new (commands_asked_from asks coming) o was now (Err (record { command = n + 1; kind = e; checkpoints = count }))) (sym (imported_is asks name (history_of old) coming))
       (not_published old new last tables (commands_asked_from asks coming) n s was now k count leaves e h)
+
+  -- the same where the source tells nothing, with what is told of it
+  pub one_last : {A B : Type 0} (old new last : Records) (tables : Tables A) (n : ℕ) (s : State) (was now : Option Taken) → EndsAs asks name old None n s was now → (count : ℕ) → Leaves new count s.kept → (e : Fault) → Publishes name s last tables (Err e)
+      → (told : Explanation B) → TellsNoChange told × TellsLoss name s e told.loss × (told.asked ≡ None)
+      → IsOfOneReplay asks name old new was now (Err (record { command = n + 1; kind = e; checkpoints = count })) told
+  one_last old new last tables n s was now k count leaves e h told tells = (
+    only k.0,
+    k.2,
+    not_published old new last tables (only k.0) n s was now k.1 count leaves e h,
+    record { before = k.0; after = []; all = sym (append-nil k.0); number = sym (ap (λ m. m + 1) k.1.count); state = s; reached = k.1.reached; tells = tells },
+  )
 
   -- the new repository stands for the history of the replay
   stands_for : (new : Records) (outcome : Outcome) (text : Bytes) (report : model.Report) → HistoriesOf name → IsSound name new → outcome ≡ finished (history_of new) text report → StandsForIts name outcome new

@@ -30,7 +30,7 @@ use Rattle.gx_import.specs.Additions.{ClashesAt}
 use Rattle.gx_import.specs.Applying.{Applies}
 use Rattle.gx_command.specs.CommandFaults.{fault_of as of_command}
 use Rattle.gx_import.specs.Asking.{AsksInVain}
-use Rattle.gx_import.specs.Explaining.{ExplainsFault, HasNoneRefused, HasRefused, TellsAll, TellsNext, TellsNothing}
+use Rattle.gx_import.specs.Explaining.{ExplainsFault, HasNoneRefused, HasRefused, TellsAll, TellsNext, TellsNoChange, TellsNothing}
 use Rattle.gx_import.specs.Losing.{TellsLoss}
 use Rattle.gx_import.proofs.AskedReferences.{none_vain}
 use Rattle.gx_import.proofs.Losses.{memory_forward, none_lost, none_lost_by, read_forward}
@@ -39,6 +39,7 @@ use Rattle.std.specs.Prelude.{MatchOption}
 use Rattle.gx_import.specs.Imports.{Imports, IsCutAt, Leaves, LeavesBefore, Replays, cut_off, last_number, line_of, only, progress_of, replayed_on}
 use Rattle.gx_import.specs.Reading.{GivesNext, IsAskedOf}
 use Rattle.gx_import.specs.Replaying.{EndsAs, IsLast}
+use Rattle.gx_import.specs.Retelling.{IsOfOneReplay}
 use Rattle.gx_import.specs.Objects.{IsOf, IsTagOf}
 use Rattle.gx_import.specs.Rows.{AreBoth, AreRows}
 use Rattle.gx_import.specs.Standing.{AreEmpty, IsTip, Stands}
@@ -282,9 +283,9 @@ module _ (asks : Features) (name : Kind → Bytes → Bytes) where
 
   -- where memory ran out, nothing needs to be told of the next command
   memory_told : {B : Type 0} (s : State) (left : List Command) (explanation : Explanation B) → TellsNothing explanation → TellsNext name s left OutOfMemory explanation
-  memory_told s [] explanation blank = (blank.change, none_lost name s OutOfMemory explanation.loss blank.loss memory_forward, blank.asked)
+  memory_told s [] explanation blank = ((blank.change, blank.path), none_lost name s OutOfMemory explanation.loss blank.loss memory_forward, blank.asked)
   memory_told s (c ∷ cs) explanation blank = (
-    subst (λ o. MatchOption o (HasNoneRefused name s c OutOfMemory) (λ number. HasRefused name s c OutOfMemory number explanation.path)) (sym blank.change) (inl refl),
+    subst (λ o. MatchOption o (HasNoneRefused name s c OutOfMemory × (explanation.path ≡ None)) (λ number. HasRefused name s c OutOfMemory number explanation.path)) (sym blank.change) (inl refl, blank.path),
     none_lost_by name s c OutOfMemory explanation.loss blank.loss (λ is. memory_forward),
     none_vain (AsksInVain name s c OutOfMemory) OutOfMemory explanation.asked blank.asked refl,
   )
@@ -299,7 +300,7 @@ module _ (asks : Features) (name : Kind → Bytes → Bytes) where
             let some = some_follow ahead.over ahead.known in
             let memory : OutOfMemory ≡ of_command f = sym (ap of_command e) in
             (behind k.0 some.0, k.2 some.0 some.1, record { before = k.0; after = some.0.list; all = refl; number = sym (ap (λ m. m + 1) k.1.count); state = s; reached = k.1.reached; tells = subst (λ g. TellsNext name s some.0.list g explanation) memory (memory_told s some.0.list explanation blank) })
-        | inr m ↦ (behind k.0 (stops (Some (of_command f))), k.2 (stops (Some (of_command f))) m, record { before = k.0; after = []; all = refl; number = sym (ap (λ m. m + 1) k.1.count); state = s; reached = k.1.reached; tells = (blank.change, none_lost name s (of_command f) explanation.loss blank.loss (read_forward f), blank.asked) })
+        | inr m ↦ (behind k.0 (stops (Some (of_command f))), k.2 (stops (Some (of_command f))) m, record { before = k.0; after = []; all = refl; number = sym (ap (λ m. m + 1) k.1.count); state = s; reached = k.1.reached; tells = ((blank.change, blank.path), none_lost name s (of_command f) explanation.loss blank.loss (read_forward f), blank.asked) })
       ]
   told_refused A old (Some coming) n s ahead later was now k f reads explanation blank count =
       let q = subst (λ o. Reads {A = A} o later.commands (Err f)) k.2 reads.reads in
@@ -307,16 +308,55 @@ module _ (asks : Features) (name : Kind → Bytes → Bytes) where
         | inl e ↦
             let memory : OutOfMemory ≡ of_command f = sym (ap of_command e) in
             record { before = k.0; after = k.1.list; all = ap (λ cs. cs.list) k.3; number = sym (ap (λ m. m + 1) k.4.count); state = s; reached = k.4.reached; tells = subst (λ g. TellsNext name s k.1.list g explanation) memory (memory_told s k.1.list explanation blank) }
-        | inr e ↦ record { before = k.0; after = []; all = ap (λ cs. cs.list) (k.3 ∙ ap (behind k.0) e); number = sym (ap (λ m. m + 1) k.4.count); state = s; reached = k.4.reached; tells = (blank.change, none_lost name s (of_command f) explanation.loss blank.loss (read_forward f), blank.asked) }
+        | inr e ↦ record { before = k.0; after = []; all = ap (λ cs. cs.list) (k.3 ∙ ap (behind k.0) e); number = sym (ap (λ m. m + 1) k.4.count); state = s; reached = k.4.reached; tells = ((blank.change, blank.path), none_lost name s (of_command f) explanation.loss blank.loss (read_forward f), blank.asked) }
       ]
 
   -- of a refusal behind the last command
-  pub told_last : {B : Type 0} (old : Records) (coming : Option Coming) (n : ℕ) (s : State) (was now : Option Taken) → EndsAs asks name old coming n s was now → (kind : Fault) (explanation : Explanation B) → (explanation.change ≡ None) × TellsLoss name s kind explanation.loss × (explanation.asked ≡ None) → (count : ℕ)
+  pub told_last : {B : Type 0} (old : Records) (coming : Option Coming) (n : ℕ) (s : State) (was now : Option Taken) → EndsAs asks name old coming n s was now → (kind : Fault) (explanation : Explanation B) → TellsNoChange explanation × TellsLoss name s kind explanation.loss × (explanation.asked ≡ None) → (count : ℕ)
       → ExplainsFault name asks old coming (record { command = n + 1; kind = kind; checkpoints = count }) explanation
   told_last old None n s was now k kind explanation blank count =
       (only k.0, k.2, record { before = k.0; after = []; all = sym (append-nil k.0); number = sym (ap (λ m. m + 1) k.1.count); state = s; reached = k.1.reached; tells = blank })
   told_last old (Some coming) n s was now k kind explanation blank count =
       record { before = (commands_asked_from asks coming).list; after = []; all = sym (append-nil (commands_asked_from asks coming).list); number = sym (ap (λ m. m + 1) k.count); state = s; reached = k.reached; tells = blank }
+
+  -- ---- where the source tells nothing, all of that is of one replay
+
+  -- a command is refused
+  pub one_stopped : {A B : Type 0} (old last r new : Records) (tables : Tables A) (n : ℕ) (s : State) (c : read.Command A) (ahead later : Seen) (was mid now : Option Taken)
+      → IsAt old None n s ahead was mid → GivesNext ahead later (Ok (Some c)) → (e : Fault) → Applies name r new tables s (shown_command c) mid now (Err e)
+      → (count : ℕ) → Leaves last count s.kept → (explanation : Explanation B) → TellsAll name {X = Unit {0}} s (shown_command c) (Err e) explanation
+      → IsOfOneReplay asks name old last was now (Err (record { command = n + 1; kind = e; checkpoints = count })) explanation
+  one_stopped old last r new tables n s c ahead later was mid now k reads e h count leaves explanation told =
+      let some = some_follow later.over later.known in (
+        behind k.0 (with_command (shown_command c) some.0),
+        k.2 (with_command (shown_command c) some.0) (reads.explains some.0 some.1),
+        stopped asks name old last k.0 n s was mid k.1 count leaves (shown_command c) some.0 now r new tables e h,
+        record { before = k.0; after = shown_command c ∷ some.0.list; all = refl; number = sym (ap (λ m. m + 1) k.1.count); state = s; reached = k.1.reached; tells = told },
+      )
+
+  -- the reader refuses the next one
+  pub one_refused : (A : Type 0) {B : Type 0} (old last : Records) (n : ℕ) (s : State) (ahead later : Seen) (was now : Option Taken) → IsAt old None n s ahead was now
+      → (f : CommandFault) → GivesNext {A = A} ahead later (Err f) → (count : ℕ) → Leaves last count s.kept → (explanation : Explanation B) → TellsNothing explanation
+      → IsOfOneReplay asks name old last was now (Err (record { command = n + 1; kind = of_command f; checkpoints = count })) explanation
+  one_refused A old last n s ahead later was now k f reads count leaves explanation blank =
+      let goal : Fault → Type 0 = λ kind. IsOfOneReplay asks name old last was now (Err (record { command = n + 1; kind = kind; checkpoints = count })) explanation in
+      let left = stops (Some (of_command f)) in
+      elim reads.explains as (λ _. goal (of_command f)) [
+        | inl e ↦
+            let some = some_follow ahead.over ahead.known in
+            subst (λ g. goal (of_command g)) (sym e) (
+              behind k.0 some.0,
+              k.2 some.0 some.1,
+              out_of_memory asks name old last k.0 n s was now k.1 count leaves some.0,
+              record { before = k.0; after = some.0.list; all = refl; number = sym (ap (λ m. m + 1) k.1.count); state = s; reached = k.1.reached; tells = memory_told s some.0.list explanation blank },
+            )
+        | inr m ↦ (
+          behind k.0 left,
+          k.2 left m,
+          fault_read asks name old last k.0 n s was now k.1 count leaves left f refl,
+          record { before = k.0; after = []; all = refl; number = sym (ap (λ m. m + 1) k.1.count); state = s; reached = k.1.reached; tells = ((blank.change, blank.path), none_lost name s (of_command f) explanation.loss blank.loss (read_forward f), blank.asked) },
+        )
+      ]
 
 -- where nothing was replayed, tables that are empty stand
 pub stand_empty : (name : Kind → Bytes → Bytes) {A : Type 0} (r : Records) (tables : Tables A) → AreEmpty tables → Stands name r tables (starting tables.is_forced (history_of r))

@@ -33,9 +33,14 @@ path_of (Copy source destination) = Some source
 path_of (Rename source destination) = Some source
 path_of Clear = None
 
+-- no change is told, neither by its number nor by its path
+abbrev pub TellsNoChange : {A : Type 0} → Explanation A → Type 0
+TellsNoChange told = (told.change ≡ None) × (told.path ≡ None)
+
 -- neither a change nor a reference nor a ref is told
 pub record TellsNothing {A : Type 0} (told : Explanation A) : Type 0 where
   pub change : told.change ≡ None
+  pub path : told.path ≡ None
   pub asked : told.asked ≡ None
   pub loss : told.loss ≡ None
 
@@ -88,8 +93,8 @@ module _ (name : Kind → Bytes → Bytes) where
 
   -- What is told of a command's changes: nothing, where it is applied; the change that is refused; or nothing, where none is.
   abbrev pub Tells : {X A : Type 0} → State → Command → Result X Fault → Explanation A → Type 0
-  Tells s c (Ok _) told = told.change ≡ None
-  Tells s c (Err fault) told = MatchOption told.change (HasNoneRefused s c fault) (λ number. HasRefused s c fault number told.path)
+  Tells s c (Ok _) told = TellsNoChange told
+  Tells s c (Err fault) told = MatchOption told.change (HasNoneRefused s c fault × (told.path ≡ None)) (λ number. HasRefused s c fault number told.path)
 
   -- of a command all is told, the change that is refused, what it asks for in vain, and the ref that would lose a commit; or
   -- nothing, where it is applied
@@ -100,7 +105,7 @@ module _ (name : Kind → Bytes → Bytes) where
 
   -- the same of the next of these commands; behind the last neither a change nor a reference is told
   abbrev pub TellsNext : {A : Type 0} → State → List Command → Fault → Explanation A → Type 0
-  TellsNext s [] fault told = (told.change ≡ None) × TellsLoss name s fault told.loss × (told.asked ≡ None)
+  TellsNext s [] fault told = TellsNoChange told × TellsLoss name s fault told.loss × (told.asked ≡ None)
   TellsNext s (c ∷ cs) fault told = TellsAll {X = Unit {0}} s c (Err fault) told
 
   -- the commands before the one with the fault's number are replayed without a fault, and of that one this is told

@@ -21,3 +21,4 @@ pub mod Replaying
 pub mod Exported
 pub mod Stopping
 pub mod Faults
+pub mod Retelling

@@ -17,7 +17,7 @@ use Rattle.gx_object.specs.declared.name.Name.{Name}
 use Rattle.gx_repo.specs.Repositories.{Repository}
 use Rattle.gx_tree.specs.Named.{NamedTree}
 use Rattle.gx_import.specs.Asking.{AsksByChange, TellsVainIn}
-use Rattle.gx_import.specs.Explaining.{IsRefusedAt}
+use Rattle.gx_import.specs.Explaining.{IsRefusedAt, TellsNoChange}
 use Rattle.gx_import.specs.Objects.{IsCommitOf}
 use Rattle.gx_import.specs.Rows.{AreBoth}
 use Rattle.gx_import.specs.Standing.{Stands}
@@ -26,8 +26,8 @@ use Rattle.gx_import.specs.declared.tables.Tables.{Tables}
 
 -- what is told of changes: the one that is refused, or nothing, where memory ran out before them
 abbrev pub TellsChanges : {X A : Type 0} → (Kind → Bytes → Bytes) → State → FileMap Bytes → List model.Change → Result X Fault → Explanation A → Type 0
-TellsChanges name s files changes (Ok _) told = told.change ≡ None
-TellsChanges name s files changes (Err fault) told = MatchOption told.change (fault ≡ OutOfMemory) (λ number. IsRefusedAt name s files changes fault number told.path)
+TellsChanges name s files changes (Ok _) told = TellsNoChange told
+TellsChanges name s files changes (Err fault) told = MatchOption told.change ((fault ≡ OutOfMemory) × (told.path ≡ None)) (λ number. IsRefusedAt name s files changes fault number told.path)
 
 module _ {N : Type 0} (names : N → Kind → Bytes → Bytes) {X A : Type 0} where
   -- of all changes of these files

@@ -11,7 +11,7 @@ ghost use Rattle.gx_tree.specs.Named.{KeepsHome};
 ghost use Rattle.gx_model.specs.Streams.Commands as model;
 ghost use Rattle.gx_import.specs.Standing.{OnlyAdds, StayAtHome};
 ghost use Rattle.gx_import.specs.Calls.{AddsContent, EditsAll, GivesBlob, InEach, MakesChange, NamesContent};
-ghost use Rattle.gx_import.specs.Explaining.{TellsPath, path_of};
+ghost use Rattle.gx_import.specs.Explaining.{TellsNoChange, TellsPath, path_of};
 ghost use Rattle.gx_import.specs.Telling.{AskedByEdits, TellsEdits};
 
 use crate::object::{Object, name_of_kind};
@@ -33,7 +33,7 @@ pub(crate) fn change_all<N: Namer, A: Allocator + Copy>(
     changes: Vec<Change<A>, A>,
     told: &mut Explanation<A>,
 ) -> Result<(), ImportKind>
-    requires blank { told.now.change ≡ None }
+    requires blank { TellsNoChange told.now }
     requires unasked { told.now.asked ≡ None }
     ensures only { OnlyAdds repo.old repo.new }
     ensures home { IfOk result (λ _. StayAtHome N.name_of repo.old repo.new files.old files.new) }

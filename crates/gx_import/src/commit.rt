@@ -2,7 +2,7 @@
 
 ghost use Rattle.gx_command.specs.Views.{shown_commit, shown_commit_ish};
 ghost use Rattle.gx_import.specs.Asking.{AsksByMerge, AsksInVain, TellsVainIn};
-ghost use Rattle.gx_import.specs.Explaining.{Tells};
+ghost use Rattle.gx_import.specs.Explaining.{Tells, TellsNoChange};
 ghost use Rattle.std.specs.Prelude.{◌≡◌, IfErr, IfOk, None, OnOk, [], map};
 ghost use Rattle.std.specs.List.{cons_option};
 ghost use Rattle.gx_model.specs.declared.faults.Fault.TheVariants.{OutOfMemory};
@@ -40,7 +40,7 @@ pub(crate) fn apply_commit<N: Namer, A: Allocator + Copy>(
     mut commit: Commit<A>,
     told: &mut Explanation<A>,
 ) -> Result<(), ImportKind>
-    requires blank { told.now.change ≡ None }
+    requires blank { TellsNoChange told.now }
     requires unasked { told.now.asked ≡ None }
     requires stands { StandsForSome N.name_of repo.now tables.now }
     requires homes { HasTipsAtHome N.name_of repo.now tables.now }
@@ -75,7 +75,7 @@ fn make_commit<N: Namer, A: Allocator + Copy>(
     parents: &[Name],
     told: &mut Explanation<A>,
 ) -> Result<(), ImportKind>
-    requires blank { told.now.change ≡ None }
+    requires blank { TellsNoChange told.now }
     requires unasked { told.now.asked ≡ None }
     requires stands { StandsForSome N.name_of repo.now tables.now }
     requires parents { AreParentsOf N.name_of repo.now tables.now commit first parents.now }
@@ -110,7 +110,7 @@ fn changed_files<N: Namer, A: Allocator + Copy>(
     changes: Vec<Change<A>, A>,
     told: &mut Explanation<A>,
 ) -> Result<PathTree<A>, ImportKind>
-    requires blank { told.now.change ≡ None }
+    requires blank { TellsNoChange told.now }
     requires unasked { told.now.asked ≡ None }
     requires stands { IsSomeCommit N.name_of repo.now tables.now first }
     requires homes { HasTipsAtHome N.name_of repo.now tables.now }

@@ -1,11 +1,12 @@
 //! Imports of whole streams. Source: git-fast-import(1).
 
-ghost use Rattle.std.specs.Prelude.{◌≡◌, IfErr, OnErr, OnOk};
+ghost use Rattle.std.specs.Prelude.{◌≡◌, None, IfErr, OnErr, OnOk};
 ghost use Rattle.gx_import.specs.Exported.{ImportsAnyExport, KeepsNoNullGitlink, LeaveExports, RefusesNullGitlink};
 ghost use Rattle.gx_import.specs.Explaining.{ExplainsAsked, TellsNothing};
 ghost use Rattle.gx_import.specs.Imports.{Imports, ImportsAsked, ImportsStream, StandsAsked, StandsReplayed};
 ghost use Rattle.gx_import.specs.Keeping.{AreNone, IsLeft};
 ghost use Rattle.gx_import.specs.Replaying.{left_by};
+ghost use Rattle.gx_import.specs.Retelling.{IsOfOneReplay, RetellsAsked};
 ghost use Rattle.gx_import.specs.Standing.{AreEmpty, Extends};
 ghost use Rattle.gx_import.specs.Stopping.{StopsAsked, StopsStream};
 ghost use Rattle.gx_model.specs.Records.Sound.{IsSound};
@@ -112,6 +113,8 @@ pub fn import_explained<N: Namer, A: Allocator + Copy, R: Source + Drop, W: Sink
     ensures namer { repo.new.0 ≡ repo.old.0 }
     ensures replayed { ImportsAsked N.name_of W.taken features repo.old repo.new (R.coming source) sink.old sink.new result }
     ensures explained { ExplainsAsked N.name_of features repo.old (R.coming source) result told.new }
+    ensures retold { R.coming source ≡ None
+        → RetellsAsked N.name_of W.taken features repo.old repo.new sink.old sink.new result told.new }
     ensures stands { OnOk result (StandsAsked features N.name_of repo.old repo.new (R.coming source)) }
     ensures extends { Extends repo.old.1.records repo.new.1.records }
     ensures sound { IsSound (N.name_of repo.old.0) repo.new.1 }
@@ -174,6 +177,8 @@ fn replay_into<N: Namer, A: Allocator + Copy, R: Source + Drop, W: Sink>(
     ensures replayed { Imports features (N.name_of repo.old.0) repo.old.1
         (left_by result checkpoints.new repo.new.1) (R.coming source) (W.taken sink.old) (W.taken sink.new) result }
     ensures explained { ExplainsAsked N.name_of features repo.old (R.coming source) result told.new }
+    ensures retold { R.coming source ≡ None → IsOfOneReplay features (N.name_of repo.old.0) repo.old.1
+        (left_by result checkpoints.new repo.new.1) (W.taken sink.old) (W.taken sink.new) result told.new }
     ensures left { OnErr result (IsLeft repo.old.1 repo.new.1 checkpoints.new) }
     ensures counted { IfErr result (λ fault. fault.checkpoints ≡ checkpoints.new.count) }
     ensures gitlinks { KeepsNoNullGitlink repo.old.1 (left_by result checkpoints.new repo.new.1) }

@@ -12,6 +12,7 @@ ghost use Rattle.gx_import.specs.Keeping.{AreNone, AreStill, IsLeft, IsNext, Kee
 ghost use Rattle.gx_import.specs.Losing.{TellsLossInEach};
 ghost use Rattle.gx_import.specs.Publishing.{PublishesInEach};
 ghost use Rattle.gx_import.specs.Replaying.{FallsNext, ReadsNext, ReplaysRead, Writes};
+ghost use Rattle.gx_import.specs.Retelling.{RetellsRead};
 ghost use Rattle.gx_import.specs.Standing.{AreEmpty, Extends, HasTipsAtHome, StandsForSome};
 
 use crate::blob::apply_blob;
@@ -48,6 +49,8 @@ pub(crate) fn replay_commands<N: Namer, A: Allocator + Copy, R: Source, W: Sink>
     ensures replayed { ReplaysRead N.name_of W.taken repo.old repo.new tables.old.is_forced tables.new
         checkpoints.new reader.old sink.old sink.new result }
     ensures explained { ExplainsRead N.name_of repo.old tables.old.is_forced reader.old result told.new }
+    ensures retold { RetellsRead N.name_of W.taken repo.old repo.new tables.old.is_forced checkpoints.new
+        reader.old sink.old sink.new result told.new }
     ensures left { IsLeft repo.old.1 repo.new.1 checkpoints.new }
     ensures counted { IfErr result (λ fault. fault.checkpoints ≡ checkpoints.new.count) }
     ensures gitlinks { OnOk result (MakesNoNullGitlink repo.old.1 repo.new.1) }

@@ -31,4 +31,4 @@ returns-in-Ok-clause-explained g c =
 pub returns-in-Err-clause-explained : goal.returns-in-Err-clause-explained
 returns-in-Err-clause-explained g c =
     unread_told (g.N.Namer.name_of c.args.namer) c.none.result _ c.args.features (store_of (g.N.Namer.name_of c.args.namer) c.args.store.items) (g.R.Source.coming c.args.source) c.in-Err.fault
-    (record { change = c.none.ensures.change; asked = c.none.ensures.asked; loss = c.none.ensures.loss })
+    (record { change = c.none.ensures.change; path = c.none.ensures.path; asked = c.none.ensures.asked; loss = c.none.ensures.loss })

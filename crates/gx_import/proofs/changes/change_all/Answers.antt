@@ -11,6 +11,8 @@ use Rattle.gx_model.specs.Objects.NameMaps.{AreFiles}
 use Rattle.gx_import.specs.Answers.{AddsAs}
 use Rattle.gx_import.specs.Asking.{AsksByOne, TellsVain}
 use Rattle.gx_import.specs.Additions.{Clash, blob_added}
+use Rattle.gx_import.specs.Explaining.{TellsNoChange}
+use Rattle.gx_import.specs.declared.explanation.Explanation.{Explanation}
 use Rattle.gx_import.proofs.Extended.{only_more, only_same}
 use Rattle.gx_import.proofs.ChangesSoFar.{AreMade, all_made, next_made, next_refused, next_told, next_vain, none_made}
 use Rattle.gx_import.proofs.changes.change_all.Goals as goal
@@ -46,7 +48,7 @@ loop-change-preserved g c =
           next_made name c.args.repo.now.1 l.repo.1 c.args.tables.now s f c.args.changes.items (into_iter_items l.change-iterator) (into_iter_items c.next.new.self) shown_change c.in-Some.change l.files.files c.in-Some.ensures.steps.0 (l.invariant.made s f h are) c.change_files.new.repo.1 c.change_files.new.files.files step;
       home = λ h. (rw l.invariant.only.namer at v.home) (l.invariant.home h);
       items = omega (arith, c.in-Some.ensures.steps.1, l.invariant.items, ap length c.in-Some.ensures.steps.0);
-      blank = ap (λ told. told.change) c.in_default.ensures.told ∙ l.invariant.blank;
+      blank = subst (λ (told : Explanation g.row.A.Denot). TellsNoChange told) (sym c.in_default.ensures.told) l.invariant.blank;
       left = omega (arith, c.in-Some.ensures.steps.1, l.invariant.left);
       fits = omega (arith, l.invariant.fits);
       loss = ap (λ told. told.loss) c.in_default.ensures.told ∙ l.invariant.loss;

@@ -4,6 +4,7 @@ use Rattle.gx_model.specs.Texts.{Bytes}
 use Rattle.gx_model.specs.Histories.Files.{FileMap}
 use Rattle.gx_model.specs.Replay.{State}
 use Rattle.gx_command.specs.Views.{shown_change}
+use Rattle.gx_import.specs.Explaining.{TellsNoChange}
 use Rattle.gx_import.specs.Standing.{OnlyAdds, Stands}
 use Rattle.gx_model.specs.Objects.NameMaps.{AreFiles}
 use Rattle.gx_tree.specs.Named.{IsAtHome}
@@ -17,7 +18,7 @@ invariant-loop-change g l = record {
       → AreMade (g.N.Namer.name_of l.initial.repo.0) l.initial.repo.1 l.repo.1 l.tables s f (map shown_change l.fn.changes.items) (map shown_change (into_iter_items l.change-iterator)) l.files.files;
   home : IsAtHome (g.N.Namer.name_of l.initial.repo.0) l.initial.repo.1.records l.initial.files → IsAtHome (g.N.Namer.name_of l.initial.repo.0) l.repo.1.records l.files;
   items : into_iter_len l.change-iterator ≡ length (into_iter_items l.change-iterator);
-  blank : l.told.change ≡ None;
+  blank : TellsNoChange l.told;
   left : l.left ≡ into_iter_len l.change-iterator;
   fits : l.left ≤ length l.fn.changes.items;
   loss : l.told.loss ≡ l.initial.told.loss;

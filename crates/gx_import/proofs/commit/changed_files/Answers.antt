@@ -57,7 +57,7 @@ returns-in_err-change_all-clause-told g c = λ s made h both.
 pub returns-in_err-files-clause-told : goal.returns-in_err-files-clause-told
 returns-in_err-files-clause-told g c = λ s made h both.
     let p = err_from_is_err_and c.from_residual.result c.from_residual.ensures.1 in
-    rw (p.1, p.2, c.requires.blank) c.in_err-files.ensures.fault
+    rw (p.1, p.2, c.requires.blank.0) (c.in_err-files.ensures.fault, c.requires.blank.1)
 
 pub returns-clause-told : goal.returns-clause-told
 returns-clause-told g c = λ s made h both.

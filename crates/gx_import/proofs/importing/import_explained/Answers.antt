@@ -6,6 +6,7 @@ use Rattle.gx_import.proofs.RefusedExports.{null_refused}
 use Rattle.gx_import.specs.Exported.{KeepsNoNullGitlink}
 use Rattle.gx_import.specs.Imports.{Imports}
 use Rattle.gx_import.specs.Keeping.{left_of}
+use Rattle.gx_import.specs.Retelling.{IsOfOneReplay}
 use Rattle.gx_import.specs.Standing.{Extends}
 use Rattle.gx_import.proofs.KeptCheckpoints.{front_left}
 use Rattle.gx_import.proofs.Publications.{as_before, stands_replayed}
@@ -14,7 +15,7 @@ use Rattle.gx_import.proofs.importing.import_explained.Goals as goal
 
 pub replay_into-requires : goal.replay_into-requires
 replay_into-requires g c = record {
-  blank = record { change = c.none.ensures.change; asked = c.none.ensures.asked; loss = c.none.ensures.loss };
+  blank = record { change = c.none.ensures.change; path = c.none.ensures.path; asked = c.none.ensures.asked; loss = c.none.ensures.loss };
   empty = c.new-tables.ensures.empty;
   forced = c.new-tables.ensures.forced;
   none = record { records = c.len.ensures.count ∙ ap (λ z. length z.1) c.store.ensures.held; count = refl };
@@ -111,3 +112,11 @@ returns-clause-stopped g c =
     let was = g.W.Sink.taken c.args.sink.now in
     let now = g.W.Sink.taken c.replay_into.new.sink in
     cut_short (g.N.Namer.name_of c.args.repo.now.0) c.args.features c.args.repo.now.1 last (g.R.Source.coming c.args.source) was now c.in-Err.fault c.in-Err.ensures.replayed
+
+pub returns-in-Ok-clause-retold : goal.returns-in-Ok-clause-retold
+returns-in-Ok-clause-retold g c = c.in-Ok.ensures.retold
+
+pub returns-clause-retold : goal.returns-clause-retold
+returns-clause-retold g c = λ none.
+    let retells : g.row.N.Denot × Records → Type 0 = λ r. IsOfOneReplay c.args.features (g.N.Namer.name_of c.args.repo.now.0) c.args.repo.now.1 r.1 (g.W.Sink.taken c.args.sink.now) (g.W.Sink.taken c.replay_into.new.sink) (Err c.in-Err.fault) c.replay_into.new.told in
+    subst retells (sym c.truncate.ensures) (c.in-Err.ensures.retold none)

@@ -179,7 +179,7 @@ returns-in-Feature-clause-homes g c =
 -- ---- what is told
 
 pub apply_commit-requires : goal.apply_commit-requires
-apply_commit-requires g c = record { blank = c.requires.blank.change; unasked = c.requires.blank.asked; stands = c.requires.stands; homes = c.requires.homes }
+apply_commit-requires g c = record { blank = (c.requires.blank.change, c.requires.blank.path); unasked = c.requires.blank.asked; stands = c.requires.stands; homes = c.requires.homes }
 
 pub apply_tag-requires : goal.apply_tag-requires
 apply_tag-requires g c = record { stands = c.requires.stands; unasked = c.requires.blank.asked }
@@ -199,7 +199,7 @@ pub returns-in-Blob-clause-told : goal.returns-in-Blob-clause-told
 returns-in-Blob-clause-told g c = λ s h.
     let name = g.N.Namer.name_of c.args.repo.now.0 in
     let command = shown_blob c.in-Blob.blob in
-    let none = nothing_told name s command (λ e number path none. none) c.args.told.now c.requires.blank.change c.apply_blob.result in
+    let none = nothing_told name s command (λ e number path none. none) c.args.told.now (c.requires.blank.change, c.requires.blank.path) c.apply_blob.result in
     let free = made_vain (AsksInVain name s command) c.args.told.now.asked c.requires.blank.asked _ _ c.apply_blob.result (step name s command) _ refl (c.apply_blob.ensures.steps s h) in
     rw c.in-Blob.is (all_told name s command (λ is. absurd (cc is)) c.args.told.now c.apply_blob.result none c.requires.blank.loss free)
 
@@ -207,21 +207,21 @@ pub returns-in-Tag-clause-told : goal.returns-in-Tag-clause-told
 returns-in-Tag-clause-told g c = λ s h.
     let name = g.N.Namer.name_of c.args.repo.now.0 in
     let told : Explanation g.row.A.Denot = record { change = c.args.told.now.change; path = c.args.told.now.path; asked = c.apply_tag.new.asked; loss = c.args.told.now.loss } in
-    let none = nothing_told name s (shown_tag c.in-Tag.tag) (λ e number path none. none) told c.requires.blank.change c.apply_tag.result in
+    let none = nothing_told name s (shown_tag c.in-Tag.tag) (λ e number path none. none) told (c.requires.blank.change, c.requires.blank.path) c.apply_tag.result in
     rw c.in-Tag.is (all_told name s (shown_tag c.in-Tag.tag) (λ is. absurd (cc is)) told c.apply_tag.result none c.requires.blank.loss (c.apply_tag.ensures.asked s h))
 
 pub returns-in-Reset-clause-told : goal.returns-in-Reset-clause-told
 returns-in-Reset-clause-told g c = λ s h.
     let name = g.N.Namer.name_of c.args.repo.now.0 in
     let told : Explanation g.row.A.Denot = record { change = c.args.told.now.change; path = c.args.told.now.path; asked = c.apply_reset.new.asked; loss = c.args.told.now.loss } in
-    let none = nothing_told name s (shown_reset c.in-Reset.reset) (λ e number path none. none) told c.requires.blank.change c.apply_reset.result in
+    let none = nothing_told name s (shown_reset c.in-Reset.reset) (λ e number path none. none) told (c.requires.blank.change, c.requires.blank.path) c.apply_reset.result in
     rw c.in-Reset.is (all_told name s (shown_reset c.in-Reset.reset) (λ is. absurd (cc is)) told c.apply_reset.result none c.requires.blank.loss (c.apply_reset.ensures.asked s h))
 
 pub returns-in-Progress-clause-told : goal.returns-in-Progress-clause-told
 returns-in-Progress-clause-told g c = λ s h.
     let name = g.N.Namer.name_of c.args.repo.now.0 in
     let command = Progress c.in-Progress.text.items in
-    let none = nothing_told name s command (λ e number path none. none) c.args.told.now c.requires.blank.change c.apply_progress.result in
+    let none = nothing_told name s command (λ e number path none. none) c.args.told.now (c.requires.blank.change, c.requires.blank.path) c.apply_progress.result in
     let free = written_vain (AsksInVain name s command) c.args.told.now.asked c.requires.blank.asked _ _ _ c.apply_progress.result c.apply_progress.ensures in
     rw c.in-Progress.is (all_told name s command (λ is. absurd (cc is)) c.args.told.now c.apply_progress.result none c.requires.blank.loss free)
 
@@ -236,4 +236,4 @@ returns-in-Checkpoint-clause-told g c = λ s h.
     let name = g.N.Namer.name_of c.args.repo.now.0 in
     let told : Explanation g.row.A.Denot = record { change = c.args.told.now.change; path = c.args.told.now.path; asked = c.args.told.now.asked; loss = c.apply_checkpoint.new.loss } in
     let free = published_free name s c.apply_checkpoint.new.repo.1 c.apply_checkpoint.new.tables c.apply_checkpoint.result (c.apply_checkpoint.ensures.published s h) in
-    rw c.in-Checkpoint.is (checkpoint_told name s told c.requires.blank.change c.requires.blank.asked c.apply_checkpoint.result (c.apply_checkpoint.ensures.loss s h) free)
+    rw c.in-Checkpoint.is (checkpoint_told name s told (c.requires.blank.change, c.requires.blank.path) c.requires.blank.asked c.apply_checkpoint.result (c.apply_checkpoint.ensures.loss s h) free)

@@ -1,4 +1,4 @@
-use Rattle.std.proofs.Common.{◌+◌, [], Ok, Err, refl, sym, ap, subst, ◌∙◌, arith}
+use Rattle.std.proofs.Common.{◌+◌, [], None, Ok, Err, refl, sym, ap, subst, ◌∙◌, arith}
 use Rattle.std.proofs.lemmas.List.{append-nil}
 use Rattle.std.proofs.lemmas.Result.{err_from_is_err_and}
 use Rattle.gx_model.specs.Streams.Gitlinks.{HoldsNoNullGitlink}
@@ -13,10 +13,11 @@ use Rattle.gx_import.specs.declared.fault.ImportFault.{ImportFault}
 use Rattle.gx_import.specs.Imports.{Imports}
 use Rattle.gx_import.specs.Keeping.{Keeps, left_of}
 use Rattle.gx_import.specs.Replaying.{EndsAs}
+use Rattle.gx_import.specs.Retelling.{IsOfOneReplay}
 use Rattle.gx_import.proofs.Extended.{extended_more}
 use Rattle.gx_import.proofs.KeptCheckpoints.{counted_next, kept_start, left_next, left_start}
 use Rattle.gx_import.specs.Standing.{AreTipsAtHome, Stands}
-use Rattle.gx_import.proofs.ReachedStates.{IsAt, at_end, at_next, at_refused, at_start, at_stopped, stand_empty, starting, starting_free, step_keeps, told_refused, told_stopped}
+use Rattle.gx_import.proofs.ReachedStates.{IsAt, at_end, at_next, at_refused, at_start, at_stopped, one_refused, one_stopped, stand_empty, starting, starting_free, step_keeps, told_refused, told_stopped}
 use Rattle.gx_import.proofs.TipHomes.{AreHome}
 use Rattle.gx_import.proofs.replay.replay_commands.Goals as goal
 
@@ -201,3 +202,33 @@ returns-in-Err-clause-explained g c = λ asks coming same is.
 
 pub returns-clause-explained : goal.returns-clause-explained
 returns-clause-explained g c = λ asks coming same is. c.loop-command.invariant.blank
+
+-- where the source tells nothing, all of it is of one replay
+pub returns-in_err-command-clause-retold : goal.returns-in_err-command-clause-retold
+returns-in_err-command-clause-retold g c =
+    let p = err_from_is_err_and c.from_residual.result c.from_residual.ensures.1 in
+    rw (p.1, p.2) (λ asks same is.
+    let inv = c.loop-command.invariant in
+    let old = c.args.repo.now.1 in
+    let told = c.loop-command.told in
+    let last = left_of c.loop-command.checkpoints c.loop-command.repo.1 in
+    let was = g.W.Sink.taken c.args.sink.now in
+    let now = g.W.Sink.taken c.loop-command.sink in
+    let q = c.in_err-command.ensures.reads in
+    let fault : ImportFault = record { command = c.loop-command.commands + 1; kind = of_command q.0; checkpoints = c.loop-command.checkpoints.count } in
+    let h = one_refused asks (g.N.Namer.name_of c.loop-command.repo.0) g.row.A.Denot old last c.loop-command.commands inv.stands.0 c.loop-command.reader c.next_command.new.reader was now (inv.stands.2 asks None same is) q.0 q.2 c.loop-command.checkpoints.count inv.stands.4 told inv.blank in
+    subst (λ f. IsOfOneReplay asks (g.N.Namer.name_of c.args.repo.now.0) old last was now (Err f) told) (sym q.1) (subst (λ n. IsOfOneReplay asks (g.N.Namer.name_of n) old last was now (Err fault) told) inv.namer h))
+
+pub returns-in-Err-clause-retold : goal.returns-in-Err-clause-retold
+returns-in-Err-clause-retold g c = λ asks same is.
+    let inv = c.loop-command.invariant in
+    let old = c.args.repo.now.1 in
+    let told = c.apply.new.told in
+    let last = left_of c.apply.new.checkpoints c.apply.new.repo.1 in
+    let was = g.W.Sink.taken c.args.sink.now in
+    let mid = g.W.Sink.taken c.loop-command.sink in
+    let now = g.W.Sink.taken c.apply.new.sink in
+    let name = g.N.Namer.name_of c.loop-command.repo.0 in
+    let reads = rw c.in-Some.is at c.in_ok-command.ensures.reads in
+    let h = one_stopped asks name old last c.loop-command.repo.1 c.apply.new.repo.1 c.apply.new.tables c.loop-command.commands inv.stands.0 c.in-Some.command c.loop-command.reader c.next_command.new.reader was mid now (inv.stands.2 asks None same is) reads c.in-Err.kind (c.in-Err.ensures.steps inv.stands.0 inv.stands.1) c.apply.new.checkpoints.count (c.in-Err.ensures.keeps inv.stands.0 inv.stands.1 inv.stands.4) told (c.in-Err.ensures.told inv.stands.0 inv.stands.1) in
+    subst (λ n. IsOfOneReplay asks (g.N.Namer.name_of n) old last was now (Err (record { command = c.loop-command.commands + 1; kind = c.in-Err.kind; checkpoints = c.apply.new.checkpoints.count })) told) inv.namer h

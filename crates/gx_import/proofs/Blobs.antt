@@ -40,9 +40,9 @@ pub put_known : (rs now : List Record) (added : Record) → put rs added ≡ Som
 put_known rs now added e none = absurd (cc (sym e ∙ none))
 
 -- a blob that is refused for want of memory isn't held
-pub blob_hidden : {N A X : Type 0} (names : N → Kind → Bytes → Bytes) (repository : Repository N) (blob : Blob A) (f : StoreFault)
+pub blob_hidden : {N A : Type 0} (X : Type 0) (names : N → Kind → Bytes → Bytes) (repository : Repository N) (blob : Blob A) (f : StoreFault)
     → HidesNoObject names repository kinds.Blob blob.bytes.items (Err f) → HidesNoBlob names {A = A} {X = X} repository blob (Err (of_store f))
-blob_hidden names repository blob OutOfMemory free =
+blob_hidden X names repository blob OutOfMemory free =
     let added = record_for (names repository.0) kinds.Blob blob.bytes.items in
     (put_known repository.1.records _ added (ap (λ o. put_under o repository.1.records added) free), λ unmarked. free)
-blob_hidden names repository blob NameHeld h = tt
+blob_hidden X names repository blob NameHeld h = tt

@@ -1,4 +1,5 @@
 use Rattle.std.proofs.Common.{Ok, refl}
+use Rattle.std.proofs.lemmas.Bool.{false≢true}
 use Rattle.std.proofs.lemmas.Result.{err_from_is_err_and}
 use Rattle.gx_model.specs.Histories.Values.{blob_value}
 use Rattle.gx_model.specs.Replay.{State, added, marked}
@@ -35,9 +36,9 @@ returns-in_err-set-clause-steps g c = λ s h.
 pub returns-in_err-name-clause-hidden : goal.returns-in_err-name-clause-hidden
 returns-in_err-name-clause-hidden g c =
     let p = err_from_is_err_and c.from_residual.result c.from_residual.ensures.1 in
-    rw (p.1, p.2) (blob_hidden g.N.Namer.name_of c.args.repo.now c.args.blob c.in_err-name.field-0.0 c.in_err-name.ensures.unhidden)
+    rw (p.1, p.2) (blob_hidden (Unit {0}) g.N.Namer.name_of c.args.repo.now c.args.blob c.in_err-name.field-0.0 c.in_err-name.ensures.unhidden)
 
 pub returns-in_err-set-clause-hidden : goal.returns-in_err-set-clause-hidden
 returns-in_err-set-clause-hidden g c =
     let p = err_from_is_err_and c.from_residual-in_err-set.result c.from_residual-in_err-set.ensures.1 in
-    rw (p.1, p.2) (put_known c.args.repo.now.1.records _ _ c.in_ok-name.ensures.adds.1, λ unmarked. absurd (c.in_err-set.ensures.unmarked unmarked))
+    rw (p.1, p.2) (put_known c.args.repo.now.1.records _ _ c.in_ok-name.ensures.adds.1, λ unmarked. absurd (false≢true (c.in_err-set.ensures.unmarked unmarked)))

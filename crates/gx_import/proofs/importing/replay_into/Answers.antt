@@ -116,7 +116,7 @@ returns-in_err-commands-clause-retold g c = λ none.
 
 pub returns-in-Err-clause-retold : goal.returns-in-Err-clause-retold
 returns-in-Err-clause-retold g c = λ none.
-    let is = record { commands = c.asking-reader.ensures.commands; items = c.asking-reader.ensures.explains } in
+    let is : IsAskedOf c.args.features (g.R.Source.coming c.args.source) c.asking-reader.result = record { commands = c.asking-reader.ensures.commands; items = c.asking-reader.ensures.explains } in
     let k = c.in_ok-commands.ensures.replayed c.args.features (g.R.Source.coming c.args.source) (sym c.requires.forced) is in
     let blank = c.in_ok-commands.ensures.explained c.args.features (g.R.Source.coming c.args.source) (sym c.requires.forced) is in
     let name = g.N.Namer.name_of c.args.repo.now.0 in

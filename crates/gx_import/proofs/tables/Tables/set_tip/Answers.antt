@@ -8,4 +8,4 @@ returns-clause-others g c =
     let at_hand = c.enter_tip.new.self.at_hand in
     let moved : Tables g.row.A.Denot → Tables g.row.A.Denot = λ t. record t { branches = branches } in
     let entered : Tables g.row.A.Denot → Tables g.row.A.Denot = λ t. record t { branches = branches; at_hand = at_hand } in
-    ap moved c.enter_tip.ensures.others ∙ ap entered c.forget_tip.ensures.others
+    ap moved c.enter_tip.ensures.others ∙ ap entered c.forget_tip-was_published.ensures.others

@@ -50,10 +50,10 @@ one_passed ending None (Some d) next front line a r =
     let all : d ≡ behind past.0 r.0 = before d r.0 past r.3 in (
       a.0 ++ past.0,
       λ c m.
-        let is : c ≡ r.0 = known next r.0 c r.1 m in
-        ap (λ x. lines_from ending (behind (a.0 ++ past.0) x)) is ∙ ap (lines_from ending) (behind_both a.0 past.0 r.0) ∙ a.1 (behind past.0 r.0) (sym all)
-        ∙ ap (λ x. front ++ lines_from ending x) (sym all) ∙ ap (λ ls. front ++ ls) r.2 ∙ sym (append_assoc front (line ∷ []) (lines_from ending r.0))
-        ∙ ap (λ x. (front ++ line ∷ []) ++ lines_from ending x) (sym is),
+          let is : c ≡ r.0 = known next r.0 c r.1 m in
+          ap (λ x. lines_from ending (behind (a.0 ++ past.0) x)) is ∙ ap (lines_from ending) (behind_both a.0 past.0 r.0) ∙ a.1 (behind past.0 r.0) (sym all)
+          ∙ ap (λ x. front ++ lines_from ending x) (sym all) ∙ ap (λ ls. front ++ ls) r.2 ∙ sym (append_assoc front (line ∷ []) (lines_from ending r.0))
+          ∙ ap (λ x. (front ++ line ∷ []) ++ lines_from ending x) (sym is),
     )
 one_passed ending (Some c) None next front line a r = absurd (cc a.1)
 one_passed ending (Some c) (Some d) next front line a r =

@@ -118,10 +118,22 @@ const BODIES: &[(&[u8], bool)] = &[
     (b"100644 .\0aaaaaaaaaaaaaaaaaaaa", false),
     (b"100644 ..\0aaaaaaaaaaaaaaaaaaaa", false),
     (b"100644 ...\0aaaaaaaaaaaaaaaaaaaa", true),
-    (b"100644 0123456789012345678901234567890\0aaaaaaaaaaaaaaaaaaaa", true),
-    (b"100644 01234567890123456789012345678901\0aaaaaaaaaaaaaaaaaaaa", true),
-    (b"100644 012345678901234567890123456789012\0aaaaaaaaaaaaaaaaaaaa", true),
-    (b"100644 0123456789012345678901234567890123/5\0aaaaaaaaaaaaaaaaaaaa", false),
+    (
+        b"100644 0123456789012345678901234567890\0aaaaaaaaaaaaaaaaaaaa",
+        true,
+    ),
+    (
+        b"100644 01234567890123456789012345678901\0aaaaaaaaaaaaaaaaaaaa",
+        true,
+    ),
+    (
+        b"100644 012345678901234567890123456789012\0aaaaaaaaaaaaaaaaaaaa",
+        true,
+    ),
+    (
+        b"100644 0123456789012345678901234567890123/5\0aaaaaaaaaaaaaaaaaaaa",
+        false,
+    ),
     (b"100644 bak", false),
     (
         b"100644 a\0aaaaaaaaaaaaaaaaaaaa100644 a.b\0aaaaaaaaaaaaaaaaaaaa40000 b\0aaaaaaaaaaaaaaaaaaaa",

@@ -1,5 +1,5 @@
 -- The blobs and the lines of files, gathered one after the other.
-use Rattle.std.proofs.Common.{◌≡◌, ◌≢◌, ◌++◌, ℕ, ◌-◌, ◌<◌, suc, Bool, true, false, cond, [], ◌∷◌, List, length, slice_range, drop, Some, Result, Ok, Err, refl, sym, ap, ◌∙◌, subst, append_assoc, append-nil}
+use Rattle.std.proofs.Common.{◌≡◌, ◌≢◌, ◌++◌, ℕ, ◌-◌, ◌<◌, suc, Bool, true, false, cond, [], ◌∷◌, List, length, slice_range, drop, Option, Some, Result, Ok, Err, refl, sym, ap, ◌∙◌, subst, append_assoc, append-nil}
 use Rattle.std.specs.Prelude.{◌||◌}
 use Rattle.std.specs.Result.{OnOk}
 use Rattle.std.specs.List.{list_all, AllByRecursion}
@@ -22,6 +22,7 @@ use Rattle.gx_model.specs.Streams.Commands.{Blob}
 use Rattle.gx_model.proofs.Histories.SameValues.{same_value_tells}
 use Rattle.gx_model.proofs.Histories.FileMapEdits.{parts_of}
 use Rattle.gx_model.proofs.ObjectTexts.OneTree.{all_left, all_right}
+use Rattle.gx_object.specs.declared.name.Name.{Name}
 use Rattle.gx_tree.specs.HeldTrees.{IsHeldEntry, IsHeldWithin}
 use Rattle.gx_tree.specs.Lists.{below}
 use Rattle.gx_tree.specs.Nodes.{Kept, Level, files, file, folder, kept_map}
@@ -29,11 +30,12 @@ use Rattle.gx_tree.specs.Writes.{kept_leaf}
 use Rattle.gx_tree.proofs.HeldLevels.{IsLoading, IsNext, entries_held, within_all}
 use Rattle.gx_tree.proofs.LevelsOf.{IsLevel-level_of, files-level_of, level_of}
 use Rattle.gx_tree.proofs.Listed.{IsListed, all_listed, below-placed, below_root, map_short}
-use Rattle.gx_export.specs.FileTexts.{AreKept, AreWritten, Gathers, IsEntryBelow, IsGathered, IsKept, IsLinesOf, IsTreeBelow, StandsIn, bytes_in, lines_text}
+use Rattle.gx_export.specs.FileTexts.{AreKept, AreWritten, Gathers, IsDirectoryText, IsEntryBelow, IsFileLine, IsGathered, IsKept, IsLinesOf, IsLinesOfTree, IsTreeBelow, bytes_in, entry_file, lines_text}
 use Rattle.gx_export.specs.Marks.{Adds, HasWritten}
 use Rattle.gx_export.specs.Outputs.{Sent, Writes}
 use Rattle.gx_export.specs.Texts.{file_items, file_line, items_of}
 use Rattle.gx_export.specs.declared.fault.ExportFault.{ExportFault}
+use Rattle.gx_export.specs.declared.file_lines.FileLine.{FileLine}
 use Rattle.gx_export.specs.declared.lines.Directory.{Directory}
 use Rattle.gx_export.specs.declared.lines.Lines.{Lines}
 use Rattle.gx_export.specs.declared.written.Written.{Written}
@@ -128,12 +130,22 @@ module _ (name : Kind → Bytes → Bytes) (r : Records) (ws us : List Value) (k
     written = written_stay ws us (bytes_in (named_values r.records) names) k l.written;
   }
 
-  stands_still : (text : Bytes) (a b : ℕ) (path tree : Bytes) → StandsIn name r ws text a b path tree → StandsIn name r us text a b path tree
-  stands_still text a b path tree s = record { order = s.order; within = s.within; lines = λ front g p h. lines_still (below front g) (slice_range text a b) (s.lines front g p h) }
+  file_still : (path text : Bytes) (line : FileLine) → IsFileLine r ws path text line → IsFileLine r us path text line
+  file_still path text line k = record {
+    order = k.order;
+    within = k.within;
+    found = λ front p. lines_still (entry_file front line.entry) (slice_range text line.start line.end) (k.found front p);
+  }
+
+  directory_still : (path : Bytes) (tree : Option Name) (files : List FileLine) (text : Bytes) → IsDirectoryText name r ws path tree files text → IsDirectoryText name r us path tree files text
+  directory_still path tree files text d = record {
+    whole = some_mapped (λ t. IsLinesOfTree name r ws path t.bytes text) (λ t. IsLinesOfTree name r us path t.bytes text) tree (λ t k front g p h. lines_still (below front g) text (k front g p h)) d.whole;
+    each = all_mapped (IsFileLine r ws path text) (IsFileLine r us path text) files (file_still path text) d.each;
+  }
 
   module _ {A : Type 0} where
     all_still : (text : Bytes) (ds : List (Directory A)) → AllByRecursion (IsKept name r ws text) ds → AllByRecursion (IsKept name r us text) ds
-    all_still text ds = all_mapped (IsKept name r ws text) (IsKept name r us text) ds (λ d. some_mapped (λ t. StandsIn name r ws text d.start d.end d.path.items t.bytes) (λ t. StandsIn name r us text d.start d.end d.path.items t.bytes) d.tree (λ t. stands_still text d.start d.end d.path.items t.bytes))
+    all_still text ds = all_mapped (IsKept name r ws text) (IsKept name r us text) ds (λ d s. record { order = s.order; within = s.within; lines = directory_still d.path.items d.tree d.files.items (slice_range text d.start d.end) s.lines })
 
     pub kept_still : (lines : Lines A) → AreKept name r ws lines → AreKept name r us lines
     kept_still lines h = record { now = all_still lines.text.items lines.directories.items h.now; earlier = all_still lines.earlier.items lines.left.items h.earlier }

@@ -22,7 +22,7 @@ use Rattle.gx_rev.specs.Objects as objects
 use Rattle.gx_model.specs.Records.Sound.{IsHeldAs}
 use Rattle.gx_model.specs.Records.{entry, parts_of_commit}
 use Rattle.gx_tree.specs.Lists.{below}
-use Rattle.gx_tree.specs.Nodes.{Kept, Level, files, key}
+use Rattle.gx_tree.specs.Nodes.{Kept, Level, key}
 use Rattle.gx_tree.specs.Writes.{kept_leaf}
 use Rattle.gx_export.specs.FileTexts.{AreKept, IsEntryBelow, IsGathered, IsTreeBelow, bytes_in}
 use Rattle.gx_export.specs.Marks.{AddsBlobs}

@@ -1,5 +1,5 @@
 -- The lines of files as they are gathered, and the trees that the files stand in.
-use Rattle.std.specs.Prelude.{◌≡◌, ◌≤◌, ◌++◌, [], ◌∷◌, ℕ, Bool, true, false, length, List, Result, Ok, Err, IfSome, IsTrue}
+use Rattle.std.specs.Prelude.{◌≡◌, ◌≤◌, ◌++◌, [], ◌∷◌, ℕ, Bool, true, false, length, List, Option, Result, Ok, Err, IfSome, IsTrue}
 use Rattle.std.specs.List.{list_all, slice_range, AllByRecursion}
 use Rattle.gx_model.specs.declared.objects.Kind.{Kind}
 use Rattle.gx_model.specs.declared.objects.Mode.{Mode}
@@ -12,12 +12,15 @@ use Rattle.gx_model.specs.Texts.Paths.{Path, is_component, is_short, path_of, pa
 use Rattle.gx_model.specs.Records.Sound.{IsHeldAs}
 use Rattle.gx_model.specs.Texts.{Bytes}
 use Rattle.gx_model.specs.Histories.Values.{Value, blob_value}
+use Rattle.gx_object.specs.declared.entry.Entry.{Entry}
+use Rattle.gx_object.specs.declared.name.Name.{Name}
 use Rattle.gx_tree.specs.HeldTrees.{IsHeldEntry, IsHeldWithin}
 use Rattle.gx_tree.specs.Lists.{below}
 use Rattle.gx_tree.specs.Nodes.{Kept, kept_map}
 use Rattle.gx_export.specs.Marks.{AddsBlobs}
 use Rattle.gx_export.specs.Texts.{file_items, file_line}
 use Rattle.gx_export.specs.declared.fault.ExportFault.{ExportFault}
+use Rattle.gx_export.specs.declared.file_lines.FileLine.{FileLine}
 use Rattle.gx_export.specs.declared.lines.Directory.{Directory}
 use Rattle.gx_export.specs.declared.lines.Lines.{Lines}
 use Rattle.gx_export.specs.declared.written.Written.{Written}
@@ -46,6 +49,10 @@ pub record IsEntryBelow (name : Kind → Bytes → Bytes) (repository : Records)
 
 -- ---- what is kept of the lines
 
+-- the file of an entry, below a path
+abbrev pub entry_file : Path → Entry → FileMap Bytes
+entry_file front entry = (front ++ entry.component.now ∷ [], (entry.mode, entry.name.bytes)) ∷ []
+
 -- each of these blobs was written
 abbrev pub AreWritten : List Value → List Bytes → Type 0
 AreWritten ws xs = AllByRecursion (λ x. is_in ws (blob_value x) ≡ true) xs
@@ -60,15 +67,30 @@ abbrev pub IsLinesOfTree : (Kind → Bytes → Bytes) → Records → List Value
 IsLinesOfTree name repository ws path tree text =
     (front : Path) (g : FileMap Bytes) → path_of path ≡ Ok front → IsHeldTree name repository.records tree g → IsLinesOf repository ws (below front g) text
 
--- within a text, from one place to another, stand the lines of the files of a tree, below a path that is written so
-pub record StandsIn (name : Kind → Bytes → Bytes) (repository : Records) (ws : List Value) (text : Bytes) (start end : ℕ) (path tree : Bytes) : Type 0 where
+-- a text is the line of a file, below a path that is written so
+abbrev pub IsLineIn : Records → List Value → Bytes → Entry → Bytes → Type 0
+IsLineIn repository ws path entry text =
+    (front : Path) → path_of path ≡ Ok front → IsLinesOf repository ws (entry_file front entry) text
+
+-- the line of a file stands within the lines of its directory
+pub record IsFileLine (repository : Records) (ws : List Value) (path text : Bytes) (line : FileLine) : Type 0 where
+  pub order : line.start ≤ line.end
+  pub within : line.end ≤ length text
+  pub found : IsLineIn repository ws path line.entry (slice_range text line.start line.end)
+
+-- A text is that of the lines of a tree's files, where the tree is known, and has the lines of single files.
+pub record IsDirectoryText (name : Kind → Bytes → Bytes) (repository : Records) (ws : List Value) (path : Bytes) (tree : Option Name) (files : List FileLine) (text : Bytes) : Type 0 where
+  pub whole : IfSome tree (λ t. IsLinesOfTree name repository ws path t.bytes text)
+  pub each : AllByRecursion (IsFileLine repository ws path text) files
+
+-- within a text, from one place to another, stand the lines of a directory
+pub record StandsIn (name : Kind → Bytes → Bytes) (repository : Records) (ws : List Value) (text : Bytes) (start end : ℕ) (path : Bytes) (tree : Option Name) (files : List FileLine) : Type 0 where
   pub order : start ≤ end
   pub within : end ≤ length text
-  pub lines : IsLinesOfTree name repository ws path tree (slice_range text start end)
+  pub lines : IsDirectoryText name repository ws path tree files (slice_range text start end)
 
--- of a directory without a tree nothing is claimed
 abbrev pub IsKept : {A : Type 0} → (Kind → Bytes → Bytes) → Records → List Value → Bytes → Directory A → Type 0
-IsKept name repository ws text directory = IfSome directory.tree (λ tree. StandsIn name repository ws text directory.start directory.end directory.path.items tree.bytes)
+IsKept name repository ws text directory = StandsIn name repository ws text directory.start directory.end directory.path.items directory.tree directory.files.items
 
 -- all directories of both commits
 pub record AreKept {A : Type 0} (name : Kind → Bytes → Bytes) (repository : Records) (ws : List Value) (lines : Lines A) : Type 0 where
@@ -88,6 +110,12 @@ TakesOver name repository ws path tree old new true =
     AreKept name repository ws new
     × ((front : Path) (g : FileMap Bytes) → path_of path ≡ Ok front → IsHeldTree name repository.records tree g → (lines : Bytes) × (new.text.items ≡ old.text.items ++ lines) × IsLinesOf repository ws (below front g) lines)
 TakesOver name repository ws path tree old new false = AreKept name repository ws new × (new.text ≡ old.text)
+
+-- Behind it stands the line of a file, or nothing new.
+abbrev pub TakesLine : {A : Type 0} → (Kind → Bytes → Bytes) → Records → List Value → Bytes → Entry → Lines A → Lines A → Bool → Type 0
+TakesLine name repository ws path entry old new true =
+    AreKept name repository ws new × ((lines : Bytes) × (new.text.items ≡ old.text.items ++ lines) × IsLineIn repository ws path entry lines)
+TakesLine name repository ws path entry old new false = AreKept name repository ws new × (new.text ≡ old.text)
 
 -- the line of a file stands behind those that were gathered before
 abbrev pub AppendsLine : {A : Type 0} → Lines A → Lines A → Mode → Bytes → Path → Type 0

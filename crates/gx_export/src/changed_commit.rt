@@ -36,7 +36,7 @@ pub(crate) fn write_changed_commit<N: Namer, A: Allocator + Copy, W: Sink>(
     alloc: A,
     repo: &Repo<N, A>,
     written: &mut Written<'_, W, A>,
-    changes: &mut Changes<A>,
+    changes: &mut Changes<'_, A>,
     branch: &[u8],
     place: usize,
 ) -> Result<(), ExportFault>
@@ -64,7 +64,7 @@ fn write_unmarked<N: Namer, A: Allocator + Copy, W: Sink>(
     alloc: A,
     repo: &Repo<N, A>,
     written: &mut Written<'_, W, A>,
-    changes: &mut Changes<A>,
+    changes: &mut Changes<'_, A>,
     branch: &[u8],
     commit: &Name,
 ) -> Result<(), ExportFault>
@@ -88,7 +88,7 @@ fn write_unmarked<N: Namer, A: Allocator + Copy, W: Sink>(
 fn write_behind_blobs<N: Namer, A: Allocator + Copy, W: Sink>(
     repo: &Repo<N, A>,
     written: &mut Written<'_, W, A>,
-    changes: &Changes<A>,
+    changes: &Changes<'_, A>,
     branch: &[u8],
     commit: &CommitView<'_>,
 ) -> Result<(), ExportFault>
@@ -107,7 +107,7 @@ fn write_behind_blobs<N: Namer, A: Allocator + Copy, W: Sink>(
 fn write_lines<N: Namer, A: Allocator + Copy, W: Sink>(
     repo: &Repo<N, A>,
     written: &mut Written<'_, W, A>,
-    changes: &Changes<A>,
+    changes: &Changes<'_, A>,
     branch: &[u8],
     commit: &CommitView<'_>,
 ) -> Result<(), ExportFault>
@@ -146,7 +146,7 @@ fn write_named_parents<N: Namer, A: Allocator + Copy, W: Sink>(
 /// Writes the lines of what is gone and of what differs, and an empty line.
 fn write_differing<A: Allocator + Copy, W: Sink>(
     output: &mut Output<'_, W>,
-    changes: &Changes<A>,
+    changes: &Changes<'_, A>,
 ) -> Result<(), ExportFault>
     ensures text { (ws : List Value) (gone : List Path) (own : FileMap Bytes)
         → AreLinesOf ws gone own changes.now

@@ -10,14 +10,14 @@ use std::alloc::{AllocError, Allocator};
 
 /// The lines of the files that are gone, and those of the files that are new or another.
 #[derive(Drop)]
-pub(crate) struct Changes<A: Allocator> {
+pub(crate) struct Changes<'a, A: Allocator> {
     pub(crate) gone: Vec<u8, A>,
-    pub(crate) files: Lines<A>,
+    pub(crate) files: Lines<'a, A>,
 }
 
-impl<A: Allocator + Copy> Changes<A> {
+impl<'a, A: Allocator + Copy> Changes<'a, A> {
     /// No lines. Takes no memory.
-    pub(crate) fn new(alloc: A) -> Changes<A>
+    pub(crate) fn new(alloc: A) -> Changes<'a, A>
         ensures { IsAlwaysKept result.files }
     {
         Changes {

@@ -28,11 +28,11 @@ use gx_text::Sink;
 use std::alloc::Allocator;
 
 /// Writes the commit at a place, its blobs first. `lines` gathers the lines of its files.
-pub(crate) fn write_commit<N: Namer, A: Allocator + Copy, W: Sink>(
+pub(crate) fn write_commit<'a, N: Namer, A: Allocator + Copy, W: Sink>(
     alloc: A,
-    repo: &Repo<N, A>,
+    repo: &'a Repo<N, A>,
     written: &mut Written<'_, W, A>,
-    lines: &mut Lines<A>,
+    lines: &mut Lines<'a, A>,
     place: usize,
 ) -> Result<(), ExportFault>
     requires commit { (made : Commit) × IsAt repo.now.1 place made }
@@ -54,11 +54,11 @@ pub(crate) fn write_commit<N: Namer, A: Allocator + Copy, W: Sink>(
 }
 
 /// Writes a held commit, its blobs first. It has no mark yet.
-fn write_unmarked<N: Namer, A: Allocator + Copy, W: Sink>(
+fn write_unmarked<'a, N: Namer, A: Allocator + Copy, W: Sink>(
     alloc: A,
-    repo: &Repo<N, A>,
+    repo: &'a Repo<N, A>,
     written: &mut Written<'_, W, A>,
-    lines: &mut Lines<A>,
+    lines: &mut Lines<'a, A>,
     commit: &Name,
 ) -> Result<(), ExportFault>
     requires held { IsHeldAs kinds.Commit repo.now.1 commit.now }

@@ -29,7 +29,7 @@ pub(crate) fn add_changes<N: Namer, A: Allocator + Copy, W: Sink>(
     alloc: A,
     repo: &Repo<N, A>,
     written: &mut Written<'_, W, A>,
-    changes: &mut Changes<A>,
+    changes: &mut Changes<'_, A>,
     commit: &Name,
 ) -> Result<(), ExportFault>
     requires held { IsHeldAs kinds.Commit repo.now.1 commit.now }
@@ -73,7 +73,7 @@ fn compare_trees<N: Namer, A: Allocator + Copy, W: Sink>(
     alloc: A,
     repo: &Repo<N, A>,
     written: &mut Written<'_, W, A>,
-    changes: &mut Changes<A>,
+    changes: &mut Changes<'_, A>,
     front: &TreePath<A>,
     old: Option<Name>,
     new: Option<Name>,
@@ -104,7 +104,7 @@ fn compare_pair<N: Namer, A: Allocator + Copy, W: Sink>(
     alloc: A,
     repo: &Repo<N, A>,
     written: &mut Written<'_, W, A>,
-    changes: &mut Changes<A>,
+    changes: &mut Changes<'_, A>,
     front: &TreePath<A>,
     pair: &Pair<'_>,
     room: usize,
@@ -146,7 +146,7 @@ fn compare_pair<N: Namer, A: Allocator + Copy, W: Sink>(
 fn compare_files<N: Namer, A: Allocator + Copy, W: Sink>(
     repo: &Repo<N, A>,
     written: &mut Written<'_, W, A>,
-    changes: &mut Changes<A>,
+    changes: &mut Changes<'_, A>,
     path: &TreePath<A>,
     new: &Option<Entry<'_>>,
 ) -> Result<(), ExportFault>

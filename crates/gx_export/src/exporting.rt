@@ -31,9 +31,10 @@ use std::alloc::Allocator;
 /// is a front of the text. So a text that went out whole is no longer than what an import reads.
 ///
 /// Cost: the text's length, the number of records, for each commit the number of its directories and of those of the commit
-/// before, for each entry of a tree that didn't stand at its path in the commit before its path's length and a look-up, and
-/// for each commit, parent and ref up to four look-ups. Memory: nine bytes for each record, and two commits' file lines with
-/// the paths of their directories. Source: git-fast-export(1), `--full-tree`.
+/// before, and the entries of the trees that didn't stand at their paths in it, for each of these whose file is new or
+/// another its path's length and a look-up, and for each commit, parent and ref up to four look-ups. Memory: nine bytes for
+/// each record, and two commits' file lines with their entries and the paths of their directories.
+/// Source: git-fast-export(1), `--full-tree`.
 pub fn export<N: Namer, A: Allocator + Copy, W: Sink>(
     alloc: A,
     repo: &Repo<N, A>,

@@ -11,6 +11,7 @@ mod comparing;
 mod exporting;
 mod exporting_changes;
 mod fault;
+mod file_lines;
 mod lines;
 mod naming;
 mod output;

@@ -2,7 +2,7 @@
 //! from the commit before.
 
 ghost use Rattle.std.specs.List.{slice_range};
-ghost use Rattle.std.specs.Prelude.{◌≡◌, ◌≤◌, ◌+◌, ◌-◌, ◌++◌, [], true, drop, length, List, Some, IfOk, OnOk};
+ghost use Rattle.std.specs.Prelude.{◌≡◌, ◌≤◌, ◌+◌, ◌-◌, ◌++◌, [], true, drop, length, List, None, Some, IfOk, OnOk};
 ghost use Rattle.gx_model.specs.declared.objects.Kind.{Kind};
 ghost use Rattle.gx_model.specs.declared.objects.Mode.TheVariants.{Gitlink};
 ghost use Rattle.gx_model.specs.Export.{mark_text, mode_digits};
@@ -10,39 +10,42 @@ ghost use Rattle.gx_model.specs.Histories.Values.{Value};
 ghost use Rattle.gx_model.specs.Histories.{Records};
 ghost use Rattle.gx_model.specs.Objects.{hex};
 ghost use Rattle.gx_model.specs.Texts.{Bytes};
-ghost use Rattle.gx_export.specs.FileTexts.{AppendsLine, AreKept, IsAlwaysKept, IsLinesOfTree, StaysKept, TakesOver};
+ghost use Rattle.gx_export.specs.FileTexts.{AppendsLine, AreKept, IsAlwaysKept, IsLineIn, IsLinesOfTree, StaysKept, TakesLine, TakesOver};
 ghost use Rattle.gx_export.specs.Texts.{line_end, parts_text};
 
-use gx_object::{Mode, Name};
+use crate::file_lines::{FileLine, Opened, earlier_line};
+use gx_object::{Entry, Mode, Name};
 use gx_text::TreePath;
 use itoa::Buffer;
 use std::alloc::{AllocError, Allocator};
 use std::mem::{replace, swap};
 
-/// A directory whose lines stand from a place to another one of a text. Before they do, no tree is known.
+/// A directory whose lines stand from a place to another one of a text, with those of its own files. Before all do, no tree
+/// is known.
 #[derive(Drop)]
-pub(crate) struct Directory<A: Allocator> {
+pub(crate) struct Directory<'a, A: Allocator> {
     path: Vec<u8, A>,
     tree: Option<Name>,
-    start: usize,
-    end: usize,
+    pub(crate) start: usize,
+    pub(crate) end: usize,
+    pub(crate) files: Vec<FileLine<'a>, A>,
 }
 
 /// The lines of the files of one commit, and those of the commit before, each with its directories in the order in which
 /// trees lead to them. Of the latter the first `next` were passed.
 #[derive(Drop)]
-pub(crate) struct Lines<A: Allocator> {
+pub(crate) struct Lines<'a, A: Allocator> {
     pub(crate) text: Vec<u8, A>,
-    directories: Vec<Directory<A>, A>,
+    directories: Vec<Directory<'a, A>, A>,
     earlier: Vec<u8, A>,
-    left: Vec<Directory<A>, A>,
+    left: Vec<Directory<'a, A>, A>,
     next: usize,
     alloc: A,
 }
 
-impl<A: Allocator + Copy> Lines<A> {
+impl<'a, A: Allocator + Copy> Lines<'a, A> {
     /// No lines. Takes no memory.
-    pub(crate) fn new(alloc: A) -> Lines<A>
+    pub(crate) fn new(alloc: A) -> Lines<'a, A>
         ensures { IsAlwaysKept result }
     {
         Lines {
@@ -100,6 +103,15 @@ impl<A: Allocator + Copy> Lines<A> {
         }
     }
 
+    /// Passes the next directory of the commit before, where it has this path.
+    fn pass_one(&mut self, path: &[u8])
+        ensures { self.new ≡ record self.old { next = self.new.next } }
+    {
+        if self.next < self.left.len() && has_path(&self.left[self.next], path) {
+            self.next += 1;
+        }
+    }
+
     /// Moves the directories whose lines stood between two places of the old text to the new one, where these lines stand
     /// from a place on.
     fn carry(&mut self, start: usize, end: usize, place: usize) -> Result<(), AllocError>
@@ -119,6 +131,7 @@ impl<A: Allocator + Copy> Lines<A> {
                 tree: None,
                 start: 0,
                 end: 0,
+                files: Vec::new(self.alloc),
             };
             let moved = replace(&mut self.left[self.next], empty);
             let directory = Directory {
@@ -126,6 +139,7 @@ impl<A: Allocator + Copy> Lines<A> {
                 tree: moved.tree,
                 start: place + (moved.start - start),
                 end: place + (moved.end - start),
+                files: moved.files,
             };
             self.directories.push(directory)?;
             self.next += 1;
@@ -133,28 +147,85 @@ impl<A: Allocator + Copy> Lines<A> {
         Ok(())
     }
 
-    /// Enters the directory at a path, and answers its number.
-    pub(crate) fn open(&mut self, path: &[u8]) -> Result<usize, AllocError>
+    /// Enters the directory at a path.
+    pub(crate) fn open(&mut self, path: &[u8]) -> Result<Opened, AllocError>
         ensures text { self.new.text ≡ self.old.text }
         ensures kept { OnOk result (StaysKept self.old self.new) }
     {
-        if self.next < self.left.len() && has_path(&self.left[self.next], path) {
-            self.next += 1;
-        }
-        let place = self.directories.len();
+        let before = self.next;
+        self.pass_one(path);
+        let number = self.directories.len();
         let path = Vec::from_slice(self.alloc, path)?;
+        let start = self.text.len();
         let directory = Directory {
             path,
             tree: None,
-            start: 0,
-            end: 0,
+            start,
+            end: start,
+            files: Vec::new(self.alloc),
         };
         self.directories.push(directory)?;
-        Ok(place)
+        Ok(Opened {
+            number,
+            before,
+            passed: 0,
+        })
     }
 
-    /// The lines of the directory with a number are those from a place on.
-    pub(crate) fn close(&mut self, number: usize, path: &[u8], tree: &Name, start: usize)
+    /// Appends the line that a file of an entered directory had in the commit before, where its entry is the same.
+    pub(crate) fn take_line(
+        &mut self,
+        opened: &mut Opened,
+        path: &[u8],
+        entry: &Entry<'a>,
+    ) -> Result<bool, AllocError>
+        ensures { (name : Kind → Bytes → Bytes) (repository : Records) (ws : List Value)
+            → AreKept name repository ws self.old
+            → IfOk result (TakesLine name repository ws path.now entry.now self.old self.new) }
+    {
+        let Some(line) = earlier_line(&self.earlier, &self.left, opened, path, entry) else {
+            return Ok(false);
+        };
+        let start = self.text.len();
+        self.text.extend_from_slice(line)?;
+        self.keep(opened, path, entry, start)?;
+        Ok(true)
+    }
+
+    /// The line of a file of an entered directory is what stands from a place on.
+    pub(crate) fn keep(
+        &mut self,
+        opened: &Opened,
+        path: &[u8],
+        entry: &Entry<'a>,
+        start: usize,
+    ) -> Result<(), AllocError>
+        ensures text { self.new.text ≡ self.old.text }
+        ensures kept { (name : Kind → Bytes → Bytes) (repository : Records) (ws : List Value)
+            → AreKept name repository ws self.old
+            → start ≤ length self.old.text.items
+            → IsLineIn repository ws path.now entry.now (drop start self.old.text.items)
+            → OnOk result (AreKept name repository ws self.new) }
+    {
+        let end = self.text.len();
+        if opened.number >= self.directories.len() {
+            return Ok(());
+        }
+        if start <= end && is_open(&self.directories[opened.number], path, start) {
+            let directory = &mut self.directories[opened.number];
+            let line = FileLine {
+                entry: *entry,
+                start: start - directory.start,
+                end: end - directory.start,
+            };
+            directory.files.push(line)?;
+            directory.end = end;
+        }
+        Ok(())
+    }
+
+    /// All lines of an entered directory were gathered, which is the one of a tree.
+    pub(crate) fn close(&mut self, opened: &Opened, path: &[u8], tree: &Name, start: usize)
         ensures text { self.new.text ≡ self.old.text }
         ensures kept { (name : Kind → Bytes → Bytes) (repository : Records) (ws : List Value)
             → AreKept name repository ws self.old
@@ -163,14 +234,14 @@ impl<A: Allocator + Copy> Lines<A> {
             self.old.text.items)
             → AreKept name repository ws self.new }
     {
-        if number >= self.directories.len() {
+        if opened.number >= self.directories.len() {
             return;
         }
-        if has_path(&self.directories[number], path) {
-            let directory = &mut self.directories[number];
+        if begins_at(&self.directories[opened.number], path, start) {
+            let end = self.text.len();
+            let directory = &mut self.directories[opened.number];
             directory.tree = Some(*tree);
-            directory.start = start;
-            directory.end = self.text.len();
+            directory.end = end;
         }
     }
 
@@ -215,7 +286,7 @@ impl<A: Allocator + Copy> Lines<A> {
 }
 
 /// Whether a directory has this path and this tree.
-fn is_of<A: Allocator>(directory: &Directory<A>, path: &[u8], tree: &Name) -> bool
+fn is_of<A: Allocator>(directory: &Directory<'_, A>, path: &[u8], tree: &Name) -> bool
     ensures path { result ≡ true → directory.now.path.items ≡ path.now }
     ensures tree { result ≡ true → directory.now.tree ≡ Some tree.now }
 {
@@ -226,14 +297,34 @@ fn is_of<A: Allocator>(directory: &Directory<A>, path: &[u8], tree: &Name) -> bo
 }
 
 /// Whether a directory has this path.
-fn has_path<A: Allocator>(directory: &Directory<A>, path: &[u8]) -> bool
+pub(crate) fn has_path<A: Allocator>(directory: &Directory<'_, A>, path: &[u8]) -> bool
     ensures { result ≡ true → directory.now.path.items ≡ path.now }
 {
     directory.path.as_slice() == path
 }
 
+/// Whether a directory with this path has lines from this place on.
+fn begins_at<A: Allocator>(directory: &Directory<'_, A>, path: &[u8], start: usize) -> bool
+    ensures path { result ≡ true → directory.now.path.items ≡ path.now }
+    ensures start { result ≡ true → directory.now.start ≡ start }
+{
+    directory.start == start && has_path(directory, path)
+}
+
+/// Whether a directory with this path has lines from this place or from one before it on, and its tree isn't known yet.
+fn is_open<A: Allocator>(directory: &Directory<'_, A>, path: &[u8], start: usize) -> bool
+    ensures path { result ≡ true → directory.now.path.items ≡ path.now }
+    ensures start { result ≡ true → directory.now.start ≤ start }
+    ensures tree { result ≡ true → directory.now.tree ≡ None }
+{
+    match directory.tree {
+        Some(_) => false,
+        None => directory.start <= start && has_path(directory, path),
+    }
+}
+
 /// Whether a directory's lines stand between two places.
-fn stands_within<A: Allocator>(directory: &Directory<A>, start: usize, end: usize) -> bool
+fn stands_within<A: Allocator>(directory: &Directory<'_, A>, start: usize, end: usize) -> bool
     ensures start { result ≡ true → start ≤ directory.now.start }
     ensures order { result ≡ true → directory.now.start ≤ directory.now.end }
     ensures end { result ≡ true → directory.now.end ≤ end }

@@ -1,6 +1,6 @@
 //! The trees of a commit: the blobs of their files go out, and the files' lines are gathered.
 
-ghost use Rattle.std.specs.Prelude.{◌≡◌, ◌≢◌, [], ◌∷◌, List, OnOk};
+ghost use Rattle.std.specs.Prelude.{◌≡◌, ◌≢◌, ◌++◌, [], ◌∷◌, IsTrue, List, OnOk};
 ghost use Rattle.gx_model.specs.declared.objects.Kind.TheVariants as kinds;
 ghost use Rattle.gx_model.specs.declared.objects.Mode.TheVariants as modes;
 ghost use Rattle.gx_model.specs.Export.{contents, items_text, with_blobs};
@@ -8,19 +8,21 @@ ghost use Rattle.gx_model.specs.Faults.{NeedsNoMemory};
 ghost use Rattle.gx_model.specs.Histories.Values.{Value, files_of};
 ghost use Rattle.gx_model.specs.Records.HistoryOf.{placed};
 ghost use Rattle.gx_model.specs.Records.Sound as sound;
+ghost use Rattle.gx_model.specs.Texts.Paths.{is_component, is_short};
 ghost use Rattle.gx_model.specs.Texts.{Bytes};
 ghost use Rattle.gx_rev.specs.Objects.{IsHeldAs, commit_at};
 ghost use Rattle.gx_tree.specs.HeldTrees.{IsHeldEntry};
 ghost use Rattle.gx_tree.specs.Lists.{below};
 ghost use Rattle.gx_tree.specs.Nodes.{Kept, kept_map};
 ghost use Rattle.gx_tree.specs.Writes.{kept_leaf};
-ghost use Rattle.gx_export.specs.FileTexts.{Gathers, IsEntryBelow};
+ghost use Rattle.gx_export.specs.FileTexts.{Gathers, IsEntryBelow, entry_file};
 ghost use Rattle.gx_export.specs.Marks.{AddsBlobs, HasWritten, IsBlobAt};
 ghost use Rattle.gx_export.specs.Parts.{GathersTree, HasTreeBelow, IsUnderWay, Keeps, WhileUnderWay};
 ghost use Rattle.gx_export.specs.Texts.{file_items};
 
 use crate::ExportFault;
 use crate::commands::write_blob;
+use crate::file_lines::Opened;
 use crate::lines::Lines;
 use crate::written::Written;
 use gx_object::{Entry, Mode, Name, Namer};
@@ -31,11 +33,11 @@ use gx_tree::child;
 use std::alloc::Allocator;
 
 /// Writes the blobs of a held commit's files that weren't written yet, and gathers the files' lines.
-pub(crate) fn add_files<N: Namer, A: Allocator + Copy, W: Sink>(
+pub(crate) fn add_files<'a, N: Namer, A: Allocator + Copy, W: Sink>(
     alloc: A,
-    repo: &Repo<N, A>,
+    repo: &'a Repo<N, A>,
     written: &mut Written<'_, W, A>,
-    lines: &mut Lines<A>,
+    lines: &mut Lines<'a, A>,
     commit: &Name,
 ) -> Result<(), ExportFault>
     requires held { IsHeldAs kinds.Commit repo.now.1 commit.now }
@@ -59,11 +61,11 @@ pub(crate) fn add_files<N: Namer, A: Allocator + Copy, W: Sink>(
 /// Writes the blobs of a held tree's files that weren't written yet, and gathers the lines of the files, whose paths stand
 /// below `front` and have at most `room` bytes there. Those of a tree that stood there in the commit before are taken over.
 #[cycle(gather)]
-fn add_tree<N: Namer, A: Allocator + Copy, W: Sink>(
+fn add_tree<'a, N: Namer, A: Allocator + Copy, W: Sink>(
     alloc: A,
-    repo: &Repo<N, A>,
+    repo: &'a Repo<N, A>,
     written: &mut Written<'_, W, A>,
-    lines: &mut Lines<A>,
+    lines: &mut Lines<'a, A>,
     front: &TreePath<A>,
     tree: &Name,
     room: usize,
@@ -77,19 +79,20 @@ fn add_tree<N: Namer, A: Allocator + Copy, W: Sink>(
         return Ok(());
     }
     let start = lines.text.len();
-    let number = lines.open(front.joined())?;
-    add_entries(alloc, repo, written, lines, front, tree, room)?;
-    lines.close(number, front.joined(), tree, start);
+    let mut opened = lines.open(front.joined())?;
+    add_entries(alloc, repo, written, lines, &mut opened, front, tree, room)?;
+    lines.close(&opened, front.joined(), tree, start);
     Ok(())
 }
 
 /// Does so for all entries of a tree.
 #[cycle(gather)]
-fn add_entries<N: Namer, A: Allocator + Copy, W: Sink>(
+fn add_entries<'a, N: Namer, A: Allocator + Copy, W: Sink>(
     alloc: A,
-    repo: &Repo<N, A>,
+    repo: &'a Repo<N, A>,
     written: &mut Written<'_, W, A>,
-    lines: &mut Lines<A>,
+    lines: &mut Lines<'a, A>,
+    opened: &mut Opened,
     front: &TreePath<A>,
     tree: &Name,
     room: usize,
@@ -100,20 +103,21 @@ fn add_entries<N: Namer, A: Allocator + Copy, W: Sink>(
         lines.old lines.new result }
 {
     for entry in entries_of(repo, tree) {
-        add_entry(alloc, repo, written, lines, front, &entry, room)?;
+        add_entry(alloc, repo, written, lines, opened, front, &entry, room)?;
     }
     Ok(())
 }
 
 /// Does so for an entry of a tree, whose path stands below `front`.
 #[cycle(gather)]
-fn add_entry<N: Namer, A: Allocator + Copy, W: Sink>(
+fn add_entry<'a, N: Namer, A: Allocator + Copy, W: Sink>(
     alloc: A,
-    repo: &Repo<N, A>,
+    repo: &'a Repo<N, A>,
     written: &mut Written<'_, W, A>,
-    lines: &mut Lines<A>,
+    lines: &mut Lines<'a, A>,
+    opened: &mut Opened,
     front: &TreePath<A>,
-    entry: &Entry<'_>,
+    entry: &Entry<'a>,
     room: usize,
 ) -> Result<(), ExportFault>
     requires held { (k : Kept)
@@ -127,10 +131,10 @@ fn add_entry<N: Namer, A: Allocator + Copy, W: Sink>(
         repo.now.0) repo.now.1 ws (below front.now (placed entry.now.component.now (kept_map k)))
         written.old written.new lines.old lines.new result) }
 {
-    let path = child(alloc, front, entry.component)?;
     if entry.mode != Mode::Dir {
-        return add_file(repo, written, lines, &path, entry.mode, &entry.name);
+        return add_line(alloc, repo, written, lines, opened, front, entry);
     }
+    let path = child(alloc, front, entry.component)?;
     let used = entry.component.len();
     if used >= room {
         unreachable!();
@@ -146,11 +150,41 @@ fn add_entry<N: Namer, A: Allocator + Copy, W: Sink>(
     )
 }
 
+/// Gathers the line of a file in an entered directory at `front`: the one that it had in the commit before, where it stays.
+/// Else its blob is written first, where it wasn't written yet.
+fn add_line<'a, N: Namer, A: Allocator + Copy, W: Sink>(
+    alloc: A,
+    repo: &'a Repo<N, A>,
+    written: &mut Written<'_, W, A>,
+    lines: &mut Lines<'a, A>,
+    opened: &mut Opened,
+    front: &TreePath<A>,
+    entry: &Entry<'a>,
+) -> Result<(), ExportFault>
+    requires file { entry.now.mode ≢ modes.Dir }
+    requires component { IsTrue (is_component entry.now.component.now) }
+    requires short { IsTrue (is_short (front.now ++ entry.now.component.now ∷ [])) }
+    requires held { sound.IsHeldAs repo.now.1.records entry.now.mode entry.now.name.bytes }
+    requires written { IsUnderWay N.name_of repo.now written.old lines.old }
+    ensures { WhileUnderWay N.name_of repo.now written.old lines.old (λ ws. Gathers (N.name_of
+        repo.now.0) repo.now.1 ws (entry_file front.now entry.now) written.old written.new
+        lines.old lines.new result) }
+{
+    if lines.take_line(opened, front.joined(), entry)? {
+        return Ok(());
+    }
+    let path = child(alloc, front, entry.component)?;
+    let start = lines.text.len();
+    add_file(repo, written, lines, &path, entry.mode, &entry.name)?;
+    lines.keep(opened, front.joined(), entry, start)?;
+    Ok(())
+}
+
 /// Writes a file's blob, where it wasn't written yet, and gathers the file's line.
 pub(crate) fn add_file<N: Namer, A: Allocator + Copy, W: Sink>(
     repo: &Repo<N, A>,
     written: &mut Written<'_, W, A>,
-    lines: &mut Lines<A>,
+    lines: &mut Lines<'_, A>,
     path: &TreePath<A>,
     mode: Mode,
     name: &Name,

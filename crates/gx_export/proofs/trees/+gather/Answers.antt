@@ -1,4 +1,4 @@
-use Rattle.std.proofs.Common.{◌≡◌, ◌≢◌, ◌+◌, ◌*◌, ◌<◌, ◌≤◌, ◌∙◌, ◌++◌, [], ◌∷◌, length, drop, true, false, not, ap, sym, subst, arith, rules, Ok}
+use Rattle.std.proofs.Common.{◌≡◌, ◌≢◌, ◌+◌, ◌*◌, ◌<◌, ◌≤◌, ◌∙◌, ◌++◌, [], length, drop, true, false, not, ap, sym, subst, arith, rules, Ok}
 use Rattle.std.proofs.lemmas.List.{length-append}
 use Rattle.gx_model.specs.Export.{blob_commands, items_text, with_blobs}
 use Rattle.gx_model.specs.Records.HistoryOf.{named_values, placed}
@@ -32,11 +32,11 @@ add_entry-returns-in_err-path g t c = λ k entry leaf ws h kept.
     let p = err_from_is_err_and c.from_residual.result c.from_residual.ensures.1 in
     rw (p.1, p.2) (stops_first c.args.written.now.output (items_text (items_of (blob_commands ws (bytes_in (named_values c.args.repo.now.1.records) names)))))
 
-pub add_entry-add_file-requires-clause-file : goal.add_entry-add_file-requires-clause-file
-add_entry-add_file-requires-clause-file g t c = λ q. (let f : true ≡ false = c.if-ne.ensures ∙ ap (λ m. not (sameb the_type m Dir)) q in cc f)
+pub add_entry-add_line-requires-clause-file : goal.add_entry-add_line-requires-clause-file
+add_entry-add_line-requires-clause-file g t c = λ q. (let f : true ≡ false = c.if-ne.ensures ∙ ap (λ m. not (sameb the_type m Dir)) q in cc f)
 
-pub add_entry-add_file-requires-clause-held : goal.add_entry-add_file-requires-clause-held
-add_entry-add_file-requires-clause-held g t c =
+pub add_entry-add_line-requires-clause-held : goal.add_entry-add_line-requires-clause-held
+add_entry-add_line-requires-clause-held g t c =
     let e = c.args.entry.now in
     let held = c.requires.held in
     let dir : e.mode ≢ Dir = λ q. (let f : true ≡ false = c.if-ne.ensures ∙ ap (λ m. not (sameb the_type m Dir)) q in cc f) in
@@ -48,8 +48,7 @@ add_entry-returns-then-ne g t c = λ k entry leaf ws h kept.
     let r = c.args.repo.now.1 in
     let e = c.args.entry.now in
     let dir : e.mode ≢ Dir = λ q. (let f : true ≡ false = c.if-ne.ensures ∙ ap (λ m. not (sameb the_type m Dir)) q in cc f) in
-    let one = ap (λ p. (p, (e.mode, e.name.bytes)) ∷ []) c.in_ok-path.ensures ∙ file_below name r c.args.room c.args.front.now e.component.now e.name.bytes e.mode k leaf dir in
-    subst (λ fs. Gathers name r ws fs c.args.written.now c.add_file.new.written c.args.lines.now c.add_file.new.lines c.add_file.result) one (c.add_file.ensures ws h kept)
+    subst (λ fs. Gathers name r ws fs c.args.written.now c.add_line.new.written c.args.lines.now c.add_line.new.lines c.add_line.result) (file_below name r c.args.room c.args.front.now e.component.now e.name.bytes e.mode k leaf dir) (c.add_line.ensures ws h kept)
 
 pub add_entry-returns : goal.add_entry-returns
 add_entry-returns g t c = λ k entry leaf ws h kept.
@@ -121,9 +120,9 @@ add_tree-returns-in_err-take_over g t c = λ f tree ws h kept.
     let p = err_from_is_err_and c.from_residual.result c.from_residual.ensures.1 in
     rw (p.1, p.2) (stops_first c.args.written.now.output (items_text (items_of (blob_commands ws (bytes_in (named_values c.args.repo.now.1.records) (below c.args.front.now f))))))
 
-pub add_tree-returns-in_err-number : goal.add_tree-returns-in_err-number
-add_tree-returns-in_err-number g t c = λ f tree ws h kept.
-    let p = err_from_is_err_and c.from_residual-in_err-number.result c.from_residual-in_err-number.ensures.1 in
+pub add_tree-returns-in_err-opened : goal.add_tree-returns-in_err-opened
+add_tree-returns-in_err-opened g t c = λ f tree ws h kept.
+    let p = err_from_is_err_and c.from_residual-in_err-opened.result c.from_residual-in_err-opened.ensures.1 in
     rw (p.1, p.2) (stops_first c.args.written.now.output (items_text (items_of (blob_commands ws (bytes_in (named_values c.args.repo.now.1.records) (below c.args.front.now f))))))
 
 pub add_tree-returns-then-branch : goal.add_tree-returns-then-branch
@@ -141,7 +140,7 @@ add_tree-add_entries-requires g t c =
     let w = c.requires.written in
     let known : TakesOver name r w.0 c.joined.result.now c.args.tree.now.bytes c.args.lines.now c.take_over.new.self false = subst (TakesOver name r w.0 c.joined.result.now c.args.tree.now.bytes c.args.lines.now c.take_over.new.self) c.if-branch.false (c.in_ok-take_over.ensures name r w.0 w.2) in
     let less : 3 * c.args.room + 1 < t = omega (arith, c.decreases) in
-    λ κs within. (less, (within.0, (within.1.0, (within.1.1, (c.requires.held, (w.0, w.1, c.in_ok-number.ensures.kept name r w.0 known.0))))))
+    λ κs within. (less, (within.0, (within.1.0, (within.1.1, (c.requires.held, (w.0, w.1, c.in_ok-opened.ensures.kept name r w.0 known.0))))))
 
 pub add_tree-returns-in_err-add_entries : goal.add_tree-returns-in_err-add_entries
 add_tree-returns-in_err-add_entries g t c = λ f tree ws h kept.
@@ -149,7 +148,7 @@ add_tree-returns-in_err-add_entries g t c = λ f tree ws h kept.
     let r = c.args.repo.now.1 in
     let known : TakesOver name r ws c.joined.result.now c.args.tree.now.bytes c.args.lines.now c.take_over.new.self false = subst (TakesOver name r ws c.joined.result.now c.args.tree.now.bytes c.args.lines.now c.take_over.new.self) c.if-branch.false (c.in_ok-take_over.ensures name r ws kept) in
     let p = err_from_is_err_and c.from_residual-in_err-add_entries.result c.from_residual-in_err-add_entries.ensures.1 in
-    rw (p.1, p.2) (c.in_err-add_entries.ensures f tree ws h (c.in_ok-number.ensures.kept name r ws known.0))
+    rw (p.1, p.2) (c.in_err-add_entries.ensures f tree ws h (c.in_ok-opened.ensures.kept name r ws known.0))
 
 pub add_tree-returns : goal.add_tree-returns
 add_tree-returns g t c = λ f tree ws h kept.
@@ -160,8 +159,8 @@ add_tree-returns g t c = λ f tree ws h kept.
     let names = below front f in
     let us = with_blobs ws (bytes_in (named_values r.records) names) in
     let known : TakesOver name r ws c.joined.result.now n c.args.lines.now c.take_over.new.self false = subst (TakesOver name r ws c.joined.result.now n c.args.lines.now c.take_over.new.self) c.if-branch.false (c.in_ok-take_over.ensures name r ws kept) in
-    let e = c.in_ok-add_entries.ensures f tree ws h (c.in_ok-number.ensures.kept name r ws known.0) in
-    let opened : c.open.new.self.text.items ≡ c.take_over.new.self.text.items = ap (λ x. x.items) c.in_ok-number.ensures.text in
+    let e = c.in_ok-add_entries.ensures f tree ws h (c.in_ok-opened.ensures.kept name r ws known.0) in
+    let opened : c.open.new.self.text.items ≡ c.take_over.new.self.text.items = ap (λ x. x.items) c.in_ok-opened.ensures.text in
     let start : length c.open.new.self.text.items ≡ c.len-start.result = omega (arith, ap length opened, c.len-start.ensures, c.take_over.new.self.text.ok) in
     let lines = lines_gathered name r ws names c.args.written.now c.add_entries.new.written c.open.new.self c.add_entries.new.lines c.len-start.result start e in
     let within : c.len-start.result ≤ length c.add_entries.new.lines.text.items = omega (arith, start, ap length e.text, length-append c.open.new.self.text.items (lines_text (named_values r.records) us names)) in

@@ -2,7 +2,7 @@ use Rattle.std.proofs.Common.{◌∙◌, ◌++◌, ◌+◌, ◌-◌, ◌<◌, �
 use Rattle.std.specs.List.{AllByRecursion}
 use Rattle.gx_export.specs.FileTexts.{IsKept}
 use Rattle.gx_export.specs.declared.lines.Directory.{Directory}
-use Rattle.gx_export.proofs.Keeping.{all_item, all_more, all_set, directory_carried, item_same}
+use Rattle.gx_export.proofs.Keeping.{all_item, all_more, all_set, directory_carried, item_same, stands_empty}
 use Rattle.gx_export.proofs.lines.Lines.carry.Goals as goal
 
 pub loop-self-init : goal.loop-self-init
@@ -63,11 +63,11 @@ loop-self-preserved g c = record {
       let front = subst (λ d. c.args.start ≤ d.start) same (c.stands_within.ensures.start c.if-stands_within.true) in
       let back = subst (λ d. d.end ≤ c.args.end) same (c.stands_within.ensures.end c.if-stands_within.true) in
       let room = subst (λ t. c.args.place + (c.args.end - c.args.start) ≤ length t.items) (sym c.loop-self.invariant.text) c.requires.room in
-      let new : Directory g.row.A.Denot = record { path = moved.path; tree = moved.tree; start = c.args.place + (moved.start - c.args.start); end = c.args.place + (moved.end - c.args.start) } in
-      let one = directory_carried name r ws moved new before s.earlier.items s.text.items c.args.start c.args.end c.args.place now q front back room refl refl refl refl (subst Q (sym c.replace-moved.ensures.value) item) in
+      let new : Directory g.row.A.Denot = record { path = moved.path; tree = moved.tree; start = c.args.place + (moved.start - c.args.start); end = c.args.place + (moved.end - c.args.start); files = moved.files } in
+      let one = directory_carried name r ws moved new before s.earlier.items s.text.items c.args.start c.args.end c.args.place now q front back room refl refl refl refl refl (subst Q (sym c.replace-moved.ensures.value) item) in
       record {
         now = subst (AllByRecursion P) (sym c.in_ok-push.ensures.items) (all_more P s.directories.items new k.now one);
-        earlier = all_set Q s.left.items s.next c.replace-moved.new.dest k.earlier (subst Q (sym c.replace-moved.ensures.after) tt);
+        earlier = all_set Q s.left.items s.next c.replace-moved.new.dest k.earlier (subst Q (sym c.replace-moved.ensures.after) (stands_empty name r ws _ _ _ s.earlier.items 0 0 refl (omega arith) refl c.new-in-loop-self.ensures.items));
       };
 }
 

@@ -16,7 +16,7 @@ use Rattle.gx_text.specs.Lent.{lent_texts}
 use Rattle.gx_repo.specs.Repositories.{Repository}
 use Rattle.gx_repo.specs.declared.fault.DropFault.TheVariants as drop
 use Rattle.gx_rev.specs.declared.fault.RevFault.TheVariants.{UnknownRef}
-use Rattle.gx_cli.specs.Gathering.{GathersLines}
+use Rattle.gx_cli.specs.Gathering.{AreLines, GathersLines}
 use Rattle.gx_cli.specs.Serving.{DropsAll, DropsFrom, DropsRead, IsDropped, IsRefused, IsWritten}
 use Rattle.gx_cli.specs.declared.fault.CliFault.{CliFault}
 use Rattle.gx_cli.specs.declared.fault.CliFault.TheVariants as fault
@@ -57,12 +57,16 @@ module _ {N A : Type 0} (name_of : N → Kind → Bytes → Bytes) (old new : Re
       by why h k = subst (λ d. IsDropped (name_of old.0) old.1 d o) (sym h.2) (inl (subst (λ f. IsRefused f o) h.1 k))
 
 module _ {A : Type 0} (name : Kind → Bytes → Bytes) (old : Records) (words : List Bytes) (o : Outcome A) where
+  dropped_behind : (c : Coming) (read : Vec (Vec ℕ A) A) → AreLines (lines_from Lf c) c.fails (Ok read)
+      → IsDropped name old (dropped (words ++ map (λ line. line.items) read.items) old.refs) o → DropsRead name c.fails old (words ++ lines_from Lf c) o
+  dropped_behind c read h k =
+      subst (λ fails. DropsRead name fails old (words ++ lines_from Lf c) o) (sym h.0) (subst (λ lines. IsDropped name old (dropped (words ++ lines) old.refs) o) h.1 k)
+
   -- the lines of a source are names behind these words
   pub lines_dropped : (coming : Option Coming) (read : Vec (Vec ℕ A) A) → GathersLines coming (Ok read)
       → IsDropped name old (dropped (words ++ map (λ line. line.items) read.items) old.refs) o → DropsFrom name true old words coming o
-  lines_dropped None read h k = (map (λ line. line.items) read.items, false, k)
-  lines_dropped (Some c) read h k =
-      subst (λ fails. DropsRead name fails old (words ++ lines_from Lf (heard c)) o) (sym h.0) (subst (λ lines. IsDropped name old (dropped (words ++ lines) old.refs) o) h.1 k)
+  lines_dropped None read h k = (h.0, dropped_behind h.0 read h.1 k)
+  lines_dropped (Some c) read h k = dropped_behind (heard c) read h k
 
   -- no source is asked for
   pub without_lines : (stdin : Bool) (coming : Option Coming) → stdin ≡ false → IsDropped name old (dropped (words ++ []) old.refs) o → DropsFrom name stdin old words coming o
@@ -78,9 +82,9 @@ module _ {A : Type 0} (name : Kind → Bytes → Bytes) (old : Records) (words :
 
   -- they aren't all read
   pub lines_unread : (coming : Option Coming) (why : CliFault) → GathersLines {A = A} coming (Err why) → IsRefused why o → DropsFrom name true old words coming o
-  lines_unread None fault.OutOfMemory h k = ([], true, inr k)
-  lines_unread None fault.ReadFailed h k = ([], true, inl k)
-  lines_unread None why h k = absurd h.2
+  lines_unread None fault.OutOfMemory h k = (h.0, no_memory h.0.fails (words ++ lines_from Lf h.0) k)
+  lines_unread None fault.ReadFailed h k = (h.0, subst (λ fails. DropsRead name fails old (words ++ lines_from Lf h.0) o) (sym h.1) (inl k))
+  lines_unread None why h k = absurd h.1
   lines_unread (Some c) fault.OutOfMemory h k = no_memory (heard c).fails (words ++ lines_from Lf (heard c)) k
   lines_unread (Some c) fault.ReadFailed h k = subst (λ fails. DropsRead name fails old (words ++ lines_from Lf (heard c)) o) (sym h) (inl k)
   lines_unread (Some c) why h k = absurd h

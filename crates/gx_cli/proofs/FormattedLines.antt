@@ -20,7 +20,7 @@ use Rattle.gx_cli.specs.declared.serving.Outcome.{Outcome}
 -- a text is no format, or memory ran out
 pub refused_format : (A : Type 0) (text : Bytes) (fault : FormatFault) → GivesFormat {A = A} text (Err fault) → ReadsParts {A = A} (format_of text) (Err (of_format fault))
 refused_format A text format.BadFormat h = h
-refused_format A text format.OutOfMemory h = tt
+refused_format A text format.OutOfMemory h = h
 
 module _ (name : Kind → Bytes → Bytes) {A : Type 0} (form : BatchForm) (given : Option (List Part)) (text : Bytes) (coming : Option Coming) (was now : Option Taken) (o : Outcome A) where
   -- in the format that is given lines are answered

@@ -18,7 +18,7 @@ module _ (A : Type 0) where
   pub lines_cut_off : (coming : Option Coming) (why : BatchFault) → GivesLines {A = A} Lf coming (Err why) → GathersLines {A = A} coming (Err (of_batch why))
   lines_cut_off None batch.OutOfMemory h = h
   lines_cut_off None batch.ReadFailed h = h
-  lines_cut_off None batch.WriteFailed h = absurd h.2
+  lines_cut_off None batch.WriteFailed h = absurd h.1
   lines_cut_off (Some c) batch.OutOfMemory h = h
   lines_cut_off (Some c) batch.ReadFailed h = h
   lines_cut_off (Some c) batch.WriteFailed h = absurd h

@@ -36,7 +36,7 @@ module _ (name : Kind → Bytes → Bytes) (options : LogOptions) (repository : 
 
   -- nothing is printed where a source isn't read
   pub source_unread : (A : Type 0) (words : List Bytes) (coming : Option Coming) (was : Option Taken) (fault : CliFault) → GathersLines {A = A} coming (Err fault) → LogsFrom name options true repository words coming was was (Err fault)
-  source_unread A words None was fault h = (h.0, h.1, lines_unread A (words ++ h.0) h.0 h.1 was fault h.2)
+  source_unread A words None was fault h = (h.0, lines_unread A (words ++ lines_from Lf h.0) (lines_from Lf h.0) h.0.fails was fault h.1)
   source_unread A words (Some c) was fault h = lines_unread A (words ++ lines_from Lf (heard c)) (lines_from Lf (heard c)) (heard c).fails was fault h
 
   lines_read : (words : List Bytes) (fails : Bool) (was now : Option Taken) (answer : Result (Unit {0}) CliFault) → fails ≡ false → Prints (log_text name options (history_of repository) words) was now answer → LogsRead name options repository words fails was now answer
@@ -48,7 +48,7 @@ module _ (name : Kind → Bytes → Bytes) (options : LogOptions) (repository : 
   pub source_read : {A : Type 0} (words : List Bytes) (coming : Option Coming) (read : Vec (Vec ℕ A) A) (was now : Option Taken) (answer : Result (Unit {0}) CliFault) → GathersLines coming (Ok read)
       → Prints (log_text name options (history_of repository) (words ++ map (λ line. line.items) read.items)) was now answer → LogsFrom name options true repository words coming was now answer
   source_read words None read was now answer h k =
-      (h.0, h.1, lines_read (words ++ h.0) h.1 was now answer h.2.0 (subst (λ lines. Prints (log_text name options (history_of repository) (words ++ lines)) was now answer) h.2.1 k))
+      (h.0, lines_read (words ++ lines_from Lf h.0) h.0.fails was now answer h.1.0 (subst (λ lines. Prints (log_text name options (history_of repository) (words ++ lines)) was now answer) h.1.1 k))
   source_read words (Some c) read was now answer h k =
       lines_read (words ++ lines_from Lf (heard c)) (heard c).fails was now answer h.0 (subst (λ lines. Prints (log_text name options (history_of repository) (words ++ lines)) was now answer) h.1 k)
 

@@ -83,9 +83,9 @@ AreLines lines fails (Err ReadFailed) = fails ≡ true
 AreLines lines fails (Err OutOfMemory) = ⊤
 AreLines lines fails (Err fault) = ⊥
 
--- This holds of the lines of a source, and of whether it fails behind them. Where it tells nothing, there are lines that it gave.
+-- This holds of the lines of a source, and of whether it fails behind them. Where it tells nothing, they are those of some text.
 abbrev pub OfLines : Option Coming → (List Bytes → Bool → Type 0) → Type 0
-OfLines None holds = (lines : List Bytes) × (fails : Bool) × holds lines fails
+OfLines None holds = (c : Coming) × holds (lines_from Lf c) c.fails
 OfLines (Some c) holds = holds (lines_from Lf (heard c)) (heard c).fails
 
 -- the lines of a source, or why there aren't all of them

@@ -1,5 +1,5 @@
 -- How the commands end.
-use Rattle.std.specs.Prelude.{◌≡◌, ◌⊎◌, ℕ, Bool, true, false, if◌then◌else◌, List, ◌++◌, Option, Some, None, Result, Ok, Err, ⊤}
+use Rattle.std.specs.Prelude.{◌≡◌, ◌⊎◌, ℕ, Bool, true, false, if◌then◌else◌, List, ◌++◌, Option, Some, None, IsSome, Result, Ok, Err, ⊤}
 use Rattle.std.specs.Borrow.{Bor}
 use Rattle.std.specs.Option.{option_map}
 use Rattle.std.specs.Result.{result_map_both}
@@ -129,11 +129,11 @@ without_room (line.Init file) = None
 without_room (line.Batch form format nul file) = Some OutOfMemory
 without_room _ = Some (Store file.OutOfMemory)
 
--- a format of these parts was read, or the text that was read is none
+-- a format of these parts was read, or the text that was read is none; memory runs out only for one
 abbrev pub ReadsParts : {A : Type 0} → Option (List Part) → Result (Format A) CliFault → Type 0
 ReadsParts parts (Ok format) = parts ≡ Some format.parts.items
 ReadsParts parts (Err BadFormat) = parts ≡ None
-ReadsParts parts (Err OutOfMemory) = ⊤
+ReadsParts parts (Err OutOfMemory) = IsSome parts
 ReadsParts parts (Err fault) = ⊥
 
 -- the refs with these names leave a repository, or this word is refused

@@ -1,6 +1,6 @@
 -- What is asked of a repository, and what is answered.
 -- Source: gitrevisions(7), and gitglossary(7), "commit object".
-use Rattle.std.specs.Prelude.{◌≡◌, ℕ, List, map, Option, Some, None, Result, Ok, Err, ⊤}
+use Rattle.std.specs.Prelude.{◌≡◌, ℕ, List, map, Option, Some, None, Result, Ok, Err, IsOk, ⊤}
 use Rattle.std.specs.Option.{option_map}
 use Rattle.std.specs.declared.vec.Vec.{Vec}
 use Rattle.gx_model.specs.declared.objects.Kind.{Kind}
@@ -39,18 +39,18 @@ shown_fields fields = record {
 abbrev pub commit_read : (Kind → Bytes → Bytes) → History → Revision → Given CommitParts
 commit_read name h revision = commit_denoted name h revision >>= λ made. Ok (parts_of_commit name made)
 
--- these fields are given, or why none are, unless memory ran out
+-- these fields are given, or why none are; memory may run out only where some are
 abbrev pub ReadsAs : {A : Type 0} → Given CommitParts → Result (CommitFields A) CliFault → Type 0
 ReadsAs given (Ok fields) = given ≡ Ok (shown_fields fields)
 ReadsAs given (Err (cli.Revision number kind)) = (number ≡ 1) × (given ≡ Err (fault_of kind))
-ReadsAs given (Err cli.OutOfMemory) = ⊤
+ReadsAs given (Err cli.OutOfMemory) = IsOk given
 ReadsAs given (Err fault) = ⊥
 
--- these names are given, or the first word that is refused, unless memory ran out
+-- these names are given, or the first word that is refused; memory may run out only where none is
 abbrev pub ListsAs : {A : Type 0} → Result (List Bytes) WordFault → Result (Vec Name A) CliFault → Type 0
 ListsAs given (Ok names) = given ≡ Ok (map (λ called. called.bytes) names.items)
 ListsAs given (Err (cli.Revision number kind)) = given ≡ Err (record { word = number; fault = fault_of kind })
-ListsAs given (Err cli.OutOfMemory) = ⊤
+ListsAs given (Err cli.OutOfMemory) = IsOk given
 ListsAs given (Err fault) = ⊥
 
 module _ (name : Kind → Bytes → Bytes) (h : History) {A : Type 0} where

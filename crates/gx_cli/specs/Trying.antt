@@ -1,6 +1,6 @@
 -- What comes of a stream that is imported into an empty store, and then of a word that is shown as a revision.
 -- Source: git-fast-import(1) and git-cat-file(1).
-use Rattle.std.specs.Prelude.{◌≡◌, ℕ, false, [], ◌++◌, Option, Some, None, Result, Ok, Err, ⊤}
+use Rattle.std.specs.Prelude.{◌≡◌, ℕ, false, [], ◌++◌, Option, Some, None, Result, Ok, Err, IsOk, ⊤}
 use Rattle.std.specs.declared.vec.Vec.{Vec}
 use Rattle.gx_model.specs.declared.objects.Kind.{Kind}
 use Rattle.gx_model.specs.declared.objects.Mode.{Mode}
@@ -43,16 +43,16 @@ Shows before given was now (Err fault) = ⊥
 abbrev pub Replayed : Outcome → History → Bytes → Type 0
 Replayed outcome h text = (report : model.Report) × (outcome ≡ finished h text report)
 
--- what is looked up is given, or why nothing is, unless memory ran out
+-- what is looked up is given, or why nothing is; memory may run out only where something is
 abbrev pub LooksAs : {A : Type 0} → Given (Leaf Bytes) → Result (Mode × Vec ℕ A) CliFault → Type 0
 LooksAs given (Ok file) = given ≡ Ok (shown_file file)
 LooksAs given (Err (cli.Revision number kind)) = (number ≡ 1) × (given ≡ Err (fault_of kind))
-LooksAs given (Err OutOfMemory) = ⊤
+LooksAs given (Err OutOfMemory) = IsOk given
 LooksAs given (Err fault) = ⊥
 
 module _ (name : Kind → Bytes → Bytes) where
   -- This holds of the commands of a source, and of their replay into an empty store, where these features are asked for. Where the
-  -- source tells nothing, there are commands of some items.
+  -- source tells nothing, they are those of some items.
   abbrev pub OfReplay : Features → Option Coming → (Commands → Outcome → Type 0) → Type 0
   OfReplay asks None holds = (commands : Commands) × AreOfItems asks commands × holds commands (replayed_on asks name empty_repository commands)
   OfReplay asks (Some coming) holds =

@@ -1,6 +1,7 @@
 pub mod Listings
 pub mod Trying
 pub mod Questions
+pub mod FaultLines
 pub mod Headline
 pub mod Checking
 pub mod ChangesTrips

@@ -1,6 +1,7 @@
 //! Why a command is refused.
 
-ghost use Rattle.std.specs.Prelude.{◌≡◌};
+ghost use Rattle.std.specs.Prelude.{◌≡◌, Some};
+ghost use Rattle.gx_cli.specs.FaultLines.{line_of};
 ghost use Rattle.gx_cli.specs.Gathering.{of_archive, of_batch, of_format};
 ghost use Rattle.gx_cli.specs.declared.fault.CliFault.TheVariants.{OutOfMemory};
 
@@ -15,46 +16,56 @@ use gx_import::ImportFault;
 use gx_rev::RevFault;
 use gx_where::WhereFault;
 use std::alloc::{AllocError, AllocFailed};
+use std::fmt;
 use thiserror::Error;
 
 /// A refusal, which prints as its line on standard error.
 #[derive(Clone, Copy, Debug, PartialEq, Eq, Error)]
 pub enum CliFault {
-    #[error("gx: {0}")]
     Blobs(BlobsFault),
-    #[error("gx: {0}")]
     Import(ImportFault),
     /// The number of the revision among the words, from 1, and why it is refused.
-    #[error("gx: revision {number}: {kind}")]
     Revision { number: u64, kind: RevFault },
     /// Why the store's text isn't read.
-    #[error("gx: store: {0}")]
     Store(FileFault),
     /// Why the store isn't exported as a whole.
-    #[error("gx: export: {0}")]
     Export(ExportFault),
     /// Why a stream isn't adapted to its end.
-    #[error("gx: adapt: {0}")]
     Adapt(AdaptFault),
     /// Why it isn't told where a command begins.
-    #[error("gx: where: {0}")]
     Where(WhereFault),
     /// The format of a batch isn't one.
-    #[error("gx: BadFormat")]
     BadFormat,
     /// There is a store where a new one is to be made. The program answers it, which looks at files.
-    #[error("gx: store exists")]
     StoreExists,
     /// The source failed whose lines are answered, or whose text is searched. The program answers it, too, where it can't read
     /// the store's file.
-    #[error("gx: read failed")]
     ReadFailed,
     /// The sink didn't take all of the output.
-    #[error("gx: write failed")]
     WriteFailed,
     /// A growth was refused.
-    #[error("gx: out of memory")]
     OutOfMemory,
+}
+
+impl fmt::Display for CliFault {
+    ghost output = { λ fault. Some (line_of fault) };
+
+    fn fmt<W: fmt::Write>(&self, f: &mut fmt::Formatter<W>) -> fmt::Result {
+        match self {
+            CliFault::Blobs(fault) => write!(f, "gx: {fault}"),
+            CliFault::Import(fault) => write!(f, "gx: command {}: {}", fault.command, fault.kind),
+            CliFault::Revision { number, kind } => write!(f, "gx: revision {number}: {kind}"),
+            CliFault::Store(fault) => write!(f, "gx: store: {fault}"),
+            CliFault::Export(fault) => write!(f, "gx: export: {fault}"),
+            CliFault::Adapt(fault) => write!(f, "gx: adapt: {fault}"),
+            CliFault::Where(fault) => write!(f, "gx: where: {fault}"),
+            CliFault::BadFormat => f.write_str("gx: BadFormat"),
+            CliFault::StoreExists => f.write_str("gx: store exists"),
+            CliFault::ReadFailed => f.write_str("gx: read failed"),
+            CliFault::WriteFailed => f.write_str("gx: write failed"),
+            CliFault::OutOfMemory => f.write_str("gx: out of memory"),
+        }
+    }
 }
 
 impl From<AllocError> for CliFault {

@@ -1,6 +1,6 @@
 //! What a command does with the store's bytes, its input and its output.
 
-ghost use Rattle.std.specs.Prelude.{◌≡◌, Result, Some, ℕ};
+ghost use Rattle.std.specs.Prelude.{◌≡◌, [], Result, IsSome, None, Some, ℕ};
 ghost use Rattle.std.specs.Result.{result_map_both};
 ghost use Rattle.gx_blobs.specs.Naming.{NamesBlobs};
 ghost use Rattle.gx_blobs.specs.declared.blob_names.BlobsFault.{BlobsFault};
@@ -44,7 +44,7 @@ pub struct Outcome<A: Allocator> {
 ///
 /// Cost: that of a copy of the store's text, and of reading it, where one is read; for `import` also that of the import
 /// and the next text, and for `export` that of the export.
-pub fn serve<N: Namer + Drop, R: Source + Drop, W: Sink, A: Allocator + Copy>(
+pub fn serve<N: Namer + Copy + Drop, R: Source + Drop, W: Sink, A: Allocator + Copy>(
     alloc: A,
     namer: N,
     line: &Line<'_>,
@@ -59,7 +59,7 @@ pub fn serve<N: Namer + Drop, R: Source + Drop, W: Sink, A: Allocator + Copy>(
 {
     match without_room(line) {
         Some(fault) => serve_copy(alloc, namer, line, store, fault, source, sink, state),
-        None => serve_owned(alloc, namer, line, Vec::new(alloc), source, sink, state),
+        None => serve_alone(alloc, namer, line, source, sink, state),
     }
 }
 
@@ -68,7 +68,7 @@ pub fn serve<N: Namer + Drop, R: Source + Drop, W: Sink, A: Allocator + Copy>(
 /// The text is let go with the command, however that ends. Where there is no next text, the store's own stays as it was.
 ///
 /// Cost: that of `serve`, but for the copy. Memory: the text, for as long as it is read.
-pub fn serve_owned<N: Namer + Drop, R: Source + Drop, W: Sink, A: Allocator + Copy>(
+pub fn serve_owned<N: Namer + Copy + Drop, R: Source + Drop, W: Sink, A: Allocator + Copy>(
     alloc: A,
     namer: N,
     line: &Line<'_>,
@@ -81,6 +81,27 @@ pub fn serve_owned<N: Namer + Drop, R: Source + Drop, W: Sink, A: Allocator + Co
         (W.taken sink.old) (W.taken sink.new) result }
     ensures again { ServesExported (N.name_of namer) line.now store.items (R.coming source) result }
 {
+    match without_room(line) {
+        Some(_) => serve_text(alloc, namer, line, store, source, sink, state),
+        None => serve_alone(alloc, namer, line, source, sink, state),
+    }
+}
+
+/// Does what [`serve`] does with a command that has no use for a store's text.
+fn serve_alone<N: Namer + Copy + Drop, R: Source + Drop, W: Sink, A: Allocator + Copy>(
+    alloc: A,
+    namer: N,
+    line: &Line<'_>,
+    source: R,
+    sink: &mut W,
+    state: RandomState,
+) -> Outcome<A>
+    requires { without_room line.now ≡ None }
+    ensures { Serves (N.name_of namer) line.now [] (R.coming source)
+        (W.taken sink.old) (W.taken sink.new) result }
+{
+    let mut told = Explanation::none();
+    let told = &mut told;
     match line {
         Line::Blobs => outcome_of(blobs_alone(alloc, namer, source, sink, state)),
         Line::Try {
@@ -91,8 +112,6 @@ pub fn serve_owned<N: Namer + Drop, R: Source + Drop, W: Sink, A: Allocator + Co
         } => {
             let features = features_of(*done, *force);
             let word = revision.as_bytes();
-            let mut told = Explanation::none();
-            let told = &mut told;
             outcome_of(try_revision(alloc, namer, word, source, sink, features, state, told))
         }
         Line::Check {
@@ -101,21 +120,36 @@ pub fn serve_owned<N: Namer + Drop, R: Source + Drop, W: Sink, A: Allocator + Co
             explain: _,
         } => {
             let features = features_of(*done, *force);
-            let mut told = Explanation::none();
-            let told = &mut told;
             outcome_of(check_stream(alloc, namer, source, sink, features, state, told))
+        }
+        Line::WhereFault { done, force } => {
+            let features = features_of(*done, *force);
+            outcome_of(find_fault(alloc, namer, source, features, state, told))
         }
         Line::Adapt { drop_signatures } => {
             outcome_of(adapt_stream(alloc, source, sink, *drop_signatures))
         }
         Line::Where(command) => outcome_of(print_place(alloc, *command, source, sink)),
-        Line::WhereFault { done, force } => {
-            let features = features_of(*done, *force);
-            let mut told = Explanation::none();
-            let told = &mut told;
-            outcome_of(find_fault(alloc, namer, source, features, state, told))
-        }
-        Line::Init { file: _ } => init(alloc, namer, state),
+        _ => init(alloc, namer, state),
+    }
+}
+
+/// Does what [`serve`] does with a command that reads a store's text.
+fn serve_text<N: Namer + Drop, R: Source + Drop, W: Sink, A: Allocator + Copy>(
+    alloc: A,
+    namer: N,
+    line: &Line<'_>,
+    store: Vec<u8, A>,
+    source: R,
+    sink: &mut W,
+    state: RandomState,
+) -> Outcome<A>
+    requires { IsSome (without_room line.now) }
+    ensures served { Serves (N.name_of namer) line.now store.items (R.coming source)
+        (W.taken sink.old) (W.taken sink.new) result }
+    ensures again { ServesExported (N.name_of namer) line.now store.items (R.coming source) result }
+{
+    match line {
         Line::Import {
             file: _,
             done,
@@ -156,7 +190,7 @@ fn serve_copy<N: Namer + Drop, R: Source + Drop, W: Sink, A: Allocator + Copy>(
     ensures again { ServesExported (N.name_of namer) line.now store.now (R.coming source) result }
 {
     match Vec::from_slice(alloc, store) {
-        Ok(copy) => serve_owned(alloc, namer, line, copy, source, sink, state),
+        Ok(copy) => serve_text(alloc, namer, line, copy, source, sink, state),
         Err(_) => refused(fault),
     }
 }

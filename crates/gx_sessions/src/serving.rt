@@ -85,7 +85,7 @@ pub(crate) enum Report {
 }
 
 /// How a command ends. What the devices tell is left open here, so no caller has more to prove than that the call is safe.
-fn ended<N: Namer + Drop, R: Source + Drop, W: Sink>(
+fn ended<N: Namer + Copy + Drop, R: Source + Drop, W: Sink>(
     alloc: Global,
     namer: N,
     line: &Line<'_>,

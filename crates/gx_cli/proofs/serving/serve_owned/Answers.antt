@@ -1,42 +1,11 @@
-use Rattle.std.proofs.Common.{refl, subst, sym}
-use Rattle.gx_cli.specs.Serving.{ImportsText, ImportsTextAgain, Serves, ServesExported}
-use Rattle.gx_cli.specs.Trying.{FindsFault}
-use Rattle.gx_cli.proofs.ServedLines.{opened_served, other_again}
+use Rattle.std.proofs.Common.{[], sym}
+use Rattle.gx_cli.proofs.RoomlessLines.{unread_again, unread_served}
 use Rattle.gx_cli.proofs.serving.serve_owned.Goals as goal
 
-pub returns-in-WhereFault-clause-served : goal.returns-in-WhereFault-clause-served
-returns-in-WhereFault-clause-served g c =
-    let name = g.N.Namer.name_of c.args.namer in
-    let coming = g.R.Source.coming c.args.source in
-    let was = g.W.Sink.taken c.args.sink.now in
-    let found = subst (λ asks. FindsFault name asks coming c.find_fault.result) c.features_of-features-in-WhereFault.ensures c.find_fault.ensures.found in
-    subst (λ l. Serves name l c.args.store.items coming was was c.outcome_of-in-WhereFault.result) (sym c.in-WhereFault.is) ((c.find_fault.result, found, c.outcome_of-in-WhereFault.ensures), refl)
+pub returns-in-None-clause-served : goal.returns-in-None-clause-served
+returns-in-None-clause-served g c =
+    unread_served (g.N.Namer.name_of c.args.namer) c.serve_alone.result [] c.args.store.items (g.R.Source.coming c.args.source) c.args.line.now (g.W.Sink.taken c.args.sink.now) (g.W.Sink.taken c.serve_alone.new.sink) (sym c.in-None.ensures) c.serve_alone.ensures
 
-pub returns-in-Import-clause-served : goal.returns-in-Import-clause-served
-returns-in-Import-clause-served g c =
-    let name = g.N.Namer.name_of c.args.namer in
-    let coming = g.R.Source.coming c.args.source in
-    let was = g.W.Sink.taken c.args.sink.now in
-    let now = g.W.Sink.taken c.import_text.new.sink in
-    let imported = subst (λ asks. ImportsText name asks c.args.store.items coming was now c.import_text.result) c.features_of-features-in-Import.ensures c.import_text.ensures.imported in
-    subst (λ l. Serves name l c.args.store.items coming was now c.import_text.result) (sym c.in-Import.is) imported
-
-pub returns-in-Import-clause-again : goal.returns-in-Import-clause-again
-returns-in-Import-clause-again g c =
-    let name = g.N.Namer.name_of c.args.namer in
-    let coming = g.R.Source.coming c.args.source in
-    let again = subst (λ asks. ImportsTextAgain name asks c.args.store.items coming c.import_text.result) c.features_of-features-in-Import.ensures c.import_text.ensures.again in
-    subst (λ l. ServesExported name l c.args.store.items coming c.import_text.result) (sym c.in-Import.is) again
-
-pub returns-in_default : goal.returns-in_default
-returns-in_default g c =
-    let name = g.N.Namer.name_of c.args.namer in
-    let coming = g.R.Source.coming c.args.source in
-    let was = g.W.Sink.taken c.args.sink.now in
-    let now = g.W.Sink.taken c.serve_stored.new.sink in
-    let o = c.serve_stored.result in
-    let not = c.in_default in
-    record {
-      served = opened_served name o coming was now c.args.line.now c.args.store.items not.not-Blobs not.not-Try not.not-Check not.not-Adapt not.not-Where not.not-WhereFault not.not-Init not.not-Import not.not-Batch c.serve_stored.ensures;
-      again = other_again name o coming was now c.args.line.now c.args.store.items not.not-Import;
-    }
+pub returns-in-None-clause-again : goal.returns-in-None-clause-again
+returns-in-None-clause-again g c =
+    unread_again (g.N.Namer.name_of c.args.namer) c.serve_alone.result c.args.store.items (g.R.Source.coming c.args.source) c.args.line.now (sym c.in-None.ensures)

@@ -16,7 +16,6 @@ pub mod CommandAnswers
 pub mod FormattedLines
 pub mod ReadStores
 pub mod RoundTrips
-pub mod ChangesTrips
 pub mod CheckedTrips
 pub mod Replies
 pub mod Gathered

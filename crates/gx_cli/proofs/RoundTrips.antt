@@ -129,14 +129,14 @@ module _ {N : Type 0} (name_of : N → Kind → Bytes → Bytes) (namer : N) (as
     came_back report trip h is back = (imports_so (Ok (told trip)) (subst (λ r. Imports asks (name_of old.0) old.1 new.1 coming was now (Ok r)) (sym is) h), back)
 
   -- what was imported came back by the round trip, or stopped on its way
-  pub trip_came : {A : Type 0} (question : Option (Question A)) (report : Report) (answer : Result (RoundTrip N A) CliFault) → Imports asks (name_of old.0) old.1 new.1 coming was now (Ok report)
-      → ComesBackOr (name_of namer) {N = N} {A = A} question report new.1 answer → RoundTrips (name_of namer) {N = N} {A = A} asks question old.1 new.1 coming was now answer
-  trip_came {A} question report (Err fault) h k = stopped_between (λ (trip : RoundTrip N A). trip.report) (ComesBack (name_of namer) question) export_text A report fault h k
-  trip_came {A} question report (Ok trip) h k = came_back (λ (trip : RoundTrip N A). trip.report) (ComesBack (name_of namer) question) export_text report trip h k.0 k.1
+  pub trip_came : {A : Type 0} (form : ExportForm) (question : Option (Question A)) (report : Report) (answer : Result (RoundTrip N A) CliFault) → Imports asks (name_of old.0) old.1 new.1 coming was now (Ok report)
+      → ComesBackOr (name_of namer) {N = N} {A = A} form question report new.1 answer → RoundTrips (name_of namer) {N = N} {A = A} form asks question old.1 new.1 coming was now answer
+  trip_came {A} form question report (Err fault) h k = stopped_between (λ (trip : RoundTrip N A). trip.report) (ComesBack (name_of namer) form question) (text_as (name_of namer) form) A report fault h k
+  trip_came {A} form question report (Ok trip) h k = came_back (λ (trip : RoundTrip N A). trip.report) (ComesBack (name_of namer) form question) (text_as (name_of namer) form) report trip h k.0 k.1
 
 -- of a trip that came back, or stopped on its way, nothing is told
-pub trip_told : {N A : Type 0} (name : Kind → Bytes → Bytes) (question : Option (Question A)) (report : Report) (old made : Records) (asks : Features) (coming : Option Coming) (answer : Result (RoundTrip N A) CliFault) (told : Explanation A)
-    → ComesBackOr name {N = N} {A = A} question report made answer → TellsNothing told → ExplainsCommand name asks old coming answer told
-trip_told name question report old made asks coming (Err (Import fault)) told h k = absurd h
-trip_told name question report old made asks coming (Ok trip) told h k = k
-trip_told name question report old made asks coming (Err fault) told h k = k
+pub trip_told : {N A : Type 0} (name : Kind → Bytes → Bytes) (form : ExportForm) (question : Option (Question A)) (report : Report) (old made : Records) (asks : Features) (coming : Option Coming) (answer : Result (RoundTrip N A) CliFault) (told : Explanation A)
+    → ComesBackOr name {N = N} {A = A} form question report made answer → TellsNothing told → ExplainsCommand name asks old coming answer told
+trip_told name form question report old made asks coming (Err (Import fault)) told h k = absurd h
+trip_told name form question report old made asks coming (Ok trip) told h k = k
+trip_told name form question report old made asks coming (Err fault) told h k = k

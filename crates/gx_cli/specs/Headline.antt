@@ -1,5 +1,5 @@
 -- The headline: what comes of a stream that is imported into a repository, of what is asked there then, and of that repository when
--- it is exported and imported into an empty one.
+-- it is exported in a form, and that is imported into an empty one.
 -- Source: git-fast-import(1) and git-fast-export(1).
 use Rattle.std.specs.Prelude.{◌≡◌, ◌⊎◌, ℕ, ◌<◌, ◌≤◌, length, Option, Result, Ok, Err, ⊤}
 use Rattle.std.specs.declared.vec.Vec.{Vec}
@@ -8,7 +8,6 @@ use Rattle.gx_model.specs.declared.features.Features.{Features}
 use Rattle.gx_model.specs.Texts.{Bytes}
 use Rattle.gx_model.specs.Histories.{History, Records, StandsFor}
 use Rattle.gx_model.specs.Records.HistoryOf.{history_of}
-use Rattle.gx_model.specs.Export.{export_text}
 use Rattle.gx_model.specs.Texts.Sinks.{Taken}
 use Rattle.gx_text.specs.Devices.{Coming}
 use Rattle.gx_import.specs.Exported.{IsExported}
@@ -57,23 +56,25 @@ module _ (asks : Features) (name : Kind → Bytes → Bytes) {T : Type 0} (told 
       (report : Report) × Imports asks name old new coming was now (Ok report) × (most < length (text_of (history_of new)))
   Returns old new coming was now (Err fault) = ⊥
 
-module _ (name : Kind → Bytes → Bytes) {N A : Type 0} (question : Option (Question A)) where
+module _ (name : Kind → Bytes → Bytes) {N A : Type 0} (form : ExportForm) (question : Option (Question A)) where
   pub record ComesBack (made : Records) (trip : RoundTrip N A) : Type 0 where
     -- The repository stands for its history: its commits with their files, parents and messages, its tags and its refs.
     pub stands : StandsFor name made (history_of made)
     -- A file, a commit's fields and the commits of range words are answered as the history has them.
     pub reply : Replies name (history_of made) question trip.reply
-    -- The text is the history's export.
-    pub text : trip.text.items ≡ export_text (history_of made)
-    -- The second repository has the same refs under the same object names, exactly what they reach, and the same export.
+    -- The text is the history's export in this form.
+    pub text : trip.text.items ≡ text_as name form (history_of made)
+    -- The second repository has the same refs under the same object names, exactly what they reach, and the same export. It
+    -- stands for its own history.
     pub again : IsExported made trip.again.1
+    pub stands_again : StandsFor name trip.again.1 (history_of trip.again.1)
 
   -- What an import made comes back, with its report; or memory ran out, or the export has more than 2^63 - 1 bytes.
   abbrev pub ComesBackOr : Report → Records → Result (RoundTrip N A) CliFault → Type 0
   ComesBackOr report made (Ok trip) = (trip.report ≡ report) × ComesBack made trip
-  ComesBackOr report made (Err fault) = GivesText {A = A} (export_text (history_of made)) (Err fault)
+  ComesBackOr report made (Err fault) = GivesText {A = A} (text_as name form (history_of made)) (Err fault)
 
 -- What the import of a stream into a repository made comes back, where these features are asked for. Or the import is refused; or
 -- memory ran out after it, or the export has more than 2^63 - 1 bytes.
-abbrev pub RoundTrips : (Kind → Bytes → Bytes) → {N A : Type 0} → Features → Option (Question A) → Records → Records → Option Coming → Option Taken → Option Taken → Result (RoundTrip N A) CliFault → Type 0
-RoundTrips name {N} {A} asks question = Returns asks name (λ (trip : RoundTrip N A). trip.report) (ComesBack name {N = N} question) export_text
+abbrev pub RoundTrips : (Kind → Bytes → Bytes) → {N A : Type 0} → ExportForm → Features → Option (Question A) → Records → Records → Option Coming → Option Taken → Option Taken → Result (RoundTrip N A) CliFault → Type 0
+RoundTrips name {N} {A} form asks question = Returns asks name (λ (trip : RoundTrip N A). trip.report) (ComesBack name {N = N} form question) (text_as name form)

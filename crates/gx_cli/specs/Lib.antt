@@ -4,7 +4,6 @@ pub mod Questions
 pub mod FaultLines
 pub mod Headline
 pub mod Checking
-pub mod ChangesTrips
 pub mod Stored
 pub mod Storing
 pub mod WalkedFiles

@@ -2,50 +2,31 @@
 
 ghost use Rattle.std.specs.Prelude.{◌≡◌, ◌++◌, [], OnOk};
 ghost use Rattle.gx_model.specs.Histories.{empty_repository};
-ghost use Rattle.gx_cli.specs.Checking.{Checks, checked_line, count, TellsReport};
+ghost use Rattle.gx_cli.specs.Checking.{Checks, checked_line, count, TellsBack};
 ghost use Rattle.gx_cli.specs.Explained.{ExplainsCommand};
 
-use crate::CliFault;
 use crate::sending::put_text;
-use crate::trips::round_trip;
-use gx_import::{Explanation, Report};
+use crate::trips::{RoundTripOptions, round_trip};
+use crate::{CliFault, ExportForm};
+use gx_import::Explanation;
 use gx_model::Features;
 use gx_model::gitlink_laws::replays_keep_none;
-use gx_object::{Kind, Name, Namer};
+use gx_object::Namer;
 use gx_repo::Repo;
 use gx_text::{Sink, Source};
 use itoa::Buffer;
 use std::alloc::{AllocError, Allocator};
 use std::hash::RandomState;
 
-/// Makes the [`round_trip`] of a stream from an empty store, of which nothing is kept, and prints what it reports in a line: each ref
-/// came back with its object's name. Lines of `progress` go out first. These features are asked for as if the stream began with
-/// them.
+/// Makes the [`round_trip`] of a stream from an empty store by its changes, of which nothing is kept, and prints in a line how many
+/// commands were imported, and how many objects and refs came back: each ref with its object's name, and what refs reach. Lines of
+/// `progress` go out first. These features are asked for as if the stream began with them.
 ///
 /// `Import`: the stream's import is refused; what that is about is told, as `gx_import::import_explained` does. `Export`: the export
 /// has more than 2^63 - 1 bytes. `WriteFailed`: the sink didn't take all of the line. `OutOfMemory`: a growth was refused after
 /// the import.
 /// Cost and memory: those of the trip.
-pub fn check_stream<N: Namer + Drop, A: Allocator + Copy, R: Source + Drop, W: Sink>(
-    alloc: A,
-    namer: N,
-    source: R,
-    sink: &mut W,
-    features: Features,
-    state: RandomState,
-    told: &mut Explanation<A>,
-) -> Result<(), CliFault>
-    ensures explained { ExplainsCommand (N.name_of namer) features empty_repository
-        (R.coming source) result told.new }
-    ensures checked { Checks (N.name_of namer) features (R.coming source)
-        (W.taken sink.old) (W.taken sink.new) result }
-{
-    let lent = Lent { namer: &namer };
-    check_copied(alloc, lent, source, sink, features, state, told)
-}
-
-/// The same, where the namer can be copied.
-fn check_copied<N: Namer + Copy + Drop, A: Allocator + Copy, R: Source + Drop, W: Sink>(
+pub fn check_stream<N: Namer + Copy + Drop, A: Allocator + Copy, R: Source + Drop, W: Sink>(
     alloc: A,
     namer: N,
     source: R,
@@ -61,58 +42,43 @@ fn check_copied<N: Namer + Copy + Drop, A: Allocator + Copy, R: Source + Drop, W
 {
     replays_keep_none();
     let mut repo = Repo::new(alloc, namer, state);
-    match round_trip(
-        alloc, &mut repo, namer, source, sink, features, &None, state, told,
-    ) {
-        Ok(trip) => tell_report(alloc, &trip.report, sink),
+    let options = RoundTripOptions {
+        features,
+        question: None,
+        form: ExportForm::Changes { done: true },
+    };
+    match round_trip(alloc, &mut repo, namer, source, sink, &options, state, told) {
+        Ok(trip) => tell_back(alloc, trip.report.commands, &trip.again, sink),
         Err(fault) => Err(fault),
     }
 }
 
-/// A namer that two repositories borrow.
-struct Lent<'n, N: Namer> {
-    namer: &'n N,
-}
-
-impl<N: Namer> Clone for Lent<'_, N> {
-    fn clone(&self) -> Result<Self, AllocError> {
-        Ok(*self)
-    }
-}
-
-impl<N: Namer> Copy for Lent<'_, N> {}
-
-impl<N: Namer> Namer for Lent<'_, N> {
-    ghost name_of = { λ lent kind body. N.name_of lent.namer.now kind body };
-
-    ghost is_namer = { λ lent. N.is_namer lent.namer.now };
-
-    fn name(&self, kind: Kind, body: &[u8]) -> Name {
-        self.namer.name(kind, body)
-    }
-}
-
 /// Prints the line of a trip that came back. It is made before it goes out.
-fn tell_report<W: Sink, A: Allocator + Copy>(
+fn tell_back<N: Namer, W: Sink, A: Allocator + Copy>(
     alloc: A,
-    report: &Report,
+    commands: u64,
+    again: &Repo<N, A>,
     sink: &mut W,
 ) -> Result<(), CliFault>
-    ensures { TellsReport report.now (W.taken sink.old) (W.taken sink.new) result }
+    ensures { TellsBack commands again.now.1 (W.taken sink.old) (W.taken sink.new) result }
 {
     let mut line = Vec::new(alloc);
-    write_report(&mut line, report)?;
+    write_back(&mut line, commands, again)?;
     put_text(sink, &line)
 }
 
 /// Writes that line.
-fn write_report<A: Allocator>(line: &mut Vec<u8, A>, report: &Report) -> Result<(), AllocError>
+fn write_back<N: Namer, A: Allocator + Copy>(
+    line: &mut Vec<u8, A>,
+    commands: u64,
+    again: &Repo<N, A>,
+) -> Result<(), AllocError>
     requires empty { line.old.items ≡ [] }
-    ensures { OnOk result (line.new.items ≡ checked_line report.now) }
+    ensures { OnOk result (line.new.items ≡ checked_line commands again.now.1) }
 {
-    write_count(line, b"commands: ", report.commands)?;
-    write_count(line, b", objects: ", report.objects)?;
-    write_count(line, b", refs: ", report.refs)?;
+    write_count(line, b"commands: ", commands)?;
+    write_count(line, b", objects: ", again.store().len() as u64)?;
+    write_count(line, b", refs: ", again.refs().count() as u64)?;
     line.extend_from_slice(b", and all names came back\n")?;
     Ok(())
 }

@@ -5,7 +5,6 @@
 mod adapt;
 mod archive;
 mod batch;
-mod changes_trips;
 mod check;
 mod commands;
 mod drop_refs;
@@ -39,7 +38,6 @@ mod where_place;
 mod words;
 
 pub use adapt::adapt_stream;
-pub use changes_trips::{ChangesTrip, trip_by_changes};
 pub use check::check_stream;
 pub use explaining::{explanation_lines, item_line};
 pub use fault::CliFault;
@@ -55,6 +53,6 @@ pub use next_text::send_store;
 pub use questions::{CommitFields, Question, Reply, commit_in, list_in};
 pub use ref_report::import_store_reporting;
 pub use serving::{Outcome, serve, serve_owned};
-pub use trips::{RoundTrip, round_trip};
+pub use trips::{RoundTrip, RoundTripOptions, round_trip};
 pub use try_stream::{import_alone, look_in, try_revision};
 pub use where_fault::find_fault;

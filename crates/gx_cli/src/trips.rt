@@ -25,6 +25,17 @@ use gx_text::{Bytes, Growing, Sink, Source};
 use std::alloc::Allocator;
 use std::hash::RandomState;
 
+/// What a round trip is asked for.
+#[derive(Drop)]
+pub struct RoundTripOptions<A: Allocator> {
+    /// The features that are asked for as if the stream began with them.
+    pub features: Features,
+    /// What is asked of the repository that the stream makes.
+    pub question: Option<Question<A>>,
+    /// What the repository is exported as.
+    pub form: ExportForm,
+}
+
 /// What a stream's import into a repository reports, what is answered to a question then, the stream that the repository is
 /// exported as, and what that one makes of an empty store.
 #[derive(Drop)]
@@ -35,24 +46,22 @@ pub struct RoundTrip<N: Namer, A: Allocator> {
     pub again: Repo<N, A>,
 }
 
-/// Imports a stream into a repository, answers a question there, where one is asked, exports the repository, and imports the
-/// export into an empty one. Lines of `progress` go out as they come. These features are asked for as if the stream began with
-/// them. A question without an answer stops nothing.
+/// Imports a stream into a repository, answers a question there, where one is asked, exports the repository in a form, and imports
+/// the export into an empty one. Lines of `progress` go out as they come. A question without an answer stops nothing.
 ///
 /// `Import`: the stream's import is refused. The repository is then as its last checkpoint left it, its objects and its refs, and
 /// as it was before where there was none; what the refusal is about is told, as `gx_import::import_explained` does. `Export`: the
 /// export has more than 2^63 - 1 bytes, which no import reads. `OutOfMemory`: a growth was refused after the import. That of the
 /// export is refused for no other cause.
-/// Cost: that of the import, of the answer, of `gx_export::export`, and of the import of what it wrote. Memory: that of both
-/// imports, the answer, and the export's text.
+/// Cost: that of the import, of the answer, of the export, and of the import of what it wrote. Memory: that of both imports, the
+/// answer, and the export's text.
 pub fn round_trip<N: Namer + Copy + Drop, A: Allocator + Copy, R: Source + Drop, W: Sink>(
     alloc: A,
     repo: &mut Repo<N, A>,
     namer: N,
     source: R,
     sink: &mut W,
-    features: Features,
-    question: &Option<Question<A>>,
+    options: &RoundTripOptions<A>,
     state: RandomState,
     told: &mut Explanation<A>,
 ) -> Result<RoundTrip<N, A>, CliFault>
@@ -61,14 +70,14 @@ pub fn round_trip<N: Namer + Copy + Drop, A: Allocator + Copy, R: Source + Drop,
     ensures namer { repo.new.0 ≡ namer }
     ensures sound { IsSound (N.name_of namer) repo.new.1 }
     ensures extends { Extends repo.old.1.records repo.new.1.records }
-    ensures explained { ExplainsCommand (N.name_of namer) features repo.old.1
+    ensures explained { ExplainsCommand (N.name_of namer) options.now.features repo.old.1
         (R.coming source) result told.new }
     ensures again { IfOk result (λ trip. trip.again.0 ≡ namer) }
-    ensures back { RoundTrips (N.name_of namer) features question.now repo.old.1 repo.new.1
-        (R.coming source) (W.taken sink.old) (W.taken sink.new) result }
+    ensures back { RoundTrips (N.name_of namer) options.now.form options.now.features options.now.question
+        repo.old.1 repo.new.1 (R.coming source) (W.taken sink.old) (W.taken sink.new) result }
 {
-    match import_explained(alloc, repo, source, sink, features, told) {
-        Ok(report) => come_back(alloc, namer, report, repo, question, state),
+    match import_explained(alloc, repo, source, sink, options.features, told) {
+        Ok(report) => come_back(alloc, namer, report, repo, options, state),
         Err(fault) => Err(CliFault::Import(fault)),
     }
 }
@@ -79,18 +88,19 @@ fn come_back<N: Namer + Copy + Drop, A: Allocator + Copy>(
     namer: N,
     report: Report,
     repo: &Repo<N, A>,
-    question: &Option<Question<A>>,
+    options: &RoundTripOptions<A>,
     state: RandomState,
 ) -> Result<RoundTrip<N, A>, CliFault>
     requires namer { repo.now.0 ≡ namer }
     requires gitlinks { HoldsNoNullGitlink (history_of repo.now.1) }
     ensures again { IfOk result (λ trip. trip.again.0 ≡ namer) }
-    ensures back { ComesBackOr (N.name_of namer) question.now report repo.now.1 result }
+    ensures back { ComesBackOr (N.name_of namer) options.now.form options.now.question
+        report repo.now.1 result }
 {
     histories_of_records();
     repo.sound();
-    let reply = reply_asked(alloc, repo, question);
-    match export_again(alloc, namer, repo, ExportForm::FullTree, state) {
+    let reply = reply_asked(alloc, repo, &options.question);
+    match export_again(alloc, namer, repo, options.form, state) {
         Ok((again, text)) => Ok(RoundTrip {
             report,
             reply,
@@ -102,7 +112,7 @@ fn come_back<N: Namer + Copy + Drop, A: Allocator + Copy>(
 }
 
 /// The repository that the import of a repository's export in a form into an empty store makes, and the text of the export.
-pub(crate) fn export_again<N: Namer + Drop, A: Allocator + Copy>(
+fn export_again<N: Namer + Drop, A: Allocator + Copy>(
     alloc: A,
     namer: N,
     first: &Repo<N, A>,

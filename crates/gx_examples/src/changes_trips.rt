@@ -3,7 +3,9 @@
 use crate::exported::generated::history;
 use crate::round_trips::have_same_refs;
 use crate::texts::text;
-use gx_cli::{ChangesTrip, CliFault, trip_by_changes};
+use gx_cli::{
+    CliFault, Explanation, ExportForm, Features, RoundTrip, RoundTripOptions, round_trip,
+};
 use gx_devices::Refusing;
 use gx_import::{ImportFault, ImportKind};
 use gx_model::gitlink_laws::replays_keep_none;
@@ -52,7 +54,7 @@ fn each_refused_growth_of_a_trip_by_changes_is_out_of_memory(rt: HostRuntime) ->
 #[derive(Drop)]
 struct Made<A: Allocator> {
     first: Repo<Sha1Namer, A>,
-    trip: Result<ChangesTrip<Sha1Namer, A>, CliFault>,
+    trip: Result<RoundTrip<Sha1Namer, A>, CliFault>,
 }
 
 fn tripped<A: Allocator + Copy>(
@@ -65,7 +67,16 @@ fn tripped<A: Allocator + Copy>(
     replays_keep_none();
     let mut first = Repo::new(alloc, Sha1Namer, state);
     let source = Bytes::new(stream, 4096, false);
-    let trip = trip_by_changes(alloc, &mut first, Sha1Namer, source, sink, done, state);
+    let mut told = Explanation::none();
+    let told = &mut told;
+    let options = RoundTripOptions {
+        features: Features::none(),
+        question: None,
+        form: ExportForm::Changes { done },
+    };
+    let trip = round_trip(
+        alloc, &mut first, Sha1Namer, source, sink, &options, state, told,
+    );
     Made { first, trip }
 }
 
@@ -95,7 +106,7 @@ fn comes_back(alloc: Global, stream: &[u8], done: bool, state: RandomState) -> b
 /// Whether a trip of a trip's text gives the same text, and no fewer objects.
 fn comes_again(
     alloc: Global,
-    trip: &ChangesTrip<Sha1Namer, Global>,
+    trip: &RoundTrip<Sha1Namer, Global>,
     done: bool,
     state: RandomState,
 ) -> bool {

@@ -4,7 +4,10 @@ use crate::commands::{has_line, is_text};
 use crate::exported::generated::history;
 use crate::steps::{Step, halves, step_of};
 use crate::texts::text;
-use gx_cli::{CliFault, Explanation, Features, Question, Reply, RoundTrip, look_in, round_trip};
+use gx_cli::{
+    CliFault, Explanation, ExportForm, Features, Question, Reply, RoundTrip, RoundTripOptions, look_in,
+    round_trip,
+};
 use gx_devices::Refusing;
 use gx_import::{ImportFault, ImportKind};
 use gx_model::gitlink_laws::replays_keep_none;
@@ -204,7 +207,7 @@ fn tripped<A: Allocator + Copy>(
         path,
         ranges,
     };
-    Some(asked(alloc, stream, &Some(question), sink, state))
+    Some(asked(alloc, stream, Some(question), sink, state))
 }
 
 /// A range word alone.
@@ -221,21 +224,25 @@ fn range_alone<A: Allocator + Copy>(alloc: A, word: &str) -> Option<Vec<Range<A>
 fn asked<A: Allocator + Copy>(
     alloc: A,
     stream: &[u8],
-    question: &Option<Question<A>>,
+    question: Option<Question<A>>,
     sink: &mut Held<A>,
     state: RandomState,
 ) -> Made<A> {
     replays_keep_none();
     let mut first = Repo::new(alloc, Sha1Namer, state);
     let mut told = Explanation::none();
+    let options = RoundTripOptions {
+        features: Features::none(),
+        question,
+        form: ExportForm::FullTree,
+    };
     let trip = round_trip(
         alloc,
         &mut first,
         Sha1Namer,
         Bytes::new(stream, 4096, false),
         sink,
-        Features::none(),
-        question,
+        &options,
         state,
         &mut told,
     );

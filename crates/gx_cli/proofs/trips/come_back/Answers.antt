@@ -12,8 +12,9 @@ returns-in-Ok-clause-back g c =
       refl,
       record {
         stands = histories.stands made (subst (λ (n : g.row.N.Denot). IsSound (name n) made) c.requires.namer c.sound.ensures);
-        reply = subst (λ (n : g.row.N.Denot). Replies (name n) (history_of made) c.args.question.now c.reply_asked-reply.result) c.requires.namer c.reply_asked-reply.ensures;
+        reply = subst (λ (n : g.row.N.Denot). Replies (name n) (history_of made) c.args.options.now.question c.reply_asked-reply.result) c.requires.namer c.reply_asked-reply.ensures;
         text = c.in-Ok.ensures.made.0;
         again = c.in-Ok.ensures.made.1;
+        stands_again = histories.stands c.in-Ok.again.1 c.in-Ok.ensures.sound;
       },
     )

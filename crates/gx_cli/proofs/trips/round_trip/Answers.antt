@@ -1,5 +1,5 @@
 use Rattle.std.proofs.Common.{subst, ◌∙◌}
-use Rattle.gx_model.specs.Export.{export_text}
+use Rattle.gx_cli.specs.Forms.{text_as}
 use Rattle.gx_cli.specs.Headline.{ComesBack}
 use Rattle.gx_import.specs.Explaining.{ExplainsFault}
 use Rattle.gx_cli.specs.declared.trips.RoundTrip.{RoundTrip}
@@ -15,19 +15,19 @@ come_back-requires g c =
 
 pub returns-in-Ok-clause-back : goal.returns-in-Ok-clause-back
 returns-in-Ok-clause-back g c =
-    trip_came g.N.Namer.name_of c.args.namer c.args.features c.args.repo.now c.import_explained.new.repo c.requires.namer (g.R.Source.coming c.args.source) (g.W.Sink.taken c.args.sink.now) (g.W.Sink.taken c.import_explained.new.sink)
-    c.args.question.now c.in-Ok.report c.come_back.result c.in-Ok.ensures.replayed c.come_back.ensures.back
+    trip_came g.N.Namer.name_of c.args.namer c.args.options.now.features c.args.repo.now c.import_explained.new.repo c.requires.namer (g.R.Source.coming c.args.source) (g.W.Sink.taken c.args.sink.now) (g.W.Sink.taken c.import_explained.new.sink)
+    c.args.options.now.form c.args.options.now.question c.in-Ok.report c.come_back.result c.in-Ok.ensures.replayed c.come_back.ensures.back
 
 pub returns-in-Ok-clause-explained : goal.returns-in-Ok-clause-explained
 returns-in-Ok-clause-explained g c =
-    trip_told (g.N.Namer.name_of c.args.namer) c.args.question.now c.in-Ok.report c.args.repo.now.1 c.import_explained.new.repo.1 c.args.features (g.R.Source.coming c.args.source) c.come_back.result c.import_explained.new.told
+    trip_told (g.N.Namer.name_of c.args.namer) c.args.options.now.form c.args.options.now.question c.in-Ok.report c.args.repo.now.1 c.import_explained.new.repo.1 c.args.options.now.features (g.R.Source.coming c.args.source) c.come_back.result c.import_explained.new.told
     c.come_back.ensures.back c.in-Ok.ensures.explained
 
 pub returns-in-Err-clause-back : goal.returns-in-Err-clause-back
 returns-in-Err-clause-back g c =
-    refused_first g.N.Namer.name_of c.args.namer c.args.features c.args.repo.now c.import_explained.new.repo c.requires.namer (g.R.Source.coming c.args.source) (g.W.Sink.taken c.args.sink.now) (g.W.Sink.taken c.import_explained.new.sink)
-    (λ (trip : RoundTrip g.row.N.Denot g.row.A.Denot). trip.report) (ComesBack (g.N.Namer.name_of c.args.namer) c.args.question.now) export_text c.in-Err.fault c.in-Err.ensures.replayed c.in-Err.ensures.unchanged
+    refused_first g.N.Namer.name_of c.args.namer c.args.options.now.features c.args.repo.now c.import_explained.new.repo c.requires.namer (g.R.Source.coming c.args.source) (g.W.Sink.taken c.args.sink.now) (g.W.Sink.taken c.import_explained.new.sink)
+    (λ (trip : RoundTrip g.row.N.Denot g.row.A.Denot). trip.report) (ComesBack (g.N.Namer.name_of c.args.namer) c.args.options.now.form c.args.options.now.question) (text_as (g.N.Namer.name_of c.args.namer) c.args.options.now.form) c.in-Err.fault c.in-Err.ensures.replayed c.in-Err.ensures.unchanged
 
 pub returns-in-Err-clause-explained : goal.returns-in-Err-clause-explained
 returns-in-Err-clause-explained g c =
-    subst (λ (n : g.row.N.Denot). ExplainsFault (g.N.Namer.name_of n) c.args.features c.args.repo.now.1 (g.R.Source.coming c.args.source) c.in-Err.fault c.import_explained.new.told) c.requires.namer c.in-Err.ensures.explained
+    subst (λ (n : g.row.N.Denot). ExplainsFault (g.N.Namer.name_of n) c.args.options.now.features c.args.repo.now.1 (g.R.Source.coming c.args.source) c.in-Err.fault c.import_explained.new.told) c.requires.namer c.in-Err.ensures.explained

@@ -3,8 +3,8 @@ use Rattle.gx_model.specs.Records.HistoryOf.{history_of}
 use Rattle.gx_model.specs.Histories.{Records}
 use Rattle.gx_model.specs.Streams.Gitlinks.{HoldsNoNullGitlink}
 use Rattle.gx_cli.specs.declared.trips.RoundTrip.{RoundTrip}
-use Rattle.gx_cli.proofs.CheckedTrips.{fault_told, from_nothing, line_told, report_back, report_stopped}
-use Rattle.gx_cli.proofs.check.check_copied.Goals as goal
+use Rattle.gx_cli.proofs.CheckedTrips.{copy_back, copy_stopped, fault_told, from_nothing, line_told}
+use Rattle.gx_cli.proofs.check.check_stream.Goals as goal
 
 pub round_trip-requires : goal.round_trip-requires
 round_trip-requires g c = record {
@@ -20,11 +20,12 @@ returns-in-Ok-clause-checked g c =
     let mid = g.W.Sink.taken c.round_trip.new.sink in
     let made = c.round_trip.new.repo.1 in
     let trip = from_nothing {N = g.row.N.Denot} {A = g.row.A.Denot} name c.args.features c.new-repo.result _ made coming was mid (Ok c.in-Ok.trip) c.new-repo.ensures c.in-Ok.ensures.back in
-    (made, mid, Ok c.in-Ok.trip.report, report_back g.row.N.Denot g.row.A.Denot name c.args.features made coming was mid c.in-Ok.trip trip, c.tell_report.ensures)
+    (made, mid, Ok (c.in-Ok.trip.report, c.in-Ok.trip.again.1), copy_back g.row.N.Denot g.row.A.Denot name c.args.features made coming was mid c.in-Ok.trip trip, c.tell_back.ensures)
 
 pub returns-in-Ok-clause-explained : goal.returns-in-Ok-clause-explained
 returns-in-Ok-clause-explained g c =
-    line_told (g.N.Namer.name_of c.args.namer) c.args.features (g.R.Source.coming c.args.source) c.round_trip.new.told c.in-Ok.trip.report (g.W.Sink.taken c.round_trip.new.sink) (g.W.Sink.taken c.tell_report.new.sink) c.tell_report.result c.tell_report.ensures c.in-Ok.ensures.explained
+    line_told (g.N.Namer.name_of c.args.namer) c.args.features (g.R.Source.coming c.args.source) c.round_trip.new.told c.in-Ok.trip.report.commands c.in-Ok.trip.again.1 (g.W.Sink.taken c.round_trip.new.sink) (g.W.Sink.taken c.tell_back.new.sink)
+    c.tell_back.result c.tell_back.ensures c.in-Ok.ensures.explained
 
 pub returns-clause-checked : goal.returns-clause-checked
 returns-clause-checked g c =
@@ -34,7 +35,7 @@ returns-clause-checked g c =
     let mid = g.W.Sink.taken c.round_trip.new.sink in
     let made = c.round_trip.new.repo.1 in
     let trip = from_nothing {N = g.row.N.Denot} {A = g.row.A.Denot} name c.args.features c.new-repo.result _ made coming was mid (Err c.in-Err.fault) c.new-repo.ensures c.in-Err.ensures.back in
-    (made, mid, Err c.in-Err.fault, report_stopped g.row.N.Denot g.row.A.Denot name c.args.features made coming was mid c.in-Err.fault trip, (refl, refl))
+    (made, mid, Err c.in-Err.fault, copy_stopped g.row.N.Denot g.row.A.Denot name c.args.features made coming was mid c.in-Err.fault trip, (refl, refl))
 
 pub returns-clause-explained : goal.returns-clause-explained
 returns-clause-explained g c =

@@ -19,7 +19,6 @@ use Rattle.gx_cli.specs.declared.fault.CliFault.TheVariants.{Export, Import, Out
 use Rattle.gx_cli.specs.declared.questions.Question.{Question}
 use Rattle.gx_cli.specs.declared.trips.RoundTrip.{RoundTrip}
 
-
 module _ (N A : Type 0) (name : Kind → Bytes → Bytes) (asks : Features) (made : Records) (coming : Option Coming) (was mid : Option Taken) where
   -- it came back
   pub copy_back : (trip : RoundTrip N A) → RoundTrips name {N = N} {A = A} (Changes true) asks None empty_repository made coming was mid (Ok trip) → ReturnsCopy name asks made coming was mid (Ok (trip.report, trip.again.1))

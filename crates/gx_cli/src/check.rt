@@ -11,7 +11,7 @@ use crate::{CliFault, ExportForm};
 use gx_import::Explanation;
 use gx_model::Features;
 use gx_model::gitlink_laws::replays_keep_none;
-use gx_object::Namer;
+use gx_object::{Kind, Name, Namer};
 use gx_repo::Repo;
 use gx_text::{Sink, Source};
 use itoa::Buffer;
@@ -26,7 +26,26 @@ use std::hash::RandomState;
 /// has more than 2^63 - 1 bytes. `WriteFailed`: the sink didn't take all of the line. `OutOfMemory`: a growth was refused after
 /// the import.
 /// Cost and memory: those of the trip.
-pub fn check_stream<N: Namer + Copy + Drop, A: Allocator + Copy, R: Source + Drop, W: Sink>(
+pub fn check_stream<N: Namer + Drop, A: Allocator + Copy, R: Source + Drop, W: Sink>(
+    alloc: A,
+    namer: N,
+    source: R,
+    sink: &mut W,
+    features: Features,
+    state: RandomState,
+    told: &mut Explanation<A>,
+) -> Result<(), CliFault>
+    ensures explained { ExplainsCommand (N.name_of namer) features empty_repository
+        (R.coming source) result told.new }
+    ensures checked { Checks (N.name_of namer) features (R.coming source)
+        (W.taken sink.old) (W.taken sink.new) result }
+{
+    let lent = Lent { namer: &namer };
+    check_copied(alloc, lent, source, sink, features, state, told)
+}
+
+/// The same, where the namer can be copied.
+fn check_copied<N: Namer + Copy + Drop, A: Allocator + Copy, R: Source + Drop, W: Sink>(
     alloc: A,
     namer: N,
     source: R,
@@ -50,6 +69,29 @@ pub fn check_stream<N: Namer + Copy + Drop, A: Allocator + Copy, R: Source + Dro
     match round_trip(alloc, &mut repo, namer, source, sink, &options, state, told) {
         Ok(trip) => tell_back(alloc, trip.report.commands, &trip.again, sink),
         Err(fault) => Err(fault),
+    }
+}
+
+/// A namer that two repositories borrow.
+struct Lent<'n, N: Namer> {
+    namer: &'n N,
+}
+
+impl<N: Namer> Clone for Lent<'_, N> {
+    fn clone(&self) -> Result<Self, AllocError> {
+        Ok(*self)
+    }
+}
+
+impl<N: Namer> Copy for Lent<'_, N> {}
+
+impl<N: Namer> Namer for Lent<'_, N> {
+    ghost name_of = { λ lent kind body. N.name_of lent.namer.now kind body };
+
+    ghost is_namer = { λ lent. N.is_namer lent.namer.now };
+
+    fn name(&self, kind: Kind, body: &[u8]) -> Name {
+        self.namer.name(kind, body)
     }
 }
 

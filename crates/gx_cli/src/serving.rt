@@ -44,7 +44,7 @@ pub struct Outcome<A: Allocator> {
 ///
 /// Cost: that of a copy of the store's text, and of reading it, where one is read; for `import` also that of the import
 /// and the next text, and for `export` that of the export.
-pub fn serve<N: Namer + Copy + Drop, R: Source + Drop, W: Sink, A: Allocator + Copy>(
+pub fn serve<N: Namer + Drop, R: Source + Drop, W: Sink, A: Allocator + Copy>(
     alloc: A,
     namer: N,
     line: &Line<'_>,
@@ -68,7 +68,7 @@ pub fn serve<N: Namer + Copy + Drop, R: Source + Drop, W: Sink, A: Allocator + C
 /// The text is let go with the command, however that ends. Where there is no next text, the store's own stays as it was.
 ///
 /// Cost: that of `serve`, but for the copy. Memory: the text, for as long as it is read.
-pub fn serve_owned<N: Namer + Copy + Drop, R: Source + Drop, W: Sink, A: Allocator + Copy>(
+pub fn serve_owned<N: Namer + Drop, R: Source + Drop, W: Sink, A: Allocator + Copy>(
     alloc: A,
     namer: N,
     line: &Line<'_>,
@@ -88,7 +88,7 @@ pub fn serve_owned<N: Namer + Copy + Drop, R: Source + Drop, W: Sink, A: Allocat
 }
 
 /// Does what [`serve`] does with a command that has no use for a store's text.
-fn serve_alone<N: Namer + Copy + Drop, R: Source + Drop, W: Sink, A: Allocator + Copy>(
+fn serve_alone<N: Namer + Drop, R: Source + Drop, W: Sink, A: Allocator + Copy>(
     alloc: A,
     namer: N,
     line: &Line<'_>,

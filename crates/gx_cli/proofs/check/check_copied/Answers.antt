@@ -4,7 +4,7 @@ use Rattle.gx_model.specs.Histories.{Records}
 use Rattle.gx_model.specs.Streams.Gitlinks.{HoldsNoNullGitlink}
 use Rattle.gx_cli.specs.declared.trips.RoundTrip.{RoundTrip}
 use Rattle.gx_cli.proofs.CheckedTrips.{copy_back, copy_stopped, fault_told, from_nothing, line_told}
-use Rattle.gx_cli.proofs.check.check_stream.Goals as goal
+use Rattle.gx_cli.proofs.check.check_copied.Goals as goal
 
 pub round_trip-requires : goal.round_trip-requires
 round_trip-requires g c = record {

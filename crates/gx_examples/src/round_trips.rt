@@ -5,8 +5,8 @@ use crate::exported::generated::history;
 use crate::steps::{Step, halves, step_of};
 use crate::texts::text;
 use gx_cli::{
-    CliFault, Explanation, ExportForm, Features, Question, Reply, RoundTrip, RoundTripOptions, look_in,
-    round_trip,
+    CliFault, Explanation, ExportForm, Features, Question, Reply, RoundTrip, RoundTripOptions,
+    look_in, round_trip,
 };
 use gx_devices::Refusing;
 use gx_import::{ImportFault, ImportKind};

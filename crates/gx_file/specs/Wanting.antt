@@ -32,8 +32,8 @@ HasHead text = Behind (after_magic text) (λ start. IsOk (stored_count (codes "o
 -- ---- records
 
 module _ (name : Kind → Bytes → Bytes) where
-  -- memory may run out for a record which has the name that is stated, and against which nothing is; but of a tree with its links it may
-  -- be open what is below it, and whether its name is held
+  -- memory may run out for a record which has the name that is stated, and against which nothing is; but of a canonical tree whose links
+  -- are held and which isn't held itself, it may be open whether a path below it is too long and whether its name is held
   abbrev pub RunsOutFor : List Record → Option Bytes → Kind → Bytes → Type 0
   RunsOutFor rs stated k body = (is_stated stated (name k body) ≡ true) × HidesNoFaultOf rs (record_for name k body) (Err add.OutOfMemory)
 

@@ -7,13 +7,13 @@ use Rattle.std.proofs.lemmas.List.{take_at}
 use Rattle.gx_model.proofs.ObjectTexts.NameDigits.{AreBytes}
 use Rattle.gx_model.specs.Texts.{Bytes, lacks}
 use Rattle.gx_model.specs.Texts.Paths.{is_component}
-use Rattle.gx_model.specs.Objects.{Entry, IsTreeText, entry_text, is_canonical}
+use Rattle.gx_model.specs.Objects.{Entry, IsTreeText, entry_text}
 use Rattle.gx_object.specs.declared.earlier_files.EarlierFiles.{EarlierFiles}
 use Rattle.gx_object.specs.declared.entry.Entry.{Entry as Read}
 use Rattle.gx_object.specs.Entries.{shown}
 use Rattle.gx_object.specs.Order.{are_ordered, is_repeated, leads, meets_any, precedes}
 use Rattle.gx_object.specs.Passing.{LeadsPastFrom}
-use Rattle.gx_object.specs.Reading.{FollowsFrom, IsReadWith}
+use Rattle.gx_object.specs.Reading.{FollowsFrom}
 use Rattle.gx_object.specs.Trees.{IsEntryText, entry_at, entries_within, entries_of, entries_left, followers, may_follow, tree_of}
 use Rattle.gx_object.specs.Lines.{◌>>=◌}
 use Rattle.gx_object.proofs.Bodies.{entries_step, entries_stop, entry_again, entry_takes, is_some-step, left-step}
@@ -109,11 +109,6 @@ follows_none files next after e = λ _.
     ∙ sym (past_first files.is_file (shown next) (entries_left after))
     ∙ ap (λ above. may_follow above files.is_file (Some (shown next)) (entries_left after)) (sym e)
 
--- where no file is remembered, that stays so
-pub forgotten : (files new : EarlierFiles) (before : Option Read) → new.above ≡ 0 → IsReadWith files before → IsReadWith new before
-forgotten files new None e i = e
-forgotten files new (Some b) e i = (omega (arith, e), i.1)
-
 -- ---- a whole body
 
 pub tree_some : (body : Bytes) (o : Option (List Entry)) → AreBytes body → o ≡ tree_of body → IfSome o (λ es. IsTreeText es body)
@@ -128,11 +123,6 @@ reader_is body None bytes found only = by (tree_of body) refl
     by None e = refl
     by (Some es) e = only es (tree_takes body es bytes e)
 reader_is body (Some es) bytes found only = sym (tree_again body es found)
-
--- one entry more or less, and the body is a tree's as before
-pub still_some : (e : Entry) (old new : Option (List Entry)) → old ≡ option_map (λ es. e ∷ es) new → is_some new ≡ is_some old
-still_some e old None h = ap is_some (sym h)
-still_some e old (Some es) h = ap is_some (sym h)
 
 -- ---- the text of an entry
 

@@ -1,5 +1,5 @@
 -- An entry without where its component lies in memory, and what its mode adds to the component in the order.
-use Rattle.std.specs.Prelude.{Bool, ◌||◌, [], ◌∷◌, codes}
+use Rattle.std.specs.Prelude.{Bool, ◌||◌, [], codes}
 use Rattle.gx_model.specs.declared.objects.Mode.{Mode}
 use Rattle.gx_model.specs.declared.objects.Mode.TheVariants.{Dir}
 use Rattle.gx_model.specs.Texts.{Bytes, same_bytes}

@@ -1,5 +1,5 @@
 -- A tree's body of which nothing is known, while it is read.
-use Rattle.std.specs.Prelude.{◌≡◌, ℕ, Bool, true, not, ◌&&◌, ◌≤◌, length, List, ◌∷◌, Option, None, Some}
+use Rattle.std.specs.Prelude.{◌≡◌, ℕ, Bool, true, ◌&&◌, ◌≤◌, length, List, ◌∷◌, Option, None, Some}
 use Rattle.std.specs.Option.{option_map}
 use Rattle.gx_model.specs.Objects.{Entry as TreeEntry}
 use Rattle.gx_model.specs.Texts.{Bytes}

@@ -1,6 +1,6 @@
 -- The body of a tree, read from the left.
-use Rattle.std.specs.Prelude.{◌≡◌, Bool, true, false, not, ◌&&◌, ◌||◌, ◌==◌, ℕ, zero, suc, ◌<◌, nat_lt, IsTrue, List, [], ◌∷◌, length, get_or, take, drop, codes, Option, Some, None, if◌then◌else◌}
-use Rattle.std.specs.Option.{is_some, option_map, unwrap_or}
+use Rattle.std.specs.Prelude.{◌≡◌, Bool, true, not, ◌&&◌, ◌||◌, ◌==◌, ℕ, zero, suc, ◌<◌, nat_lt, IsTrue, List, [], ◌∷◌, length, get_or, take, drop, codes, Option, Some, None, if◌then◌else◌}
+use Rattle.std.specs.Option.{is_some, unwrap_or}
 use Rattle.gx_model.specs.declared.objects.Mode.{Mode}
 use Rattle.gx_model.specs.declared.objects.Mode.TheVariants.{File, Exec, Link, Gitlink, Dir}
 use Rattle.gx_model.specs.Texts.{Bytes, cut_at, lacks, same_bytes}

@@ -13,7 +13,7 @@ use Rattle.gx_model.specs.Histories.{Record, object_of, record_for}
 use Rattle.gx_model.specs.Records.HistoryOf.{files_of_entries, named_values}
 use Rattle.gx_model.specs.Records.Growth.{record_named}
 use Rattle.gx_model.specs.Records.RecordFaults.{content_fault, has_empty_directory, has_long_path, is_bad_below, is_without_entries, record_fault}
-use Rattle.gx_model.specs.Records.Sound.{AnyByRecursion, HasShortPaths, IsHeldAs, IsLinked, IsLinkedAfter, IsSound, IsTree}
+use Rattle.gx_model.specs.Records.Sound.{HasShortPaths, IsHeldAs, IsLinked, IsLinkedAfter, IsSound, IsTree}
 use Rattle.gx_model.proofs.ObjectTexts.BodiesReadBack.{entries_read}
 use Rattle.gx_model.proofs.Records.HeldObjects.{IsShown}
 use Rattle.gx_model.proofs.Records.ShortPaths.{short_paths}

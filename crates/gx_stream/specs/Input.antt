@@ -1,5 +1,6 @@
 -- What the fields of a reader stand for, and what each of its steps does to them.
 use Rattle.std.specs.Prelude.{◌≡◌, ℕ, suc, ◌+◌, ◌-◌, ◌<◌, ◌≤◌, ◌^◌, Bool, true, false, nat_lt, [], ◌++◌, length, take, drop, Option, Some, None, Result, Ok, Err}
+use Rattle.std.specs.Vec.{vec_capacity}
 use Rattle.gx_model.specs.Texts.{Bytes}
 use Rattle.gx_model.specs.Streams.Items.{Stream, items_of}
 use Rattle.gx_model.specs.Streams.Items as model
@@ -52,7 +53,7 @@ shown_whole (Over last) = None
 
 -- whether another piece would find no room behind what came
 abbrev pub is_full : {R A : Type 0} → Input R A → Bool
-is_full i = nat_lt (length i.text.items) (i.came + 65536)
+is_full i = nat_lt (vec_capacity i.text) (i.came + 65536)
 
 -- what came
 abbrev pub text_of : {R A : Type 0} → Input R A → Bytes

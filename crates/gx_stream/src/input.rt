@@ -1,6 +1,7 @@
 //! What came from a source, and the items in it.
 
 ghost use Rattle.std.specs.Prelude.{◌≡◌, ◌<◌, ◌≤◌, ◌+◌, ◌-◌, ◌^◌, length, take, drop, true, None, IsTrue, OnOk, OnErr};
+ghost use Rattle.std.specs.Vec.{vec_capacity};
 ghost use Rattle.gx_stream.specs.Input.{IsSound, FitsState, IsLonger, IsFoundWithin, Looks, is_whole, Takes, KeepsInput, KeepsStream, LeavesFewer, answer_at, is_full, shown_input, shown_over, shown_stream, text_of, pulls_left, state_of};
 ghost use Rattle.gx_stream.specs.Reading.{AnswersAs};
 ghost use Rattle.gx_stream.specs.declared.input.State.TheVariants.{Open};
@@ -166,10 +167,11 @@ fn make_room<A: Allocator>(text: &mut Vec<u8, A>, came: usize) -> Result<(), All
     ensures same { take came text.new.items ≡ take came text.old.items }
     ensures len { length text.old.items ≤ length text.new.items }
     ensures made { OnOk result (came + 65536 ≤ length text.new.items) }
-    ensures refused { OnErr result (length text.new.items < came + 65536) }
+    ensures refused { OnErr result (vec_capacity text.new < came + 65536) }
 {
     let wanted = came + PIECE;
     if text.len() < wanted {
+        text.reserve(wanted - text.len())?;
         text.resize(wanted, 0)?;
     }
     Ok(())

@@ -44,7 +44,7 @@ Refusals:
 pub(crate) const CHECK: Page = Page {
     about: "Imports standard input, exports it, and imports it again",
     description: "\
-Imports the stream on standard input into an empty store, exports that store,
+Imports the stream on standard input into an empty store, exports its changes,
 and imports the export into another empty one.
 
 It is accepted where each ref came back with its object's name, and with all
@@ -53,7 +53,7 @@ shows an end that came too early.",
     details: "\
 Output:
   The lines of the stream's progress commands, as they come, and then how many
-  commands, new objects and refs the first import had:
+  commands the first import had, and how many objects and refs came back:
     commands: N, objects: N, refs: N, and all names came back
 
 Refusals:

@@ -1,6 +1,6 @@
 use Rattle.std.proofs.Common.{ap, arith}
 use Rattle.std.specs.Option.{is_some}
-use Rattle.gx_object.proofs.Readings.{reader_is, still_some}
+use Rattle.gx_object.proofs.Readings.{reader_is}
 use Rattle.gx_object.proofs.tree.is_tree.Goals as goal
 
 pub loop-init : goal.loop-init

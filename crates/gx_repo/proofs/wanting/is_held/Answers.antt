@@ -1,4 +1,4 @@
-use Rattle.std.proofs.Common.{sym, ap, ◌∙◌, true≢false}
+use Rattle.std.proofs.Common.{sym, ◌∙◌, true≢false}
 use Rattle.gx_model.proofs.Records.HeldObjects.{is_shown}
 use Rattle.gx_repo.proofs.WantingTrees.{shown_alike, shown_none, shown_other}
 use Rattle.gx_repo.proofs.wanting.is_held.Goals as goal

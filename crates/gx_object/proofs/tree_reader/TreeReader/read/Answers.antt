@@ -1,10 +1,10 @@
-use Rattle.std.proofs.Common.{Some, refl, sym, ap, ◌∙◌, arith}
+use Rattle.std.proofs.Common.{sym, ap, ◌∙◌, arith}
 use Rattle.std.specs.Option.{option_map}
 use Rattle.gx_model.specs.Objects.{Entry}
 use Rattle.gx_model.specs.Texts.{Bytes}
 use Rattle.gx_object.specs.Entries.{shown}
 use Rattle.gx_object.proofs.Bodies.{entry_shorter}
-use Rattle.gx_object.proofs.Readings.{followers_end, followers_improper, followers_next, followers_not, followers_stop, forgotten, text_taken}
+use Rattle.gx_object.proofs.Readings.{followers_end, followers_improper, followers_next, followers_not, followers_stop, text_taken}
 use Rattle.gx_object.proofs.tree_reader.TreeReader.read.Goals as goal
 
 pub returns-then-is_empty-clause-end : goal.returns-then-is_empty-clause-end

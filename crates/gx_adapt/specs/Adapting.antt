@@ -1,14 +1,13 @@
 -- What adapting a stream gives, sends and leaves.
 use Rattle.std.specs.Prelude.{◌≡◌, ℕ, ◌+◌, ◌<◌, ◌^◌, Bool, false, ◌&&◌, codes, if◌then◌else◌, List, ◌++◌, Option, Some, None, Result, Ok, Err, OnOk}
 use Rattle.std.specs.Ordering.{nat_cmp}
-use Rattle.std.specs.Option.{option_map, option_or, option_map_or}
+use Rattle.std.specs.Option.{option_or, option_map_or}
 use Rattle.std.specs.BTreeSet.{contains}
 use Rattle.gx_model.specs.declared.faults.Fault.TheVariants as model
 use Rattle.gx_model.specs.Texts.{Bytes}
 use Rattle.gx_model.specs.Streams.Items.{Item, Line, Data, End, Finished, Failed, Stream}
 use Rattle.gx_model.specs.Texts.Sinks.{Taken, Took, FailedWithin}
 use Rattle.gx_text.specs.Devices.{Coming}
-use Rattle.gx_stream.specs.Heard.{items_from}
 use Rattle.gx_stream.specs.Reading.{AreOfText}
 use Rattle.gx_stream.specs.declared.fault.StreamFault.{StreamFault}
 use Rattle.gx_stream.specs.declared.fault.StreamFault.TheVariants as stream
@@ -54,10 +53,6 @@ Adapts drops s was is (Err WriteFailed) = FailedWithin was is (text_for drops s.
 abbrev pub AdaptsFrom : Bool → Option Stream → Option Taken → Option Taken → Result Report AdaptFault → Type 0
 AdaptsFrom drops None was is r = (s : Stream) × AreOfText s × Adapts drops s was is r
 AdaptsFrom drops (Some s) was is r = Adapts drops s was is r
-
--- the stream of a source goes out adapted
-abbrev pub AdaptsSource : Bool → Option Coming → Option Taken → Option Taken → Result Report AdaptFault → Type 0
-AdaptsSource drops coming was is r = AdaptsFrom drops (option_map items_from coming) was is r
 
 -- what went out is read as these items again
 abbrev pub IsReadAgain : Bool → Option Coming → Type 0

@@ -1,10 +1,12 @@
 //! A stream, adapted.
 
 ghost use Rattle.std.specs.Prelude.{OnOk};
+ghost use Rattle.std.specs.Option.{option_map};
 ghost use Rattle.gx_model.specs.Streams.Items.{Line, Data};
 ghost use Rattle.gx_model.specs.Export.{item_text};
+ghost use Rattle.gx_stream.specs.Heard.{items_from};
 ghost use Rattle.gx_stream.specs.Reading.{item_of};
-ghost use Rattle.gx_adapt.specs.Adapting.{AdaptsSource, Counts, IsReadAgain, HasRoom, Passes, Puts, PutsIf, SendsItem};
+ghost use Rattle.gx_adapt.specs.Adapting.{AdaptsFrom, Counts, IsReadAgain, HasRoom, Passes, Puts, PutsIf, SendsItem};
 
 use crate::fault::AdaptFault;
 use crate::lot::{Behind, Lot, behind_of, lot_in};
@@ -36,7 +38,8 @@ pub fn adapt<R: Source + Drop, W: Sink, A: Allocator + Copy>(
     sink: &mut W,
     drop_signatures: bool,
 ) -> Result<Report, AdaptFault>
-    ensures adapts { AdaptsSource drop_signatures (R.coming source) (W.taken sink.old) (W.taken sink.new) result }
+    ensures adapts { AdaptsFrom drop_signatures (option_map items_from (R.coming source))
+        (W.taken sink.old) (W.taken sink.new) result }
     ensures again { OnOk result (IsReadAgain drop_signatures (R.coming source)) }
 {
     let mut reader = ItemReader::new(alloc, source);

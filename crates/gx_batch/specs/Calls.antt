@@ -6,10 +6,8 @@ use Rattle.gx_model.specs.Texts.{Bytes}
 use Rattle.gx_model.specs.Histories.{Records}
 use Rattle.gx_model.specs.Records.HistoryOf.{history_of}
 use Rattle.gx_model.specs.Texts.Sinks.{Taken}
-use Rattle.gx_text.specs.Devices.{Coming}
 use Rattle.gx_batch.specs.Answers.{batch_answer}
-use Rattle.gx_batch.specs.Batches.{Answers, Sent}
-use Rattle.gx_batch.specs.declared.ending.LineEnding.{LineEnding}
+use Rattle.gx_batch.specs.Batches.{Sent}
 use Rattle.gx_batch.specs.declared.fault.BatchFault.{BatchFault}
 use Rattle.gx_batch.specs.declared.format.Part.{Part}
 
@@ -17,7 +15,3 @@ module _ {N W : Type 0} (name_of : N → Kind → Bytes → Bytes) (taken : W �
   -- the answer to a line
   abbrev pub SendsAnswer : Bytes → W → W → Result (Unit {0}) BatchFault → Type 0
   SendsAnswer asked old new result = Sent (batch_answer (name_of repo.0) check parts (history_of repo.1) asked) (taken old) (taken new) result
-
-  -- the answers to the lines of a source
-  abbrev pub SendsAnswers : LineEnding → Option Coming → W → W → Result (Unit {0}) BatchFault → Type 0
-  SendsAnswers ending coming old new result = Answers (batch_answer (name_of repo.0) check parts (history_of repo.1)) ending coming (taken old) (taken new) result

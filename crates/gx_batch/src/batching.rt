@@ -2,7 +2,7 @@
 
 ghost use Rattle.gx_model.specs.Records.HistoryOf.{history_of};
 ghost use Rattle.gx_batch.specs.Answers.{batch_answer};
-ghost use Rattle.gx_batch.specs.Calls.{SendsAnswers};
+ghost use Rattle.gx_batch.specs.Batches.{Answers};
 ghost use Rattle.gx_batch.specs.Formats.{default_parts};
 ghost use Rattle.gx_batch.specs.declared.ending.LineEnding.TheVariants.{Lf};
 
@@ -66,8 +66,8 @@ pub fn batch<N: Namer, R: Source + Drop, W: Sink, A: Allocator + Copy>(
     source: R,
     sink: &mut W,
 ) -> Result<(), BatchFault>
-    ensures { SendsAnswers N.name_of W.taken repo.now check default_parts Lf
-        (R.coming source) sink.old sink.new result }
+    ensures { Answers (batch_answer (N.name_of repo.now.0) check default_parts (history_of repo.now.1)) Lf
+        (R.coming source) (W.taken sink.old) (W.taken sink.new) result }
 {
     let format = Format::usual(alloc)?;
     let revisions = Revisions {

@@ -21,13 +21,10 @@ pub record IsNew (opened : Opened) : Type 0 where
   pub nothing : opened.answer.bytes.items ≡ []
 
 -- A closed handle holds a new repository, unless memory ran out; one that is open stays as it was.
-abbrev pub OpensSo : Option Opened → Option Opened → Store → Store → ℕ → Type 0
-OpensSo (Some was) held old new status = (status ≡ 3) × (new ≡ old)
-OpensSo None None old new status = (status ≡ 4) × (new ≡ old)
-OpensSo None (Some now) old new status = (status ≡ 0) × (new.is_open ≡ true) × IsNew now
-
-abbrev pub Opens : Store → Store → ℕ → Type 0
-Opens old new status = OpensSo old.held.value new.held.value old new status
+abbrev pub Opens : Option Opened → Option Opened → Store → Store → ℕ → Type 0
+Opens (Some was) held old new status = (status ≡ 3) × (new ≡ old)
+Opens None None old new status = (status ≡ 4) × (new ≡ old)
+Opens None (Some now) old new status = (status ≡ 0) × (new.is_open ≡ true) × IsNew now
 
 -- it holds nothing
 abbrev pub Closes : Store → Type 0

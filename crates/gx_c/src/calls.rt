@@ -14,7 +14,7 @@ use std::alloc::Global;
 /// Opens a handle on a repository with no objects and no refs, whose hashes are keyed by sixteen bytes.
 #[unsafe(no_mangle)]
 pub extern "C" fn ginlarch_open(alloc: Global, store: &mut Store, key: &[u8]) -> u32
-    ensures { Opens store.old store.new result }
+    ensures { Opens store.old.held.value store.new.held.value store.old store.new result }
 {
     if store.is_open {
         return IN_USE;

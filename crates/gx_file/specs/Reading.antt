@@ -5,12 +5,10 @@ use Rattle.gx_model.specs.declared.objects.Kind.{Kind}
 use Rattle.gx_model.specs.declared.store_faults.FileFault.{FileFault}
 use Rattle.gx_model.specs.declared.store_faults.FileFault.TheVariants.{NameMismatch, OutOfMemory}
 use Rattle.gx_model.specs.declared.store_versions.Version.{Version}
-use Rattle.gx_model.specs.Histories.{Records, record_for}
+use Rattle.gx_model.specs.Histories.{Records}
 use Rattle.gx_model.specs.Stores.StoreReading.{is_stated, next_record, next_records, next_refs, only_if, store_of, with_stored}
 use Rattle.gx_model.specs.Texts.{Bytes}
 use Rattle.gx_object.specs.declared.name.Name.{Name}
-use Rattle.gx_repo.specs.Records.{AddsRecord}
-use Rattle.gx_repo.specs.declared.fault.AddFault.{AddFault}
 use Rattle.gx_file.specs.Faults.{IsNoStoreText, Reads}
 use Rattle.gx_object.specs.Parts.{bytes_if}
 
@@ -43,7 +41,3 @@ module _ {N : Type 0} (name_of : N → Kind → Bytes → Bytes) where
   -- a record is added that has the name that is stated, where one is
   abbrev pub AddsStated : N × Records → N × Records → Option Name → Kind → Bytes → Result (Unit {0}) FileFault → Type 0
   AddsStated old new stated kind body result = Reads (λ _. new.1.records) result (with_stored (name_of old.0) old.1.records (bytes_if stated) kind body)
-
-  -- a record with this body is added, where nothing is against it
-  abbrev pub AddsBody : N × Records → N × Records → Kind → Bytes → Result Name AddFault → Type 0
-  AddsBody old new kind body result = AddsRecord old.1.records new.1.records (record_for (name_of old.0) kind body) result

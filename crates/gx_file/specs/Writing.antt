@@ -1,13 +1,13 @@
 -- The parts of a store text of version 2, as they are written. Source: this project's own format.
 use Rattle.std.specs.Borrow.{Bor}
-use Rattle.std.specs.Prelude.{[], ◌∷◌, ◌++◌, codes, length, List, Option, Result}
+use Rattle.std.specs.Prelude.{◌++◌, codes, length, List, Option, Result}
 use Rattle.std.specs.List.{flat_map}
 use Rattle.gx_model.specs.Texts.Numbers.{number_text}
 use Rattle.gx_model.specs.declared.objects.Kind.{Kind}
 use Rattle.gx_model.specs.declared.store_versions.Version.TheVariants.{Two}
 use Rattle.gx_model.specs.Histories.{Records}
 use Rattle.gx_model.specs.Objects.{line}
-use Rattle.gx_model.specs.Stores.StoreText.{length_text, stored_record, stored_ref}
+use Rattle.gx_model.specs.Stores.StoreText.{stored_record, stored_ref}
 use Rattle.gx_model.specs.Texts.{Bytes}
 use Rattle.gx_object.specs.declared.name.Name.{Name}
 use Rattle.gx_model.specs.Texts.Sinks.{Taken}
@@ -24,14 +24,6 @@ module _ {W : Type 0} (taken : W → Option Taken) where
   abbrev pub SendsRecords : Records → W → W → Result (Unit {0}) Failed → Type 0
   SendsRecords repository old new result =
       Sent (line (codes "objects") (number_text (length repository.records)) ++ flat_map (stored_record Two) repository.records) (taken old) (taken new) result
-
-  -- a record of this name goes out
-  abbrev pub SendsRecord : Name → Kind → Bytes → W → W → Result (Unit {0}) Failed → Type 0
-  SendsRecord name kind body old new result = Sent (record_called name kind body) (taken old) (taken new) result
-
-  -- a body goes out behind its line, which begins with this word
-  abbrev pub SendsBody : Bytes → Name → Bytes → W → W → Result (Unit {0}) Failed → Type 0
-  SendsBody word name body old new result = Sent (line word (length_text Two (length body) name.bytes) ++ body ++ 10 ∷ []) (taken old) (taken new) result
 
   -- the number of the refs and the refs go out
   abbrev pub SendsRefs : Records → W → W → Result (Unit {0}) Failed → Type 0

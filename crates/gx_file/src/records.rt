@@ -2,16 +2,18 @@
 ghost use Rattle.std.specs.Prelude.{◌≡◌, ◌++◌, ◌∷◌, IfOk};
 ghost use Rattle.std.specs.Map.{lookup};
 ghost use Rattle.std.specs.Option.{option_map};
+ghost use Rattle.gx_model.specs.Histories.{record_for};
 ghost use Rattle.gx_model.specs.Texts.{same_bytes};
 ghost use Rattle.gx_model.specs.Stores.StoreReading.{kind_words, length_field, record_line, stored_body};
 ghost use Rattle.gx_file.specs.Faults.{Reads};
 ghost use Rattle.gx_model.specs.Faults.{NeedsNoMemory};
-ghost use Rattle.gx_file.specs.Reading.{AddsBody, AddsStated, ChecksName, ReadsRecord, ReadsRecords};
+ghost use Rattle.gx_file.specs.Reading.{AddsStated, ChecksName, ReadsRecord, ReadsRecords};
 ghost use Rattle.gx_file.specs.TextEnds.{EndsWith};
 ghost use Rattle.gx_file.specs.Texts.{shown_heading, shown_length};
 ghost use Rattle.gx_file.specs.Wanting.{RunsOutAmong, RunsOutAt, RunsOutFor, WantsWhere};
 ghost use Rattle.gx_object.specs.Parts.{bytes_if};
 ghost use Rattle.gx_repo.specs.Calls.{HidesNoFault};
+ghost use Rattle.gx_repo.specs.Records.{AddsRecord};
 ghost use Rattle.gx_text.specs.Lent.{lent_pair};
 
 use crate::FileFault;
@@ -109,7 +111,8 @@ fn add_body<N: Namer, A: Allocator + Copy>(
     requires left { EndsWith whole.now (body.now ++ 10 ∷ rest.now) }
     ensures namer { repo.new.0 ≡ repo.old.0 }
     ensures refs { repo.new.1.refs ≡ repo.old.1.refs }
-    ensures adds { AddsBody N.name_of repo.old repo.new kind body.now result }
+    ensures adds { AddsRecord repo.old.1.records repo.new.1.records
+        (record_for (N.name_of repo.old.0) kind body.now) result }
     ensures unhidden { HidesNoFault N.name_of repo.old kind body.now result }
 {
     let end = whole.as_slice().len() - rest.len() - 1;

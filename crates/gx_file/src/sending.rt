@@ -1,12 +1,12 @@
 //! Writing a store text, to memory or to another sink. Source: this project's own format.
-ghost use Rattle.std.specs.Prelude.{◌≡◌, ◌<◌, ◌^◌, length, IfOk};
+ghost use Rattle.std.specs.Prelude.{◌≡◌, ◌<◌, ◌^◌, ◌++◌, ◌∷◌, [], length, IfOk};
 ghost use Rattle.gx_model.specs.Objects.{line};
 ghost use Rattle.gx_model.specs.declared.store_versions.Version.TheVariants.{Two};
-ghost use Rattle.gx_model.specs.Stores.StoreText.{store_text, stored_ref};
+ghost use Rattle.gx_model.specs.Stores.StoreText.{length_text, store_text, stored_ref};
 ghost use Rattle.gx_model.specs.Texts.Numbers.{number_text};
 ghost use Rattle.gx_file.specs.Reading.{IsReadAs};
 ghost use Rattle.gx_file.specs.Sending.{HaveLengths, Sent};
-ghost use Rattle.gx_file.specs.Writing.{SendsBody, SendsParts, SendsRecord, SendsRecords, SendsRefs};
+ghost use Rattle.gx_file.specs.Writing.{SendsParts, SendsRecords, SendsRefs, record_called};
 
 use gx_object::{Kind, Name, Namer};
 use gx_repo::Repo;
@@ -72,7 +72,7 @@ fn send_records<N: Namer, A: Allocator + Copy, W: Sink>(
 
 /// Sends a record.
 fn send_record<W: Sink>(sink: &mut W, name: &Name, kind: Kind, body: &[u8]) -> Result<(), Failed>
-    ensures text { SendsRecord W.taken name.now kind body.now sink.old sink.new result }
+    ensures text { Sent (record_called name.now kind body.now) (W.taken sink.old) (W.taken sink.new) result }
     ensures length { length body.now < 2 ^ 64 }
 {
     send_body(sink, kind.word().as_bytes(), name, body)
@@ -80,7 +80,8 @@ fn send_record<W: Sink>(sink: &mut W, name: &Name, kind: Kind, body: &[u8]) -> R
 
 /// Sends a body behind its line, which begins with this word.
 fn send_body<W: Sink>(sink: &mut W, word: &[u8], name: &Name, body: &[u8]) -> Result<(), Failed>
-    ensures text { SendsBody W.taken word.now name.now body.now sink.old sink.new result }
+    ensures text { Sent (line word.now (length_text Two (length body.now) name.now.bytes) ++ body.now ++ 10 ∷ [])
+        (W.taken sink.old) (W.taken sink.new) result }
     ensures length { length body.now < 2 ^ 64 }
 {
     let mut length = Buffer::new();

@@ -8,7 +8,7 @@ use Rattle.gx_model.specs.Histories.{Records, StandsFor}
 use Rattle.gx_model.specs.Records.HistoryOf.{history_of}
 use Rattle.gx_model.specs.Records.Sound.{IsSound}
 use Rattle.gx_model.specs.declared.features.Features.{Features}
-use Rattle.gx_model.specs.Streams.Commands.{Command, Commands, Progress, no_features}
+use Rattle.gx_model.specs.Streams.Commands.{Command, Commands, Progress}
 use Rattle.gx_model.specs.Replay as model
 use Rattle.gx_model.specs.Replay.{Kept, Outcome, finished, begun, refused, imported_asked, replayed_asked}
 use Rattle.gx_model.specs.Texts.Sinks.{FailedWithin, Taken, Took, TookFront}
@@ -114,15 +114,7 @@ module _ (asks : Features) (name : Kind → Bytes → Bytes) where
 abbrev pub StandsAsked : {N : Type 0} → Features → (N → Kind → Bytes → Bytes) → Repository N → Repository N → Option Coming → Type 0
 StandsAsked asks names old new = StandsForReplay asks (names old.0) old.1 new.1
 
--- where no features are asked for
-abbrev pub StandsReplayed : {N : Type 0} → (N → Kind → Bytes → Bytes) → Repository N → Repository N → Option Coming → Type 0
-StandsReplayed = StandsAsked no_features
-
 module _ {N W : Type 0} (names : N → Kind → Bytes → Bytes) (taken : W → Option Taken) where
   -- what an import does to a repository and a sink, and what it answers, where these features are asked for
   abbrev pub ImportsAsked : Features → Repository N → Repository N → Option Coming → W → W → Result Report ImportFault → Type 0
   ImportsAsked asks old new coming was now = Imports asks (names old.0) old.1 new.1 coming (taken was) (taken now)
-
-  -- where none are
-  abbrev pub ImportsStream : Repository N → Repository N → Option Coming → W → W → Result Report ImportFault → Type 0
-  ImportsStream = ImportsAsked no_features

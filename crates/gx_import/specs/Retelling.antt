@@ -31,10 +31,6 @@ module _ (asks : Features) (name : Kind → Bytes → Bytes) {A : Type 0} where
       × ExplainsOf old commands.list result told
 
 module _ {N W : Type 0} (names : N → Kind → Bytes → Bytes) (taken : W → Option Taken) {A : Type 0} where
-  -- what an import does and tells, where the source tells nothing
-  abbrev pub RetellsAsked : Features → Repository N → Repository N → W → W → Result Report ImportFault → Explanation A → Type 0
-  RetellsAsked asks old new was now result told = IsOfOneReplay asks (names old.0) old.1 new.1 (taken was) (taken now) result told
-
   -- the same of a refusal while a reader's commands are applied, with each features that let branches lose commits just where the
   -- tables do at the start
   abbrev pub RetellsRead : Repository N → Repository N → Bool → Checkpoints → Seen → W → W → Result ℕ ImportFault → Explanation A → Type 0

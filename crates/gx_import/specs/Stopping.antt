@@ -11,7 +11,7 @@ use Rattle.gx_model.specs.Laws.RefusedReplays.{checkpoints_in}
 use Rattle.gx_model.specs.Records.HistoryOf.{history_of}
 use Rattle.gx_model.specs.Replay as model
 use Rattle.gx_model.specs.Replay.{finished, imported_asked}
-use Rattle.gx_model.specs.Streams.Commands.{Command, no_features}
+use Rattle.gx_model.specs.Streams.Commands.{Command}
 use Rattle.gx_text.specs.Devices.{Coming}
 use Rattle.gx_stream.specs.Heard.{heard}
 use Rattle.gx_command.specs.Reading.{commands_asked_from}
@@ -37,7 +37,3 @@ module _ {N : Type 0} (names : N → Kind → Bytes → Bytes) where
   -- the same of a repository, where these features are asked for
   abbrev pub StopsAsked : Features → Repository N → Option Coming → ImportFault → Type 0
   StopsAsked asks old = StopsReplay asks (names old.0) old.1
-
-  -- and where none are
-  abbrev pub StopsStream : Repository N → Option Coming → ImportFault → Type 0
-  StopsStream = StopsAsked no_features

@@ -3,13 +3,14 @@
 ghost use Rattle.std.specs.Prelude.{◌≡◌, None, IfErr, OnErr, OnOk};
 ghost use Rattle.gx_import.specs.Exported.{ImportsAnyExport, KeepsNoNullGitlink, LeaveExports, RefusesNullGitlink};
 ghost use Rattle.gx_import.specs.Explaining.{ExplainsAsked, TellsNothing};
-ghost use Rattle.gx_import.specs.Imports.{Imports, ImportsAsked, ImportsStream, StandsAsked, StandsReplayed};
+ghost use Rattle.gx_import.specs.Imports.{Imports, ImportsAsked, StandsAsked};
 ghost use Rattle.gx_import.specs.Keeping.{AreNone, IsLeft};
 ghost use Rattle.gx_import.specs.Replaying.{left_by};
-ghost use Rattle.gx_import.specs.Retelling.{IsOfOneReplay, RetellsAsked};
+ghost use Rattle.gx_import.specs.Retelling.{IsOfOneReplay};
 ghost use Rattle.gx_import.specs.Standing.{AreEmpty, Extends};
-ghost use Rattle.gx_import.specs.Stopping.{StopsAsked, StopsStream};
+ghost use Rattle.gx_import.specs.Stopping.{StopsAsked};
 ghost use Rattle.gx_model.specs.Records.Sound.{IsSound};
+ghost use Rattle.gx_model.specs.Streams.Commands.{no_features};
 
 use crate::checkpoints::Checkpoints;
 use crate::publishing::{publish, published_refs};
@@ -54,12 +55,13 @@ pub fn import<N: Namer, A: Allocator + Copy, R: Source + Drop, W: Sink>(
     sink: &mut W,
 ) -> Result<Report, ImportFault>
     ensures namer { repo.new.0 ≡ repo.old.0 }
-    ensures replayed { ImportsStream N.name_of W.taken repo.old repo.new (R.coming source) sink.old sink.new result }
-    ensures stands { OnOk result (StandsReplayed N.name_of repo.old repo.new (R.coming source)) }
+    ensures replayed { ImportsAsked N.name_of W.taken no_features repo.old repo.new
+        (R.coming source) sink.old sink.new result }
+    ensures stands { OnOk result (StandsAsked no_features N.name_of repo.old repo.new (R.coming source)) }
     ensures extends { Extends repo.old.1.records repo.new.1.records }
     ensures sound { IsSound (N.name_of repo.old.0) repo.new.1 }
     ensures unchanged { IfErr result (λ fault. fault.checkpoints ≡ 0 → repo.new ≡ repo.old) }
-    ensures stopped { IfErr result (StopsStream N.name_of repo.old (R.coming source)) }
+    ensures stopped { IfErr result (StopsAsked N.name_of no_features repo.old (R.coming source)) }
     ensures exported { ImportsAnyExport N.name_of repo.old repo.new (R.coming source) result }
     ensures gitlinks { KeepsNoNullGitlink repo.old.1 repo.new.1 }
     ensures nulls { RefusesNullGitlink N.name_of repo.old (R.coming source) result }
@@ -114,7 +116,8 @@ pub fn import_explained<N: Namer, A: Allocator + Copy, R: Source + Drop, W: Sink
     ensures replayed { ImportsAsked N.name_of W.taken features repo.old repo.new (R.coming source) sink.old sink.new result }
     ensures explained { ExplainsAsked N.name_of features repo.old (R.coming source) result told.new }
     ensures retold { R.coming source ≡ None
-        → RetellsAsked N.name_of W.taken features repo.old repo.new sink.old sink.new result told.new }
+        → IsOfOneReplay features (N.name_of repo.old.0) repo.old.1 repo.new.1
+        (W.taken sink.old) (W.taken sink.new) result told.new }
     ensures stands { OnOk result (StandsAsked features N.name_of repo.old repo.new (R.coming source)) }
     ensures extends { Extends repo.old.1.records repo.new.1.records }
     ensures sound { IsSound (N.name_of repo.old.0) repo.new.1 }

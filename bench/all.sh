@@ -69,10 +69,16 @@ stream_of() {
   echo "$made"
 }
 
-# how many commits the file has of a stream of this kind: in sources there are lines that begin as a commit does
+# how many commits a stream of this kind has: those of its refs where it has sources, in which lines begin as a commit does
 commits_of() {
+  local -a refs
   case $1 in
-    own) git rev-list --all --count ;;
+    own | file)
+      new_store
+      "$gx" import "$store" < "$file" > "$folder/out"
+      mapfile -t refs < <("$gx" refs "$store" | cut -d ' ' -f 2-)
+      "$gx" log "$store" "${refs[@]}" | wc -l
+      ;;
     linux) echo 1 ;;
     *) grep -ac '^commit ' "$file" || true ;;
   esac

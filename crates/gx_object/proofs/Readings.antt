@@ -13,7 +13,7 @@ use Rattle.gx_object.specs.declared.entry.Entry.{Entry as Read}
 use Rattle.gx_object.specs.Entries.{shown}
 use Rattle.gx_object.specs.Order.{are_ordered, is_repeated, leads, meets_any, precedes}
 use Rattle.gx_object.specs.Passing.{LeadsPastFrom}
-use Rattle.gx_object.specs.Reading.{FollowsFrom}
+use Rattle.gx_object.specs.Reading.{FollowsFrom, IsReadWith}
 use Rattle.gx_object.specs.Trees.{IsEntryText, entry_at, entries_within, entries_of, entries_left, followers, may_follow, tree_of}
 use Rattle.gx_object.specs.Lines.{◌>>=◌}
 use Rattle.gx_object.proofs.Bodies.{entries_step, entries_stop, entry_again, entry_takes, is_some-step, left-step}

@@ -7,7 +7,7 @@ use Rattle.clap.specs.Walk.{is_empty}
 use Rattle.clap.specs.Words.{Text, rule_of}
 use Rattle.clap.specs.declared.builder.arg.Arg.{Arg}
 use Rattle.clap.specs.declared.builder.arg.ArgPredicate.{ArgPredicate}
-use Rattle.gx_line.specs.CommandLine.{bound}
+use Rattle.gx_line.specs.Arguments.{bound}
 
 second_false : (a b c : Bool) → b ≡ false → (a && (b && c)) ≡ false
 second_false true b c e = ap (λ z. z && c) e

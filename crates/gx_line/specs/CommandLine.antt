@@ -3,14 +3,12 @@ use Rattle.std.specs.Prelude.{◌≡◌, ◌⊎◌, ⊤, ℕ, Bool, true, false,
 use Rattle.std.specs.Borrow.{Bor}
 use Rattle.std.specs.Str.Parse.{ParsesUnsigned}
 use Rattle.std.specs.declared.num.ParseIntError.{ParseIntError}
-use Rattle.clap.specs.Lexer.{usize_max}
-use Rattle.clap.specs.Words.{App, ReadsOne, Row, Rule, Text, all_of, app_of, first_of, new_app, new_rule, one_of, subcommand_of, takes, with_rule, with_subcommand}
+use Rattle.clap.specs.Words.{App, ReadsOne, Row, Rule, Text, all_of, app_of, first_of, new_app, one_of, subcommand_of, takes, with_rule, with_subcommand}
 use Rattle.clap.specs.declared.builder.command.Command.{Command}
 use Rattle.clap.specs.declared.builder.command.Command.TheViews.{out-Command as fields_of}
-use Rattle.clap.specs.declared.builder.action.ArgAction.TheVariants.{SetTrue}
-use Rattle.clap.specs.declared.builder.value_parser.ValueParser.TheVariants as parser
 use Rattle.clap.specs.declared.error.kind.ErrorKind.{ErrorKind}
 use Rattle.clap.specs.declared.error.kind.ErrorKind.TheVariants as kind
+use Rattle.gx_line.specs.Arguments as rules
 use Rattle.gx_line.specs.declared.command_line.BatchForm.{BatchForm}
 use Rattle.gx_line.specs.declared.command_line.BatchForm.TheVariants as form
 use Rattle.gx_line.specs.declared.command_line.ExportForm.{ExportForm}
@@ -23,137 +21,6 @@ use Rattle.gx_line.specs.declared.command_line.LogFormat.{LogFormat}
 use Rattle.gx_line.specs.declared.command_line.LogFormat.TheVariants.{Names, Oneline, Raw, Subject, Author, Dates}
 use Rattle.gx_line.specs.declared.command_line.LogOptions.{LogOptions}
 
--- ---- arguments
-
--- a positional argument that isn't left out
-abbrev pub one_word : Text → Rule
-one_word id = record (new_rule id) { value_names = 1; required = true }
-
--- a positional argument that stands at least once
-abbrev pub words : Text → Rule
-words id = record (new_rule id) {
-  range = Some (record { start_inclusive = 1; end_inclusive = usize_max });
-  value_names = 1;
-  required = true;
-}
-
--- positional arguments that may be left out
-abbrev pub any_words : Text → Rule
-any_words id = record (words id) { required = false }
-
--- --ID
-abbrev pub flag : Text → Rule
-flag id = record (new_rule id) { long = Some id; action = Some SetTrue }
-
--- an argument that is refused beside another one, or where another one is missing
-abbrev pub bound : Rule → Rule
-bound rule = record rule { is_free = false }
-
--- a hyphen and the letter
-abbrev pub letter : Text → ℕ → Rule
-letter id code = record (new_rule id) { short = Some code; action = Some SetTrue }
-
--- --ID, or a hyphen and the letter
-abbrev pub letter_flag : Text → ℕ → Rule
-letter_flag id letter = record (flag id) { short = Some letter }
-
--- --ID and a text
-abbrev pub text : Text → Rule
-text id = record (new_rule id) { long = Some id; value_names = 1 }
-
--- a whole number below 2^64
-abbrev pub whole_number : Text → Rule
-whole_number id = record (new_rule id) { value_names = 1; parser = Some (parser.Unsigned 0 18446744073709551615) }
-
--- --ID and a whole number below 2^64
-abbrev pub number : Text → Rule
-number id = record (whole_number id) { long = Some id }
-
-abbrev pub file : Rule
-file = one_word (codes "file")
-
-abbrev pub revision : Rule
-revision = one_word (codes "rev")
-
-abbrev pub recursive : Rule
-recursive = letter_flag (codes "recursive") 114
-
-abbrev pub prefix : Rule
-prefix = text (codes "prefix")
-
-abbrev pub check : Rule
-check = flag (codes "check")
-
-abbrev pub done : Rule
-done = flag (codes "done")
-
-abbrev pub force : Rule
-force = flag (codes "force")
-
-abbrev pub drop_signatures : Rule
-drop_signatures = flag (codes "drop-signatures")
-
-abbrev pub report : Rule
-report = flag (codes "report")
-
-abbrev pub explain : Rule
-explain = flag (codes "explain")
-
-abbrev pub changes : Rule
-changes = flag (codes "changes")
-
--- a flag that is refused where it stands without --changes
-abbrev pub no_done : Rule
-no_done = bound (flag (codes "no-done"))
-
--- range words that are refused where they stand without --changes
-abbrev pub sent_ranges : Rule
-sent_ranges = bound (any_words (codes "range"))
-
--- the number of a command, which is needed where --fault isn't given
-abbrev pub place : Rule
-place = bound (whole_number (codes "number"))
-
--- a flag that is refused beside a number
-abbrev pub fault : Rule
-fault = bound (flag (codes "fault"))
-
--- the names of refs, which are needed where --stdin isn't given
-abbrev pub refs : Rule
-refs = bound (any_words (codes "ref"))
-
-abbrev pub stdin : Rule
-stdin = flag (codes "stdin")
-
--- range words, one of which is needed where neither --all nor --stdin is given
-abbrev pub ranges : Rule
-ranges = bound (any_words (codes "range"))
-
-abbrev pub reverse : Rule
-reverse = flag (codes "reverse")
-
--- --max-count, or -n, and a whole number
-abbrev pub max_count : Rule
-max_count = record (number (codes "max-count")) { short = Some 110 }
-
--- a flag that is refused beside --format
-abbrev pub parents : Rule
-parents = bound (flag (codes "parents"))
-
-abbrev pub all : Rule
-all = flag (codes "all")
-
-abbrev pub format : Rule
-format = text (codes "format")
-
--- a flag that is refused beside --check
-abbrev pub commands : Rule
-commands = bound (flag (codes "command"))
-
--- -z
-abbrev pub nul : Rule
-nul = letter (codes "nul") 122
-
 -- ---- commands
 
 -- a command with one more command under it
@@ -165,58 +32,62 @@ top = record { top = record (new_app (codes "gx")).top { no_binary_name = true; 
 
 -- a command whose first word is the store file
 abbrev pub file_command : Text → App
-file_command name = with_rule (new_app name) file
+file_command name = with_rule (new_app name) rules.file
 
 -- a command with the features that can be asked for as if its stream began with them
 abbrev pub with_features : App → App
-with_features a = with_rule (with_rule a done) force
+with_features a = with_rule (with_rule a rules.done) rules.force
 
 abbrev pub try_command : App
-try_command = with_rule (with_features (with_rule (new_app (codes "try")) revision)) explain
+try_command = with_rule (with_features (with_rule (new_app (codes "try")) rules.revision)) rules.explain
 
 abbrev pub check_command : App
-check_command = with_rule (with_features (new_app (codes "check"))) explain
+check_command = with_rule (with_features (new_app (codes "check"))) rules.explain
 
 abbrev pub adapt_command : App
-adapt_command = with_rule (new_app (codes "adapt")) drop_signatures
+adapt_command = with_rule (new_app (codes "adapt")) rules.drop_signatures
 
 abbrev pub import_command : App
-import_command = with_rule (with_rule (with_features (file_command (codes "import"))) report) explain
+import_command = with_rule (with_rule (with_features (file_command (codes "import"))) rules.report) rules.explain
 
 abbrev pub drop_command : App
-drop_command = with_rule (with_rule (file_command (codes "drop")) refs) stdin
+drop_command = with_rule (with_rule (file_command (codes "drop")) rules.refs) rules.stdin
 
 abbrev pub gc_command : App
-gc_command = with_rule (file_command (codes "gc")) report
+gc_command = with_rule (file_command (codes "gc")) rules.report
 
 abbrev pub export_command : App
-export_command = with_rule (with_rule (with_rule (file_command (codes "export")) changes) no_done) sent_ranges
+export_command = with_rule (with_rule (with_rule (file_command (codes "export")) rules.changes) rules.no_done) rules.sent_ranges
 
 abbrev pub where_command : App
-where_command = with_rule (with_rule (with_rule (with_rule (new_app (codes "where")) place) fault) (bound done)) (bound force)
+where_command =
+    with_rule (with_rule (with_rule (with_rule (new_app (codes "where")) rules.place) rules.fault) (rules.bound rules.done))
+    (rules.bound rules.force)
 
 abbrev pub show_command : App
-show_command = with_rule (file_command (codes "show")) revision
+show_command = with_rule (file_command (codes "show")) rules.revision
 
 abbrev pub ls_command : App
-ls_command = with_rule (with_rule (file_command (codes "ls")) revision) recursive
+ls_command = with_rule (with_rule (file_command (codes "ls")) rules.revision) rules.recursive
 
 abbrev pub archive_command : App
-archive_command = with_rule (with_rule (file_command (codes "archive")) revision) prefix
+archive_command = with_rule (with_rule (file_command (codes "archive")) rules.revision) rules.prefix
 
 abbrev pub batch_command : App
-batch_command = with_rule (with_rule (with_rule (with_rule (file_command (codes "batch")) check) commands) format) nul
+batch_command =
+    with_rule (with_rule (with_rule (with_rule (file_command (codes "batch")) rules.check) rules.commands) rules.format) rules.nul
 
 -- which commits log lists
 abbrev pub chosen_command : App
-chosen_command = with_rule (with_rule (with_rule (with_rule (file_command (codes "log")) ranges) all) stdin) max_count
+chosen_command =
+    with_rule (with_rule (with_rule (with_rule (file_command (codes "log")) rules.ranges) rules.all) rules.stdin) rules.max_count
 
 -- and how
 abbrev pub log_command : App
-log_command = with_rule (with_rule (with_rule chosen_command reverse) parents) format
+log_command = with_rule (with_rule (with_rule chosen_command rules.reverse) rules.parents) rules.format
 
 abbrev pub rev_parse_command : App
-rev_parse_command = with_rule (file_command (codes "rev-parse")) (words (codes "rev"))
+rev_parse_command = with_rule (file_command (codes "rev-parse")) (rules.words (codes "rev"))
 
 -- what clap was told of a command, none of whose arguments are for the commands below it, too
 abbrev pub IsMade : Command → App → Type 0
@@ -242,7 +113,8 @@ with_stream_commands a =
 -- the commands on a store as a whole
 abbrev pub with_store_commands : App → App
 with_store_commands a =
-    under (under (under (under (under (under a (file_command (codes "init"))) import_command) drop_command) gc_command) export_command) (file_command (codes "refs"))
+    under (under (under (under (under (under a (file_command (codes "init"))) import_command) drop_command) gc_command)
+    export_command) (file_command (codes "refs"))
 
 -- the commands that show objects
 abbrev pub with_tree_commands : App → App
@@ -283,7 +155,8 @@ IsFlag id rows false = one_of id rows ≡ Some (codes "true") → ⊥
 -- no number where none is given, and otherwise the one that is written
 abbrev pub IsNumber : Text → List Row → Option ℕ → Type 0
 IsNumber id rows number = (one_of id rows ≡ None → number ≡ None)
-    × ((text : Text) → one_of id rows ≡ Some text → ReadsOne {E = ParseIntError} (λ bytes read. ParsesUnsigned 64 10 bytes read) text number)
+    × ((text : Text) → one_of id rows ≡ Some text
+    → ReadsOne {E = ParseIntError} (λ bytes read. ParsesUnsigned 64 10 bytes read) text number)
 
 -- the word that asks for a format
 abbrev pub format_word : LogFormat → Option Text
@@ -323,9 +196,11 @@ unfoldable pub Says : Text → List Row → Line → Type 0
 Says name rows Blobs = name ≡ codes "blobs"
 Says name rows (Try revision done force explain) = (name ≡ codes "try") × (AreFeatures rows done force
     × (IsFlag (codes "explain") rows explain × IsWord (codes "rev") rows revision))
-Says name rows (Check done force explain) = (name ≡ codes "check") × (AreFeatures rows done force × IsFlag (codes "explain") rows explain)
+Says name rows (Check done force explain) = (name ≡ codes "check")
+    × (AreFeatures rows done force × IsFlag (codes "explain") rows explain)
 Says name rows (Adapt drop_signatures) = (name ≡ codes "adapt") × IsFlag (codes "drop-signatures") rows drop_signatures
-Says name rows (Where command) = (name ≡ codes "where") × (IsFlag (codes "fault") rows false × IsNumber (codes "number") rows (Some command))
+Says name rows (Where command) = (name ≡ codes "where")
+    × (IsFlag (codes "fault") rows false × IsNumber (codes "number") rows (Some command))
 Says name rows (WhereFault done force) = (name ≡ codes "where") × (IsFlag (codes "fault") rows true × AreFeatures rows done force)
 Says name rows (Init file) = (name ≡ codes "init") × IsWord (codes "file") rows file
 Says name rows (Import file done force report explain) = (name ≡ codes "import") × (AreFeatures rows done force

@@ -2,6 +2,7 @@
 
 ghost use Rattle.std.specs.Prelude.{◌≡◌, false};
 ghost use Rattle.clap.specs.Words.{rule_of};
+ghost use Rattle.gx_line.specs.Arguments as rules;
 ghost use Rattle.gx_line.specs.CommandLine as say;
 
 use clap::builder::ValueParser;
@@ -10,7 +11,7 @@ use std::alloc::{AllocError, Global};
 
 /// The revision of a command.
 pub(super) fn revision<'a>(alloc: Global) -> Arg<'a>
-    ensures rule { rule_of result ≡ say.revision }
+    ensures rule { rule_of result ≡ rules.revision }
     ensures local { result.global ≡ false }
 {
     one_word(alloc, "rev", "REV", "A revision, as gx --help has it")
@@ -18,7 +19,7 @@ pub(super) fn revision<'a>(alloc: Global) -> Arg<'a>
 
 /// A positional argument that isn't left out. Help shows it by `shown`.
 pub(super) fn one_word<'a>(alloc: Global, id: &'a str, shown: &'a str, help: &'a str) -> Arg<'a>
-    ensures rule { rule_of result ≡ say.one_word id.entry.now }
+    ensures rule { rule_of result ≡ rules.one_word id.entry.now }
     ensures local { result.global ≡ false }
 {
     Arg::new(alloc, id)
@@ -29,7 +30,7 @@ pub(super) fn one_word<'a>(alloc: Global, id: &'a str, shown: &'a str, help: &'a
 
 /// A positional argument that stands at least once. Help shows it by `shown`.
 pub(super) fn words<'a>(alloc: Global, id: &'a str, shown: &'a str, help: &'a str) -> Arg<'a>
-    ensures rule { rule_of result ≡ say.words id.entry.now }
+    ensures rule { rule_of result ≡ rules.words id.entry.now }
     ensures local { result.global ≡ false }
 {
     one_word(alloc, id, shown, help).num_args(1..)
@@ -37,7 +38,7 @@ pub(super) fn words<'a>(alloc: Global, id: &'a str, shown: &'a str, help: &'a st
 
 /// Positional arguments that may be left out. Help shows each by `shown`.
 pub(super) fn any_words<'a>(alloc: Global, id: &'a str, shown: &'a str, help: &'a str) -> Arg<'a>
-    ensures rule { rule_of result ≡ say.any_words id.entry.now }
+    ensures rule { rule_of result ≡ rules.any_words id.entry.now }
     ensures local { result.global ≡ false }
 {
     Arg::new(alloc, id)
@@ -48,7 +49,7 @@ pub(super) fn any_words<'a>(alloc: Global, id: &'a str, shown: &'a str, help: &'
 
 /// A flag that is given by its id.
 pub(super) fn flag<'a>(alloc: Global, id: &'a str, help: &'a str) -> Arg<'a>
-    ensures rule { rule_of result ≡ say.flag id.entry.now }
+    ensures rule { rule_of result ≡ rules.flag id.entry.now }
     ensures local { result.global ≡ false }
 {
     Arg::new(alloc, id)
@@ -59,7 +60,7 @@ pub(super) fn flag<'a>(alloc: Global, id: &'a str, help: &'a str) -> Arg<'a>
 
 /// A flag that is given by a letter alone.
 pub(super) fn letter<'a>(alloc: Global, id: &'a str, letter: char, help: &'a str) -> Arg<'a>
-    ensures rule { rule_of result ≡ say.letter id.entry.now letter }
+    ensures rule { rule_of result ≡ rules.letter id.entry.now letter }
     ensures local { result.global ≡ false }
 {
     Arg::new(alloc, id)
@@ -70,7 +71,7 @@ pub(super) fn letter<'a>(alloc: Global, id: &'a str, letter: char, help: &'a str
 
 /// An option with a text, which is given by its id. Help shows the text by `shown`.
 pub(super) fn text<'a>(alloc: Global, id: &'a str, shown: &'a str, help: &'a str) -> Arg<'a>
-    ensures rule { rule_of result ≡ say.text id.entry.now }
+    ensures rule { rule_of result ≡ rules.text id.entry.now }
     ensures local { result.global ≡ false }
 {
     Arg::new(alloc, id).long(id).value_name(shown).help(help)
@@ -78,7 +79,7 @@ pub(super) fn text<'a>(alloc: Global, id: &'a str, shown: &'a str, help: &'a str
 
 /// A whole number below 2^64. Help shows it by `N`.
 pub(super) fn number<'a>(alloc: Global, id: &'a str, help: &'a str) -> Arg<'a>
-    ensures rule { rule_of result ≡ say.whole_number id.entry.now }
+    ensures rule { rule_of result ≡ rules.whole_number id.entry.now }
     ensures local { result.global ≡ false }
 {
     Arg::new(alloc, id)

@@ -4,6 +4,7 @@
 ghost use Rattle.std.specs.Prelude.{◌≡◌, IfOk, false};
 ghost use Rattle.clap.specs.Words.{App, app_of, new_app, rule_of};
 ghost use Rattle.clap.specs.declared.builder.command.Command.TheViews.{out-Command as fields_of};
+ghost use Rattle.gx_line.specs.Arguments as rules;
 ghost use Rattle.gx_line.specs.CommandLine as say;
 
 use super::arguments::{
@@ -102,7 +103,7 @@ fn with_features<'a>(
 }
 
 fn done<'a>(alloc: Global) -> Arg<'a>
-    ensures rule { rule_of result ≡ say.done }
+    ensures rule { rule_of result ≡ rules.done }
     ensures local { result.global ≡ false }
 {
     flag(
@@ -114,7 +115,7 @@ fn done<'a>(alloc: Global) -> Arg<'a>
 }
 
 fn force<'a>(alloc: Global) -> Arg<'a>
-    ensures rule { rule_of result ≡ say.force }
+    ensures rule { rule_of result ≡ rules.force }
     ensures local { result.global ≡ false }
 {
     flag(
@@ -127,7 +128,7 @@ fn force<'a>(alloc: Global) -> Arg<'a>
 
 /// What a command that imports can be asked to tell.
 fn explain<'a>(alloc: Global) -> Arg<'a>
-    ensures rule { rule_of result ≡ say.explain }
+    ensures rule { rule_of result ≡ rules.explain }
     ensures local { result.global ≡ false }
 {
     flag(

@@ -1,6 +1,7 @@
 use Rattle.std.proofs.Common.{codes, subst}
 use Rattle.clap.specs.Words.{with_rule}
-use Rattle.gx_line.specs.CommandLine.{Makes, file_command, revision}
+use Rattle.gx_line.specs.Arguments.{revision}
+use Rattle.gx_line.specs.CommandLine.{Makes, file_command}
 use Rattle.gx_line.proofs.command_line.commands.archive_command.Goals as goal
 
 pub returns : goal.returns

@@ -1,6 +1,7 @@
 use Rattle.std.proofs.Common.{ap, codes, subst, ◌∙◌}
 use Rattle.clap.specs.Words.{with_rule}
-use Rattle.gx_line.specs.CommandLine.{Makes, bound, check, commands, file_command, format}
+use Rattle.gx_line.specs.Arguments.{bound, check, commands, format}
+use Rattle.gx_line.specs.CommandLine.{Makes, file_command}
 use Rattle.gx_line.proofs.NeededArguments.{conflict_rule}
 use Rattle.gx_line.proofs.command_line.commands.batch_command.Goals as goal
 

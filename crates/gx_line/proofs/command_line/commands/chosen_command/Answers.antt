@@ -1,6 +1,7 @@
 use Rattle.std.proofs.Common.{ap, codes, subst, ◌∙◌, Some}
 use Rattle.clap.specs.Words.{Rule, rule_of, with_rule}
-use Rattle.gx_line.specs.CommandLine.{Makes, all, bound, file_command, ranges, stdin}
+use Rattle.gx_line.specs.Arguments.{all, bound, ranges, stdin}
+use Rattle.gx_line.specs.CommandLine.{Makes, file_command}
 use Rattle.gx_line.proofs.NeededArguments.{unless_rule}
 use Rattle.gx_line.proofs.command_line.commands.chosen_command.Goals as goal
 

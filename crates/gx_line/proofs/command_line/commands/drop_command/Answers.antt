@@ -1,6 +1,7 @@
 use Rattle.std.proofs.Common.{ap, codes, subst, ◌∙◌}
 use Rattle.clap.specs.Words.{with_rule}
-use Rattle.gx_line.specs.CommandLine.{Makes, bound, file_command, refs}
+use Rattle.gx_line.specs.Arguments.{bound, refs}
+use Rattle.gx_line.specs.CommandLine.{Makes, file_command}
 use Rattle.gx_line.proofs.NeededArguments.{unless_rule}
 use Rattle.gx_line.proofs.command_line.commands.drop_command.Goals as goal
 

@@ -1,6 +1,7 @@
 use Rattle.std.proofs.Common.{ap, codes, subst, ◌∙◌}
 use Rattle.clap.specs.Words.{with_rule}
-use Rattle.gx_line.specs.CommandLine.{Makes, bound, changes, file_command, no_done}
+use Rattle.gx_line.specs.Arguments.{bound, changes, no_done}
+use Rattle.gx_line.specs.CommandLine.{Makes, file_command}
 use Rattle.gx_line.proofs.NeededArguments.{needs_rule}
 use Rattle.gx_line.proofs.command_line.commands.export_command.Goals as goal
 

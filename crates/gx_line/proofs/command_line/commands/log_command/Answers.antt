@@ -1,6 +1,7 @@
 use Rattle.std.proofs.Common.{ap, subst, ◌∙◌}
 use Rattle.clap.specs.Words.{with_rule}
-use Rattle.gx_line.specs.CommandLine.{Makes, bound, chosen_command, parents, reverse}
+use Rattle.gx_line.specs.Arguments.{bound, parents, reverse}
+use Rattle.gx_line.specs.CommandLine.{Makes, chosen_command}
 use Rattle.gx_line.proofs.NeededArguments.{conflict_rule}
 use Rattle.gx_line.proofs.command_line.commands.log_command.Goals as goal
 

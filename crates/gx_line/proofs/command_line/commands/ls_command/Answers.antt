@@ -1,6 +1,7 @@
 use Rattle.std.proofs.Common.{ap, codes, subst, ◌∙◌, Some}
 use Rattle.clap.specs.Words.{Rule, rule_of, with_rule}
-use Rattle.gx_line.specs.CommandLine.{Makes, file_command, revision}
+use Rattle.gx_line.specs.Arguments.{revision}
+use Rattle.gx_line.specs.CommandLine.{Makes, file_command}
 use Rattle.gx_line.proofs.command_line.commands.ls_command.Goals as goal
 
 pub returns : goal.returns

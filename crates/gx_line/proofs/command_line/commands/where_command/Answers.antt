@@ -1,6 +1,7 @@
 use Rattle.std.proofs.Common.{ap, codes, subst, ◌∙◌}
 use Rattle.clap.specs.Words.{new_app, with_rule}
-use Rattle.gx_line.specs.CommandLine.{Makes, bound, done, fault, place}
+use Rattle.gx_line.specs.Arguments.{bound, done, fault, place}
+use Rattle.gx_line.specs.CommandLine.{Makes}
 use Rattle.gx_line.proofs.NeededArguments.{conflict_rule, needs_rule, unless_rule}
 use Rattle.gx_line.proofs.command_line.commands.where_command.Goals as goal
 

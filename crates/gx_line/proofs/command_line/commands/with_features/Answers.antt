@@ -1,6 +1,7 @@
 use Rattle.std.proofs.Common.{subst}
 use Rattle.clap.specs.Words.{with_rule}
-use Rattle.gx_line.specs.CommandLine.{Makes, done}
+use Rattle.gx_line.specs.Arguments.{done}
+use Rattle.gx_line.specs.CommandLine.{Makes}
 use Rattle.gx_line.proofs.command_line.commands.with_features.Goals as goal
 
 pub returns : goal.returns

@@ -1,6 +1,7 @@
 use Rattle.std.proofs.Common.{codes, subst}
 use Rattle.clap.specs.Words.{new_app, with_rule}
-use Rattle.gx_line.specs.CommandLine.{Makes, adapt_command, check_command, revision, try_command, under, where_command, with_features}
+use Rattle.gx_line.specs.Arguments.{revision}
+use Rattle.gx_line.specs.CommandLine.{Makes, adapt_command, check_command, try_command, under, where_command, with_features}
 use Rattle.gx_line.proofs.command_line.commands.with_stream_commands.Goals as goal
 
 pub returns : goal.returns

@@ -1,0 +1,135 @@
+-- What clap is told of the arguments of the commands: how a line gives each one, and whether it may be left out.
+use Rattle.std.specs.Prelude.{ℕ, true, false, Some, codes}
+use Rattle.clap.specs.Lexer.{usize_max}
+use Rattle.clap.specs.Words.{Rule, Text, new_rule}
+use Rattle.clap.specs.declared.builder.action.ArgAction.TheVariants.{SetTrue}
+use Rattle.clap.specs.declared.builder.value_parser.ValueParser.TheVariants as parser
+
+-- a positional argument that isn't left out
+abbrev pub one_word : Text → Rule
+one_word id = record (new_rule id) { value_names = 1; required = true }
+
+-- a positional argument that stands at least once
+abbrev pub words : Text → Rule
+words id = record (new_rule id) {
+  range = Some (record { start_inclusive = 1; end_inclusive = usize_max });
+  value_names = 1;
+  required = true;
+}
+
+-- positional arguments that may be left out
+abbrev pub any_words : Text → Rule
+any_words id = record (words id) { required = false }
+
+-- --ID
+abbrev pub flag : Text → Rule
+flag id = record (new_rule id) { long = Some id; action = Some SetTrue }
+
+-- an argument that is refused beside another one, or where another one is missing
+abbrev pub bound : Rule → Rule
+bound rule = record rule { is_free = false }
+
+-- a hyphen and the letter
+abbrev pub letter : Text → ℕ → Rule
+letter id code = record (new_rule id) { short = Some code; action = Some SetTrue }
+
+-- --ID, or a hyphen and the letter
+abbrev pub letter_flag : Text → ℕ → Rule
+letter_flag id letter = record (flag id) { short = Some letter }
+
+-- --ID and a text
+abbrev pub text : Text → Rule
+text id = record (new_rule id) { long = Some id; value_names = 1 }
+
+-- a whole number below 2^64
+abbrev pub whole_number : Text → Rule
+whole_number id = record (new_rule id) { value_names = 1; parser = Some (parser.Unsigned 0 18446744073709551615) }
+
+-- --ID and a whole number below 2^64
+abbrev pub number : Text → Rule
+number id = record (whole_number id) { long = Some id }
+
+abbrev pub file : Rule
+file = one_word (codes "file")
+
+abbrev pub revision : Rule
+revision = one_word (codes "rev")
+
+abbrev pub recursive : Rule
+recursive = letter_flag (codes "recursive") 114
+
+abbrev pub prefix : Rule
+prefix = text (codes "prefix")
+
+abbrev pub check : Rule
+check = flag (codes "check")
+
+abbrev pub done : Rule
+done = flag (codes "done")
+
+abbrev pub force : Rule
+force = flag (codes "force")
+
+abbrev pub drop_signatures : Rule
+drop_signatures = flag (codes "drop-signatures")
+
+abbrev pub report : Rule
+report = flag (codes "report")
+
+abbrev pub explain : Rule
+explain = flag (codes "explain")
+
+abbrev pub changes : Rule
+changes = flag (codes "changes")
+
+-- a flag that is refused where it stands without --changes
+abbrev pub no_done : Rule
+no_done = bound (flag (codes "no-done"))
+
+-- range words that are refused where they stand without --changes
+abbrev pub sent_ranges : Rule
+sent_ranges = bound (any_words (codes "range"))
+
+-- the number of a command, which is needed where --fault isn't given
+abbrev pub place : Rule
+place = bound (whole_number (codes "number"))
+
+-- a flag that is refused beside a number
+abbrev pub fault : Rule
+fault = bound (flag (codes "fault"))
+
+-- the names of refs, which are needed where --stdin isn't given
+abbrev pub refs : Rule
+refs = bound (any_words (codes "ref"))
+
+abbrev pub stdin : Rule
+stdin = flag (codes "stdin")
+
+-- range words, one of which is needed where neither --all nor --stdin is given
+abbrev pub ranges : Rule
+ranges = bound (any_words (codes "range"))
+
+abbrev pub reverse : Rule
+reverse = flag (codes "reverse")
+
+-- --max-count, or -n, and a whole number
+abbrev pub max_count : Rule
+max_count = record (number (codes "max-count")) { short = Some 110 }
+
+-- a flag that is refused beside --format
+abbrev pub parents : Rule
+parents = bound (flag (codes "parents"))
+
+abbrev pub all : Rule
+all = flag (codes "all")
+
+abbrev pub format : Rule
+format = text (codes "format")
+
+-- a flag that is refused beside --check
+abbrev pub commands : Rule
+commands = bound (flag (codes "command"))
+
+-- -z
+abbrev pub nul : Rule
+nul = letter (codes "nul") 122

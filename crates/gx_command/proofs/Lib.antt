@@ -19,3 +19,4 @@ pub mod BehindCommands
 pub mod Explained
 pub mod ExplainedItems
 pub mod ExplainedCommands
+pub mod TagNames

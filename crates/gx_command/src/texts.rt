@@ -77,17 +77,24 @@ impl<A: Allocator + Copy> TagName<A> {
 
     /// The name of a tag that a line with these words names.
     pub(crate) fn read(alloc: A, words: Words<'_>) -> Result<TagName<A>, CommandFault>
-        ensures { Gives fault_of (λ name. name.bytes.items) result (name_at (shown_words words.entry)) }
+        ensures name { Gives fault_of (λ name. name.bytes.items) result (name_at (shown_words words.entry)) }
+        ensures memory { IsErrOf result OutOfMemory → IsOk (name_at (shown_words words.entry)) }
     {
         let text = words.rest()?;
-        let mut ref_name = Vec::from_slice(alloc, b"refs/tags/")?;
-        ref_name.extend_from_slice(text)?;
-        if !gx_text::is_ref_name(&ref_name) {
+        if !is_tag_name(text) {
             return Err(CommandFault::BadRefName);
         }
         let bytes = Vec::from_slice(alloc, text)?;
         Ok(TagName { bytes })
     }
+}
+
+/// Whether the text makes a ref name behind `refs/tags/`: alone it is one, or `@`.
+#[tactic(auto, using(crate::proofs::TagNames::tag_names))]
+fn is_tag_name(text: &[u8]) -> bool
+    ensures { result ≡ is_tag_name text.now }
+{
+    gx_text::is_ref_name(text) || text == b"@".as_slice()
 }
 
 impl<A: Allocator + Copy> Identity<A> {

@@ -18,10 +18,10 @@ returns-in_ok-read g c = λ s. rw (at_commit g.row.A.Denot c.args.is_early (show
 pub returns-in_err-read-2 : goal.returns-in_err-read-2
 returns-in_err-read-2 g c = λ s.
     let p = err_from_is_err_and c.from_residual-in_err-read-2.result c.from_residual-in_err-read-2.ensures.1 in
-    rw (p.1, p.2, at_tag g.row.A.Denot c.args.is_early (shown_words c.args.words) s (sym c.is.ensures ∙ c.if-is.false) (sym c.is-else-is.ensures ∙ c.if-is-2.false) (sym c.is-else-is-2.ensures ∙ c.if-is-3.true)) (fails_first _ _ _ c.in_err-read-2.ensures)
+    rw (p.1, p.2, at_tag g.row.A.Denot c.args.is_early (shown_words c.args.words) s (sym c.is.ensures ∙ c.if-is.false) (sym c.is-else-is.ensures ∙ c.if-is-2.false) (sym c.is-else-is-2.ensures ∙ c.if-is-3.true)) (fails_first _ _ _ c.in_err-read-2.ensures.name)
 
 pub returns-in_ok-read-2 : goal.returns-in_ok-read-2
-returns-in_ok-read-2 g c = λ s. rw (at_tag g.row.A.Denot c.args.is_early (shown_words c.args.words) s (sym c.is.ensures ∙ c.if-is.false) (sym c.is-else-is.ensures ∙ c.if-is-2.false) (sym c.is-else-is-2.ensures ∙ c.if-is-3.true), c.in_ok-read-2.ensures) refl
+returns-in_ok-read-2 g c = λ s. rw (at_tag g.row.A.Denot c.args.is_early (shown_words c.args.words) s (sym c.is.ensures ∙ c.if-is.false) (sym c.is-else-is.ensures ∙ c.if-is-2.false) (sym c.is-else-is-2.ensures ∙ c.if-is-3.true), c.in_ok-read-2.ensures.name) refl
 
 pub returns-in_err-read-3 : goal.returns-in_err-read-3
 returns-in_err-read-3 g c = λ s.

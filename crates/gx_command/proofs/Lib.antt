@@ -3,6 +3,7 @@ pub mod NeededLines
 pub mod TakenChanges
 pub mod TakenHeads
 pub mod BegunHeads
+pub mod BegunCommands
 pub mod Sequences
 pub mod WrittenCommits
 pub mod Leaves

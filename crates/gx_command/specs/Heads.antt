@@ -1,5 +1,5 @@
 -- The lines that begin commands, and the command that comes next.
-use Rattle.std.specs.Prelude.{◌≡◌, ◌||◌, codes, Bool, false, Option, Some, None, Result, Ok, Err, [], ◌∷◌, List}
+use Rattle.std.specs.Prelude.{◌≡◌, ◌||◌, codes, Bool, false, Option, Some, None, Result, Ok, Err, IsOk, [], ◌∷◌, List}
 use Rattle.gx_model.specs.Faults.{Given, ◌>>=◌}
 use Rattle.gx_model.specs.Streams.Items.{Item, Line, Data, Stream}
 use Rattle.gx_model.specs.Streams.Commands as model
@@ -29,6 +29,15 @@ begun (Whole c) s = Ok (shown_command c, s)
 abbrev pub Begins : {A : Type 0} → Stream → Result (Head A) CommandFault → Read model.Command → Type 0
 Begins s (Ok head) read = read ≡ begun head s
 Begins s (Err f) read = Fails f read
+
+-- with some items behind it, a line of these words begins a command
+abbrev pub BeginsCommand : Bool → Words → Type 0
+BeginsCommand early w = (s : Stream) × IsOk (command_at early w s)
+
+-- the item is such a line
+abbrev pub ItemBegins : Bool → Item → Type 0
+ItemBegins early (Data b) = ⊥
+ItemBegins early (Line l) = BeginsCommand early (words_of l)
 
 -- the ref of a commit or a reset
 abbrev pub ref_named : Words → Given Bytes

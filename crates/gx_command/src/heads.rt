@@ -9,7 +9,7 @@ ghost use Rattle.gx_stream.specs.Reading.{item_of};
 ghost use Rattle.gx_command.specs.Ahead.{ReadsOn, Falls, FallsNot, to_come, most};
 ghost use Rattle.gx_command.specs.CommandFaults.{fault_of};
 ghost use Rattle.gx_command.specs.Explaining.{ExplainsFrom, ExplainsOn, MayBeAhead};
-ghost use Rattle.gx_command.specs.Heads.{Begins, BeginsIn, BeginsWhole, MayBeWhole, TakesStart, TakesHead, begun, begun_there, early_feature, early_rest, first, is_left_out, option_of, progress_of, started};
+ghost use Rattle.gx_command.specs.Heads.{Begins, BeginsCommand, BeginsIn, BeginsWhole, ItemBegins, MayBeWhole, TakesStart, TakesHead, begun, begun_there, early_feature, early_rest, first, is_left_out, option_of, progress_of, started};
 ghost use Rattle.gx_command.specs.Lines.{lent_bytes, shown_words};
 ghost use Rattle.gx_command.specs.Views.{shown_command};
 ghost use Rattle.gx_command.specs.declared.fault.CommandFault.TheVariants.{OutOfMemory};
@@ -102,7 +102,8 @@ fn read_start<A: Allocator + Copy>(
     is_early: bool,
     item: Item<'_>,
 ) -> Result<Option<Start<A>>, CommandFault>
-    ensures { (s : Stream) → BeginsIn is_early (item_of item.entry) s result }
+    ensures begins { (s : Stream) → BeginsIn is_early (item_of item.entry) s result }
+    ensures memory { IsErrOf result OutOfMemory → ItemBegins is_early (item_of item.entry) }
 {
     match item {
         Item::Data(_) => Err(CommandFault::UnknownCommand),
@@ -120,7 +121,8 @@ fn read_head<A: Allocator + Copy>(
     is_early: bool,
     words: Words<'_>,
 ) -> Result<Head<A>, CommandFault>
-    ensures { (s : Stream) → Begins s result (command_at is_early (shown_words words.entry) s) }
+    ensures begins { (s : Stream) → Begins s result (command_at is_early (shown_words words.entry) s) }
+    ensures memory { IsErrOf result OutOfMemory → BeginsCommand is_early (shown_words words.entry) }
 {
     if words.is(b"blob") {
         words.bare(Head::Blob)
@@ -142,7 +144,8 @@ fn read_whole<A: Allocator + Copy>(
     words: Words<'_>,
 ) -> Result<Command<A>, CommandFault>
     requires { MayBeWhole (shown_words words) }
-    ensures { (s : Stream) → BeginsWhole s result (command_at is_early (shown_words words.entry) s) }
+    ensures begins { (s : Stream) → BeginsWhole s result (command_at is_early (shown_words words.entry) s) }
+    ensures memory { IsErrOf result OutOfMemory → BeginsCommand is_early (shown_words words.entry) }
 {
     if words.is(b"checkpoint") {
         words.bare(Command::Checkpoint)

@@ -11,7 +11,7 @@ use Rattle.gx_model.specs.Streams.Lines.{Read, Words, at_end, after, words_of, i
 use Rattle.std.proofs.lemmas.List.{length-append}
 use Rattle.std.proofs.Math.Seq.{drop-append_seam}
 use Rattle.gx_model.specs.declared.faults.Fault.{Fault}
-use Rattle.gx_command.specs.Behind.{CountsLeft, Passes, TellsBehind, from_next, last_of, left_behind, next_behind, or_missing_done, past_empty}
+use Rattle.gx_command.specs.Behind.{CountsLeft, Passes, TellsLeft, from_next, last_of, left_behind, next_behind, or_missing_done, past_empty}
 use Rattle.gx_command.specs.Heads.{first, first_in, there}
 use Rattle.gx_command.proofs.PassedCommands.{left_by, left_next, left_over, left_zero}
 
@@ -310,9 +310,9 @@ by_number s t (front, e, same) =
     let items : drop (length s.items - length t.items) s.items ≡ t.items = ap (λ xs. drop (length xs - length t.items) xs) e ∙ last_items front t.items in
     (omega (arith, long), sym (ap (λ xs. record { items = xs; end = s.end }) items ∙ ap (λ end. record { items = t.items; end = end }) same))
 
-pub tells_behind : (n m : ℕ) (old mid : Option Stream) → Passes n old mid (Ok true) → CountsLeft mid (Ok m) → TellsBehind n old (Ok (Some m))
+pub tells_behind : (n m : ℕ) (old mid : Option Stream) → Passes n old mid (Ok true) → CountsLeft mid (Ok m) → TellsLeft n old (Ok (Some m))
 tells_behind n m None mid h k = tt
 tells_behind n m (Some s) mid (t, is, e) k =
     let count : length (past_empty t.items) ≡ m = subst (λ m'. CountsLeft m' (Ok m)) is k in
     let last = by_number s (from_next t) (behind_ends n [] s (from_next t) e) in
-    subst (λ m. TellsBehind n (Some s) (Ok (Some m))) count (last.0, e ∙ ap (λ left. given (Some left)) last.1)
+    subst (λ m. TellsLeft n (Some s) (Ok (Some m))) count (last.0, e ∙ ap (λ left. given (Some left)) last.1)

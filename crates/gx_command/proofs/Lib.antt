@@ -21,3 +21,4 @@ pub mod Explained
 pub mod ExplainedItems
 pub mod ExplainedCommands
 pub mod TagNames
+pub mod PassedItems

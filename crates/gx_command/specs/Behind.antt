@@ -8,6 +8,7 @@ use Rattle.gx_model.specs.declared.features.Features.{Features}
 use Rattle.gx_model.specs.Streams.Commands.{Command, Commands}
 use Rattle.gx_model.specs.Streams.Grammar.{asks_done, commands_of, commands_within, is_done, is_option, stops}
 use Rattle.gx_model.specs.Streams.Lines.{Read}
+use Rattle.gx_stream.specs.Reading.{AreOfText}
 use Rattle.gx_command.specs.CommandFaults.{fault_of}
 use Rattle.gx_command.specs.Heads.{first}
 use Rattle.gx_command.specs.declared.fault.CommandFault.{CommandFault}
@@ -70,15 +71,34 @@ pub record FailsAt (n command : ℕ) (f : CommandFault) (s : Stream) : Type 0 wh
   pub before : (left : Stream) × (left_behind (command - 1) [] s ≡ Ok (Some left))
   pub fault : left_behind command [] s ≡ Err (fault_of f)
 
--- Where the source tells its bytes, the items left behind n commands are the last of all, so many as are answered.
+-- The items left behind n commands are the last of all, so many as are answered.
+abbrev pub TellsOf : ℕ → Stream → Result (Option ℕ) BehindFault → Type 0
+TellsOf n s (Ok None) = left_behind n [] s ≡ Ok None
+TellsOf n s (Ok (Some m)) = (m ≤ length s.items) × (left_behind n [] s ≡ Ok (Some (last_of s m)))
+TellsOf n s (Err OutOfMemory) = Unit {0}
+TellsOf n s (Err (AtCommand command f)) = FailsAt n command f s
+
+-- the answer is about all items of the source, where it tells its bytes, and otherwise about those of some text
 abbrev pub TellsBehind : ℕ → Option Stream → Result (Option ℕ) BehindFault → Type 0
-TellsBehind n None answer = Unit {0}
-TellsBehind n (Some s) (Ok None) = left_behind n [] s ≡ Ok None
-TellsBehind n (Some s) (Ok (Some m)) = (m ≤ length s.items) × (left_behind n [] s ≡ Ok (Some (last_of s m)))
-TellsBehind n (Some s) (Err OutOfMemory) = Unit {0}
-TellsBehind n (Some s) (Err (AtCommand command f)) = FailsAt n command f s
+TellsBehind n None answer = (s : Stream) × AreOfText s × TellsOf n s answer
+TellsBehind n (Some s) answer = TellsOf n s answer
 
 -- ---- the steps
+
+-- where the items to come are told
+abbrev pub TellsLeft : ℕ → Option Stream → Result (Option ℕ) BehindFault → Type 0
+TellsLeft n None answer = Unit {0}
+TellsLeft n (Some s) answer = TellsOf n s answer
+
+-- a fault is one of some items that may come, unless memory ran out
+abbrev pub ExplainsFault : ℕ → (Stream → Type 0) → BehindFault → Type 0
+ExplainsFault n old OutOfMemory = Unit {0}
+ExplainsFault n old (AtCommand command f) = (s : Stream) × old s × FailsAt n command f s
+
+-- the answer is about some items that may come
+abbrev pub ExplainsLeft : ℕ → (Stream → Type 0) → Result (Option ℕ) BehindFault → Type 0
+ExplainsLeft n old (Ok m) = (s : Stream) × old s × TellsOf n s (Ok m)
+ExplainsLeft n old (Err f) = ExplainsFault n old f
 
 -- a reader that has read no command yet, where these features are asked for
 abbrev pub at_start : Features → State
@@ -92,11 +112,23 @@ Passes n (Some s) new (Ok false) = left_behind n [] s ≡ Ok None
 Passes n (Some s) new (Err OutOfMemory) = Unit {0}
 Passes n (Some s) new (Err (AtCommand command f)) = FailsAt n command f s
 
+-- Whatever may come behind, there are items that may have come before, of which n commands were read. Where there are fewer, some
+-- may have come.
+abbrev pub ExplainsPasses : ℕ → (Stream → Type 0) → (Stream → Type 0) → Result Bool BehindFault → Type 0
+ExplainsPasses n old new (Ok true) = (t : Stream) → new t → (s : Stream) × old s × Passes n (Some s) (Some t) (Ok true)
+ExplainsPasses n old new (Ok false) = (s : Stream) × old s × Passes n (Some s) None (Ok false)
+ExplainsPasses n old new (Err f) = ExplainsFault n old f
+
 -- the items past the empty lines
 abbrev pub CountsLeft : Option Stream → Result ℕ BehindFault → Type 0
 CountsLeft s (Err f) = f ≡ OutOfMemory
 CountsLeft None (Ok n) = Unit {0}
 CountsLeft (Some s) (Ok n) = length (past_empty s.items) ≡ n
+
+-- the items that were counted may have come
+abbrev pub ExplainsCount : (Stream → Type 0) → Result ℕ BehindFault → Type 0
+ExplainsCount old (Ok n) = (s : Stream) × old s × CountsLeft (Some s) (Ok n)
+ExplainsCount old (Err f) = Unit {0}
 
 -- an empty line
 abbrev pub is_empty_line : Item → Bool

@@ -5,7 +5,8 @@ ghost use Rattle.std.specs.Option.{option_map};
 ghost use Rattle.gx_stream.specs.Heard.{items_from};
 ghost use Rattle.gx_stream.specs.Reading.{item_of};
 ghost use Rattle.gx_command.specs.Ahead.{to_come, most};
-ghost use Rattle.gx_command.specs.Behind.{TellsBehind, Passes, CountsLeft, is_empty_line, fault_at};
+ghost use Rattle.gx_command.specs.Behind.{CountsLeft, ExplainsCount, ExplainsLeft, ExplainsPasses, Passes, TellsBehind, TellsLeft, fault_at, is_empty_line};
+ghost use Rattle.gx_command.specs.Explaining.{MayBeAhead};
 
 use crate::ahead::Ahead;
 use crate::fault::CommandFault;
@@ -49,7 +50,8 @@ impl<R: Source, A: Allocator + Copy> Ahead<R, A> {
     /// Reads so many commands, and counts the items that are left behind them and the empty lines after them.
     fn count_behind(&mut self, commands: u64) -> Result<Option<u64>, BehindFault>
         requires { most self.old ≤ 2 ^ 63 - 1 }
-        ensures { TellsBehind commands (to_come self.old) result }
+        ensures tells { TellsLeft commands (to_come self.old) result }
+        ensures explains { ExplainsLeft commands (MayBeAhead self.old) result }
     {
         if !self.pass_commands(commands)? {
             return Ok(None);
@@ -60,6 +62,7 @@ impl<R: Source, A: Allocator + Copy> Ahead<R, A> {
     /// Reads so many commands from the first on. Answers whether there are so many.
     fn pass_commands(&mut self, commands: u64) -> Result<bool, BehindFault>
         ensures passes { Passes commands (to_come self.old) (to_come self.new) result }
+        ensures explains { ExplainsPasses commands (MayBeAhead self.old) (MayBeAhead self.new) result }
         ensures falls { OnOk result (most self.new ≤ most self.old) }
     {
         let mut state = State::at_start(Features::none());
@@ -81,7 +84,8 @@ impl<R: Source, A: Allocator + Copy> Ahead<R, A> {
     /// Takes all the items that are left, and counts them without the empty lines before them.
     fn count_left(&mut self) -> Result<u64, BehindFault>
         requires { most self.old ≤ 2 ^ 63 - 1 }
-        ensures { CountsLeft (to_come self.old) result }
+        ensures counts { CountsLeft (to_come self.old) result }
+        ensures explains { ExplainsCount (MayBeAhead self.old) result }
     {
         let mut count = 0;
         loop {

@@ -8,7 +8,7 @@ use Rattle.gx_stream.specs.Heard.{items_from}
 use Rattle.gx_stream.specs.Reading.{AreOfText, MayCome}
 use Rattle.gx_stream.specs.declared.item.Item as stream
 use Rattle.gx_command.specs.Ahead.{shown_held_item}
-use Rattle.gx_command.specs.Behind.{ExplainsCount, ExplainsFault, ExplainsLeft, ExplainsPasses, Passes, TellsBehind, TellsLeft, TellsOf, at_start, fault_at}
+use Rattle.gx_command.specs.Behind.{ExplainsCount, ExplainsBehind, ExplainsLeft, ExplainsPasses, Passes, TellsBehind, TellsLeft, TellsOf, at_start, fault_at}
 use Rattle.gx_command.specs.Explaining.{Explains, ExplainsTaken, ItemsMayCome, MayBeAhead}
 use Rattle.gx_command.specs.Reading.{next_after, state_after}
 use Rattle.gx_command.specs.Views.{shown_command}
@@ -50,7 +50,7 @@ on_till_over here old passed n state less over h =
     let s = h t.0 t.1 in
     (s.0, s.1, passes_over passed n state (Some s.0) (Some t.0) less over s.2)
 
-explained_fault : (n : ℕ) (old : Stream → Type 0) (s : Stream) (f : BehindFault) → old s → Passes n (Some s) None (Err f) → ExplainsFault n old f
+explained_fault : (n : ℕ) (old : Stream → Type 0) (s : Stream) (f : BehindFault) → old s → Passes n (Some s) None (Err f) → ExplainsBehind n old f
 explained_fault n old s behind.OutOfMemory m h = tt
 explained_fault n old s (behind.Command command f) m h = (s, m, h)
 

@@ -91,14 +91,14 @@ TellsLeft n None answer = Unit {0}
 TellsLeft n (Some s) answer = TellsOf n s answer
 
 -- a fault is one of some items that may come, unless memory ran out
-abbrev pub ExplainsFault : ℕ → (Stream → Type 0) → BehindFault → Type 0
-ExplainsFault n old OutOfMemory = Unit {0}
-ExplainsFault n old (AtCommand command f) = (s : Stream) × old s × FailsAt n command f s
+abbrev pub ExplainsBehind : ℕ → (Stream → Type 0) → BehindFault → Type 0
+ExplainsBehind n old OutOfMemory = Unit {0}
+ExplainsBehind n old (AtCommand command f) = (s : Stream) × old s × FailsAt n command f s
 
 -- the answer is about some items that may come
 abbrev pub ExplainsLeft : ℕ → (Stream → Type 0) → Result (Option ℕ) BehindFault → Type 0
 ExplainsLeft n old (Ok m) = (s : Stream) × old s × TellsOf n s (Ok m)
-ExplainsLeft n old (Err f) = ExplainsFault n old f
+ExplainsLeft n old (Err f) = ExplainsBehind n old f
 
 -- a reader that has read no command yet, where these features are asked for
 abbrev pub at_start : Features → State
@@ -117,7 +117,7 @@ Passes n (Some s) new (Err (AtCommand command f)) = FailsAt n command f s
 abbrev pub ExplainsPasses : ℕ → (Stream → Type 0) → (Stream → Type 0) → Result Bool BehindFault → Type 0
 ExplainsPasses n old new (Ok true) = (t : Stream) → new t → (s : Stream) × old s × Passes n (Some s) (Some t) (Ok true)
 ExplainsPasses n old new (Ok false) = (s : Stream) × old s × Passes n (Some s) None (Ok false)
-ExplainsPasses n old new (Err f) = ExplainsFault n old f
+ExplainsPasses n old new (Err f) = ExplainsBehind n old f
 
 -- the items past the empty lines
 abbrev pub CountsLeft : Option Stream → Result ℕ BehindFault → Type 0

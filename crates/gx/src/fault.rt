@@ -1,23 +1,36 @@
 //! Why a run of the program is refused.
 
+ghost use Rattle.std.specs.Prelude.{Some};
+ghost use Rattle.gx.specs.RunFaults.{line_of};
+
 use gx_adapt::AdaptFault;
 use gx_cli::{BlobsKind, CliFault};
 use gx_export::ExportFault;
 use std::alloc::AllocError;
+use std::fmt;
 use thiserror::Error;
 
 /// A refusal, which prints as its line on standard error.
 #[derive(Clone, Copy, Debug, Error)]
 pub(crate) enum RunFault {
     /// What the library answers, or what it has a line for.
-    #[error("{0}")]
     Command(CliFault),
     /// The file of the next text can't be locked.
-    #[error("gx: lock failed")]
     LockFailed,
     /// The system gives no random bytes.
-    #[error("gx: random bytes failed")]
     RandomFailed,
+}
+
+impl fmt::Display for RunFault {
+    ghost output = { λ fault. Some (line_of fault) };
+
+    fn fmt<W: fmt::Write>(&self, f: &mut fmt::Formatter<W>) -> fmt::Result {
+        match self {
+            RunFault::Command(fault) => write!(f, "{fault}"),
+            RunFault::LockFailed => f.write_str("gx: lock failed"),
+            RunFault::RandomFailed => f.write_str("gx: random bytes failed"),
+        }
+    }
 }
 
 impl RunFault {

@@ -4,7 +4,7 @@ use crate::fault::RunFault;
 use crate::run::Run;
 use crate::stores::{collect, drop_refs, import, init};
 use crate::streams::{Trial, adapt, answer_input, export, print, try_stream};
-use gx_cli::{Features, Line};
+use gx_cli::{CliFault, Features, Line};
 use std::hash::RandomState;
 use std::process::ExitCode;
 
@@ -54,10 +54,10 @@ fn file_of<'a>(line: &Line<'a>) -> Option<&'a str> {
 
 /// Runs a command on its file and on the standard streams.
 fn run_command(run: &Run<'_>, line: &Line<'_>, state: RandomState) -> Result<(), RunFault> {
-    let answered = match line {
-        Line::Init { file } => return init(run, line, file, state),
-        Line::Drop { file, .. } => return drop_refs(run, line, file, state),
-        Line::Gc { file, report } => return collect(run, file, *report, state),
+    match line {
+        Line::Init { file } => init(run, line, file, state),
+        Line::Drop { file, .. } => drop_refs(run, line, file, state),
+        Line::Gc { file, report } => collect(run, file, *report, state),
         Line::Import {
             file,
             done,
@@ -66,8 +66,15 @@ fn run_command(run: &Run<'_>, line: &Line<'_>, state: RandomState) -> Result<(),
             explain,
         } => {
             run.explain_if(*explain);
-            return import(run, file, features(done, force), *report, state);
+            import(run, file, features(done, force), *report, state)
         }
+        _ => Ok(answer(run, line, state)?),
+    }
+}
+
+/// Runs a command that changes no file.
+fn answer(run: &Run<'_>, line: &Line<'_>, state: RandomState) -> Result<(), CliFault> {
+    match line {
         Line::Try {
             revision,
             done,
@@ -90,19 +97,15 @@ fn run_command(run: &Run<'_>, line: &Line<'_>, state: RandomState) -> Result<(),
             try_stream(run, Trial::Fault, features(done, force), state)
         }
         Line::Adapt { drop_signatures } => adapt(run, *drop_signatures),
-        Line::Blobs | Line::Where(_) => answer_input(run, line, None, state),
         Line::Batch { file, .. } => answer_input(run, line, Some(*file), state),
         Line::Export { file, .. } | Line::ExportRange { file, .. } => {
             export(run, line, file, state)
         }
-        Line::Show { file, .. }
-        | Line::Ls { file, .. }
-        | Line::Archive { file, .. }
-        | Line::Refs { file }
-        | Line::Log { file, .. }
-        | Line::RevParse { file, .. } => print(run, line, file, state),
-    };
-    Ok(answered?)
+        _ => match file_of(line) {
+            Some(file) => print(run, line, file, state),
+            None => answer_input(run, line, None, state),
+        },
+    }
 }
 
 /// The features that a command's options ask for.

@@ -27,6 +27,7 @@ pub mod CollectedStores
 pub mod ReportedImports
 pub mod FormsAgain
 pub mod ExplainedImports
+pub mod RetoldImports
 pub mod FoundFaults
 pub mod LoggedLines
 pub mod MarkedNames

@@ -25,3 +25,4 @@ pub mod Collecting
 pub mod Reporting
 pub mod ExplainedLines
 pub mod Explained
+pub mod Retold

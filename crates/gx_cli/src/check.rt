@@ -1,9 +1,10 @@
 //! A stream's trip into an empty store and back, told in a line. Source: git-fast-import(1) and git-fast-export(1).
 
-ghost use Rattle.std.specs.Prelude.{◌≡◌, ◌++◌, [], OnOk};
+ghost use Rattle.std.specs.Prelude.{◌≡◌, ◌++◌, [], None, OnOk};
 ghost use Rattle.gx_model.specs.Histories.{empty_repository};
 ghost use Rattle.gx_cli.specs.Checking.{Checks, checked_line, count, TellsBack};
 ghost use Rattle.gx_cli.specs.Explained.{ExplainsCommand};
+ghost use Rattle.gx_cli.specs.Retold.{RetellsAlone};
 
 use crate::sending::put_text;
 use crate::trips::{RoundTripOptions, round_trip};
@@ -37,6 +38,8 @@ pub fn check_stream<N: Namer + Drop, A: Allocator + Copy, R: Source + Drop, W: S
 ) -> Result<(), CliFault>
     ensures explained { ExplainsCommand (N.name_of namer) features empty_repository
         (R.coming source) result told.new }
+    ensures retold { R.coming source ≡ None → RetellsAlone (N.name_of namer) features
+        (W.taken sink.old) (W.taken sink.new) result told.new }
     ensures checked { Checks (N.name_of namer) features (R.coming source)
         (W.taken sink.old) (W.taken sink.new) result }
 {
@@ -56,6 +59,8 @@ fn check_copied<N: Namer + Copy + Drop, A: Allocator + Copy, R: Source + Drop, W
 ) -> Result<(), CliFault>
     ensures explained { ExplainsCommand (N.name_of namer) features empty_repository
         (R.coming source) result told.new }
+    ensures retold { R.coming source ≡ None → RetellsAlone (N.name_of namer) features
+        (W.taken sink.old) (W.taken sink.new) result told.new }
     ensures checked { Checks (N.name_of namer) features (R.coming source)
         (W.taken sink.old) (W.taken sink.new) result }
 {

@@ -1,9 +1,10 @@
 //! The import of a stream into a store. Source: git-fast-import(1).
 
 ghost use Rattle.std.specs.Option.{option_map};
-ghost use Rattle.std.specs.Prelude.{◌≡◌, IfSome, Ok};
+ghost use Rattle.std.specs.Prelude.{◌≡◌, IfSome, None, Ok};
 ghost use Rattle.gx_model.specs.Stores.StoreReading.{store_of};
 ghost use Rattle.gx_cli.specs.Explained.{ExplainsCommand, ExplainsStored};
+ghost use Rattle.gx_cli.specs.Retold.{RetellsOpened, RetellsStored};
 ghost use Rattle.gx_cli.specs.Serving.{EndsImported, ImportsText, ImportsTextAgain};
 ghost use Rattle.gx_cli.specs.Storing.{ImportsAgain, ImportsOpened, ImportsStored, answer_of, next_after};
 
@@ -46,6 +47,9 @@ pub fn import_store<N: Namer + Drop, R: Source + Drop, W: Sink, A: Allocator + C
     ensures explained { ExplainsStored (N.name_of namer) features
         (store_of (N.name_of namer) store.items) (R.coming source)
         result.1 told.new }
+    ensures retold { R.coming source ≡ None
+        → RetellsStored (N.name_of namer) features (store_of (N.name_of namer) store.items)
+        (W.taken sink.old) (W.taken sink.new) (answer_of result) told.new }
     ensures again { ImportsAgain (N.name_of namer) features (store_of (N.name_of namer) store.items)
         (R.coming source)
         (answer_of result) }
@@ -73,6 +77,8 @@ pub(crate) fn import_opened<N: Namer + Drop, R: Source + Drop, W: Sink, A: Alloc
         (W.taken sink.old) (W.taken sink.new) (answer_of result) }
     ensures explained { ExplainsCommand (N.name_of repo.0) features repo.1
         (R.coming source) result.1 told.new }
+    ensures retold { R.coming source ≡ None → RetellsOpened (N.name_of repo.0) features repo.1
+        (W.taken sink.old) (W.taken sink.new) (answer_of result) told.new }
     ensures again { ImportsAgain (N.name_of repo.0) features (Ok repo.1)
         (R.coming source) (answer_of result) }
 {

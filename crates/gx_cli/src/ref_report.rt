@@ -1,9 +1,10 @@
 //! An import that tells which refs it changed. Source: git-fast-import(1), and githooks(5), "post-receive".
 
-ghost use Rattle.std.specs.Prelude.{Ok};
+ghost use Rattle.std.specs.Prelude.{◌≡◌, None, Ok};
 ghost use Rattle.gx_model.specs.Stores.StoreReading.{store_of};
 ghost use Rattle.gx_cli.specs.Explained.{ExplainsCommand, ExplainsStored, KeepsTold};
 ghost use Rattle.gx_cli.specs.Reporting.{Reports, ReportsStored};
+ghost use Rattle.gx_cli.specs.Retold.{RetellsReported};
 
 use crate::CliFault;
 use crate::import::import_opened;
@@ -35,6 +36,9 @@ pub fn import_store_reporting<N: Namer + Drop, R: Source + Drop, W: Sink, A: All
     ensures explained { ExplainsStored (N.name_of namer) features
         (store_of (N.name_of namer) store.items) (R.coming source)
         result.1 told.new }
+    ensures retold { R.coming source ≡ None
+        → RetellsReported (N.name_of namer) features (store_of (N.name_of namer) store.items)
+        (W.taken sink.old) (W.taken sink.new) result told.new }
     ensures reported { ReportsStored N.name_of namer features
         (store_of (N.name_of namer) store.items) (R.coming source)
         (W.taken sink.old) (W.taken sink.new) result }
@@ -59,6 +63,8 @@ fn report_opened<N: Namer + Drop, R: Source + Drop, W: Sink, A: Allocator + Copy
 ) -> (Option<(Repo<N, A>, Vec<u8, A>)>, Result<Report, CliFault>)
     ensures explained { ExplainsCommand (N.name_of repo.0) features repo.1
         (R.coming source) result.1 told.new }
+    ensures retold { R.coming source ≡ None → RetellsReported (N.name_of repo.0) features (Ok repo.1)
+        (W.taken sink.old) (W.taken sink.new) result told.new }
     ensures reported { ReportsStored N.name_of repo.0 features (Ok repo.1) (R.coming source)
         (W.taken sink.old) (W.taken sink.new) result }
 {

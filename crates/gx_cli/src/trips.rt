@@ -1,6 +1,6 @@
 //! A stream that is imported, exported, and imported again.
 
-ghost use Rattle.std.specs.Prelude.{◌≡◌, ◌≤◌, length, IfOk};
+ghost use Rattle.std.specs.Prelude.{◌≡◌, ◌≤◌, length, IfOk, None};
 ghost use Rattle.gx_model.specs.Streams.Gitlinks.{HoldsNoNullGitlink};
 ghost use Rattle.gx_model.specs.Records.HistoryOf.{history_of};
 ghost use Rattle.gx_model.specs.Records.Sound.{IsSound};
@@ -9,6 +9,7 @@ ghost use Rattle.gx_import.specs.Standing.{Extends};
 ghost use Rattle.gx_cli.specs.Explained.{ExplainsCommand};
 ghost use Rattle.gx_cli.specs.Forms.{text_as};
 ghost use Rattle.gx_cli.specs.Headline.{ComesBackOr, ExportsAgain, GivesText, ImportsAgainOr, RoundTrips};
+ghost use Rattle.gx_cli.specs.Retold.{RetellsTrip};
 
 use crate::export::export_as;
 use crate::forms::forms_are_imported;
@@ -72,6 +73,8 @@ pub fn round_trip<N: Namer + Copy + Drop, A: Allocator + Copy, R: Source + Drop,
     ensures extends { Extends repo.old.1.records repo.new.1.records }
     ensures explained { ExplainsCommand (N.name_of namer) options.now.features repo.old.1
         (R.coming source) result told.new }
+    ensures retold { R.coming source ≡ None → RetellsTrip (N.name_of namer) options.now.features
+        repo.old.1 repo.new.1 (W.taken sink.old) (W.taken sink.new) result told.new }
     ensures again { IfOk result (λ trip. trip.again.0 ≡ namer) }
     ensures back { RoundTrips (N.name_of namer) options.now.form options.now.features options.now.question
         repo.old.1 repo.new.1 (R.coming source) (W.taken sink.old) (W.taken sink.new) result }

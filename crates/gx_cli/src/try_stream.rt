@@ -1,11 +1,12 @@
 //! A stream, imported into an empty store, and what a revision shows there.
 
-ghost use Rattle.std.specs.Prelude.{◌≡◌, IfOk};
+ghost use Rattle.std.specs.Prelude.{◌≡◌, IfErr, IfOk, None};
 ghost use Rattle.gx_model.specs.Histories.{empty_repository};
 ghost use Rattle.gx_model.specs.Records.HistoryOf.{history_of};
 ghost use Rattle.gx_model.specs.Revisions.Denotation.{looked_up};
 ghost use Rattle.gx_import.specs.Explaining.{ExplainsAnswer};
 ghost use Rattle.gx_cli.specs.Explained.{ExplainsCommand};
+ghost use Rattle.gx_cli.specs.Retold.{RetellsAlone, RetellsRefused};
 ghost use Rattle.gx_cli.specs.Trying.{ImportsAlone, LooksAs, Tries};
 
 use crate::CliFault;
@@ -38,6 +39,8 @@ pub fn try_revision<N: Namer + Drop, A: Allocator + Copy, R: Source + Drop, W: S
 ) -> Result<(), CliFault>
     ensures explained { ExplainsCommand (N.name_of namer) features empty_repository
         (R.coming source) result told.new }
+    ensures retold { R.coming source ≡ None → RetellsAlone (N.name_of namer) features
+        (W.taken sink.old) (W.taken sink.new) result told.new }
     ensures tried { Tries (N.name_of namer) features (R.coming source) word.now
         (W.taken sink.old) (W.taken sink.new) result }
 {
@@ -62,6 +65,8 @@ pub fn import_alone<N: Namer + Drop, A: Allocator + Copy, R: Source + Drop, W: S
 ) -> Result<Repo<N, A>, ImportFault>
     ensures explained { ExplainsAnswer (N.name_of namer) features empty_repository
         (R.coming source) result told.new }
+    ensures retold { IfErr result (λ fault. R.coming source ≡ None
+        → RetellsRefused (N.name_of namer) features (W.taken sink.old) (W.taken sink.new) fault told.new) }
     ensures namer { IfOk result (λ repo. repo.0 ≡ namer) }
     ensures replayed { ImportsAlone (N.name_of namer) features (R.coming source)
         (W.taken sink.old) (W.taken sink.new) result }

@@ -1,7 +1,9 @@
 //! What a stream is refused for. Source: git-fast-import(1).
 
+ghost use Rattle.std.specs.Prelude.{◌≡◌, None};
 ghost use Rattle.gx_model.specs.Histories.{empty_repository};
 ghost use Rattle.gx_cli.specs.Explained.{ExplainsCommand};
+ghost use Rattle.gx_cli.specs.Retold.{RetellsFound};
 ghost use Rattle.gx_cli.specs.Trying.{FindsFault};
 
 use crate::CliFault;
@@ -29,6 +31,7 @@ pub fn find_fault<N: Namer + Drop, A: Allocator + Copy, R: Source + Drop>(
 ) -> Result<(), CliFault>
     ensures explained { ExplainsCommand (N.name_of namer) features empty_repository
         (R.coming source) result told.new }
+    ensures retold { R.coming source ≡ None → RetellsFound (N.name_of namer) features result told.new }
     ensures found { FindsFault (N.name_of namer) features (R.coming source) result }
 {
     let mut progress = Growing::new(alloc);

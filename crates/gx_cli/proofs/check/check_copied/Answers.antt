@@ -4,6 +4,7 @@ use Rattle.gx_model.specs.Histories.{Records}
 use Rattle.gx_model.specs.Streams.Gitlinks.{HoldsNoNullGitlink}
 use Rattle.gx_cli.specs.declared.trips.RoundTrip.{RoundTrip}
 use Rattle.gx_cli.proofs.CheckedTrips.{copy_back, copy_stopped, fault_told, from_nothing, line_told}
+use Rattle.gx_cli.proofs.RetoldImports.{fault_retold, line_retold}
 use Rattle.gx_cli.proofs.check.check_copied.Goals as goal
 
 pub round_trip-requires : goal.round_trip-requires
@@ -40,3 +41,15 @@ returns-clause-checked g c =
 pub returns-clause-explained : goal.returns-clause-explained
 returns-clause-explained g c =
     fault_told (g.N.Namer.name_of c.args.namer) c.args.features (g.R.Source.coming c.args.source) c.round_trip.new.told (RoundTrip g.row.N.Denot g.row.A.Denot) (Unit {0}) c.new-repo.result.1 c.in-Err.fault (ap (λ o. o.1) c.new-repo.ensures) c.in-Err.ensures.explained
+
+-- ---- where the source tells nothing, what is told is of the same commands
+
+pub returns-in-Ok-clause-retold : goal.returns-in-Ok-clause-retold
+returns-in-Ok-clause-retold g c = λ none.
+    line_retold (g.N.Namer.name_of c.args.namer) c.round_trip.new.told c.args.features (g.W.Sink.taken c.args.sink.now) (g.W.Sink.taken c.tell_back.new.sink)
+    c.in-Ok.trip.report.commands c.in-Ok.trip.again.1 (g.W.Sink.taken c.round_trip.new.sink) (g.W.Sink.taken c.tell_back.new.sink) c.tell_back.result c.tell_back.ensures c.in-Ok.ensures.explained
+
+pub returns-clause-retold : goal.returns-clause-retold
+returns-clause-retold g c = λ none.
+    fault_retold (g.N.Namer.name_of c.args.namer) c.round_trip.new.told c.args.features (g.W.Sink.taken c.args.sink.now) (g.W.Sink.taken c.round_trip.new.sink)
+    (RoundTrip g.row.N.Denot g.row.A.Denot) (Unit {0}) c.new-repo.result.1 c.round_trip.new.repo.1 c.in-Err.fault (ap (λ o. o.1) c.new-repo.ensures) (c.in-Err.ensures.retold none)

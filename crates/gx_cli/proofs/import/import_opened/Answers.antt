@@ -29,3 +29,14 @@ returns-in-Err-clause-again g c =
     let again = c.forms_are_imported.ensures name (g.met.N.Namer.is_namer c.args.repo.0) c.args.features c.args.repo.1 c.import_explained.new.repo.1
     (g.R.Source.coming c.args.source) (g.W.Sink.taken c.args.sink.now) (g.W.Sink.taken c.import_explained.new.sink) (Err c.in-Err.fault) c.import_explained.ensures.sound c.in-Err.ensures.replayed c.in-Err.ensures.stopped c.in-Err.ensures.exported in
     refused_again name c.args.features c.args.repo.1 c.import_explained.new.repo c.import_explained.ensures.sound c.in-Err.fault c.left.result c.left.ensures (g.R.Source.coming c.args.source) again
+
+-- ---- where the source tells nothing, what is told is of the same commands
+
+pub returns-in-Ok-clause-retold : goal.returns-in-Ok-clause-retold
+returns-in-Ok-clause-retold g c = λ none.
+    (c.import_explained.new.repo.1, Ok c.in-Ok.report, c.in-Ok.ensures.retold none, (c.import_explained.ensures.sound, refl))
+
+pub returns-in-Err-clause-retold : goal.returns-in-Err-clause-retold
+returns-in-Err-clause-retold g c = λ none.
+    let left = left_records c.import_explained.new.repo c.in-Err.fault.checkpoints c.left.result c.left.ensures in
+    (c.import_explained.new.repo.1, Err c.in-Err.fault, c.in-Err.ensures.retold none, (c.import_explained.ensures.sound, ap (λ x. (x, Err (Import c.in-Err.fault))) left))

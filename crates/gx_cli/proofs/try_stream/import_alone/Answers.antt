@@ -1,4 +1,5 @@
 use Rattle.gx_cli.proofs.ExplainedImports.{alone_told}
+use Rattle.gx_cli.proofs.RetoldImports.{alone_retold}
 use Rattle.gx_cli.proofs.Trials.{accepted_alone, refused_alone}
 use Rattle.gx_cli.proofs.try_stream.import_alone.Goals as goal
 
@@ -13,3 +14,7 @@ returns-in-Err-clause-replayed g c =
 pub returns-in-Err-clause-explained : goal.returns-in-Err-clause-explained
 returns-in-Err-clause-explained g c =
     alone_told g.N.Namer.name_of c.args.namer c.new-repo.result c.args.features (g.R.Source.coming c.args.source) c.in-Err.fault c.import_explained.new.told c.new-repo.ensures c.in-Err.ensures.explained
+
+pub returns-in-Err-clause-retold : goal.returns-in-Err-clause-retold
+returns-in-Err-clause-retold g c = λ none.
+    alone_retold g.N.Namer.name_of c.args.namer c.new-repo.result c.import_explained.new.repo.1 c.args.features (g.W.Sink.taken c.args.sink.now) (g.W.Sink.taken c.import_explained.new.sink) c.in-Err.fault c.import_explained.new.told c.new-repo.ensures (c.in-Err.ensures.retold none)

@@ -1,7 +1,7 @@
 #!/usr/bin/env bash
 # Measures `gx blobs` against git's own hashing: wall time in seconds and peak memory in MB, the best of three runs.
 #   bench/blobs.sh [COUNT..]      COUNT: how many blobs of 1 KB; 200000, and four and sixteen times as many, if left out
-# It needs the built program (rt run in crates/gx), git, sha1sum, python3 and GNU time.
+# It needs the built program (GX, or that of rt run in crates/gx), git, sha1sum, python3 and GNU time.
 set -euo pipefail
 cd "$(dirname "$0")/.."
 [ $# -gt 0 ] || set -- 200000 800000 3200000

@@ -9,7 +9,8 @@
 # what it should. Of the deepest inputs the least stack is found that works, by halving; half of the 8,192 KB that a system gives
 # a program has to do.
 # GX: the built program, crates/gx/out/gx if it isn't set. RUNS, GIT_RUNS: of how many runs the best is taken, 3 and 1; with
-# GIT_RUNS=0 git isn't run. DIVIDE: divides all sizes, for a quick look. It builds crates/gx, and needs rt, git, python3 and GNU time.
+# GIT_RUNS=0 git isn't run. DIVIDE: divides all sizes, for a quick look. It builds crates/gx where there is
+# no program, and needs rt, git, python3 and GNU time.
 set -euo pipefail
 shopt -s inherit_errexit
 cd "$(dirname "$0")/.."

@@ -5,7 +5,8 @@
 #   bench/import.sh KIND NUMBER..    one stream of bench/streams.py, as `history 2000` or `flat 10000 2000`
 #   bench/import.sh                  history of 500, 2,000, 10,000 and 40,000 commits, steady of 0, 2,000, 10,000 and 40,000 behind
 #                                    the first, and 2,000 commits in a directory of 10,000 files
-# It builds crates/gx, and needs rt, git, python3 and GNU time.
+# GX: the built program, crates/gx/out/gx if it isn't set. It builds crates/gx where there is none, and needs rt, git, python3 and
+# GNU time.
 set -euo pipefail
 cd "$(dirname "$0")/.."
 folder=$(mktemp -d)

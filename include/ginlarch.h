@@ -1,6 +1,6 @@
 /* ginlarch.h: repositories in memory, behind a handle.
  *
- * A handle is a struct of zeros (GINLARCH_CLOSED) until ginlarch_open() opens it. It is changed by these
+ * A handle is a struct of zeros (GINLARCH_CLOSED_STORE) until ginlarch_open() opens it. It is changed by these
  * calls alone, never copied, and used by one thread at a time; two handles have nothing in common. Each
  * call that asks for something keeps its answer in the handle until the next one: ginlarch_length() and
  * ginlarch_read() copy its bytes, ginlarch_number() and ginlarch_count() tell its numbers, and

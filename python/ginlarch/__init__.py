@@ -8,6 +8,7 @@
 It needs the shared library libginlarch.so, which is looked for beside this file, then where the variable
 GINLARCH_LIBRARY says, then where the system has libraries. Nothing else is needed but Python 3.8.
 """
+import contextlib
 import fcntl
 import os
 import stat
@@ -247,8 +248,9 @@ class Repository:
             for word in words:
                 self._handle.ask("word", _bytes(word))
         except Refused:
-            # a walk uses up those before it
-            self._handle.ask("walk")
+            # a walk uses up those before it, and what it refuses isn't what is told
+            with contextlib.suppress(Refused):
+                self._handle.ask("walk")
             raise
 
 

@@ -203,6 +203,8 @@ class Compared(unittest.TestCase):
         with self.assertRaises(faults.UnknownRef) as caught:
             self.repository.log("main", "gone")
         self.assertEqual(caught.exception.number, 2)
+        with self.assertRaises(faults.BadRevision):
+            self.repository.log("gone", "a..b..c")
         self.assertEqual(len(self.repository.log("main")), 4)
         for revision, fault in [("a..b", faults.BadRevision), ("main^9", faults.NoParent), ("main:gone", faults.NoSuchPath)]:
             with self.assertRaises(fault):

@@ -768,7 +768,7 @@ check_group_bits() {
   check 'and in a folder with the set-group-ID bit' [ "$(stat -c %a "$file")" = 660 ]
   chmod g-s "$folder/group"
   "$gx" import "$file" < "$folder/stream" > "$folder/out" 2> "$folder/err"
-  check 'which is told' [ "$(cat "$folder/err")" = "gx: $file: permissions of the group were left out" ]
+  check 'which is told' [ "$(cat "$folder/err")" = "gx: $file: permissions were left out" ]
 }
 
 check_lists() {
@@ -811,7 +811,7 @@ check_owners() {
     chmod 777 "$folder/other.${change% *}"
     as_user 1002 3000 3000 "$gx" import "$file" < "$folder/stream" > "$folder/out" 2> "$folder/err"
     status=$?
-    if [ "${change% *}" = "${change#* }" ]; then told=''; else told="gx: $file: permissions of the group were left out"; fi
+    if [ "${change% *}" = "${change#* }" ]; then told=''; else told="gx: $file: permissions were left out"; fi
     check "what another user's import into mode ${change% *} tells" [ "$(cat "$folder/err")" = "$told" ]
     : > "$folder/err"
     check "another user imports into mode ${change% *}" makes new

@@ -109,7 +109,7 @@ impl<'a> Run<'a> {
 
     /// Tells that a file that was replaced has fewer permissions than before.
     pub(crate) fn tell_narrowed(&self, file: &str) {
-        let _ = eprintln!(self.rt; "gx: {file}: permissions of the group were left out");
+        let _ = eprintln!(self.rt; "gx: {file}: permissions were left out");
     }
 
     /// Tells why the run is refused, in a line. Where it is to be explained, further ones tell where the fault of a stream stands and

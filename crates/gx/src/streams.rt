@@ -18,7 +18,7 @@ use gx_cli::{
 use gx_object::Sha1Namer;
 use gx_text::{FromRead, IntoWrite};
 use progress::{Beside, ProgressLine};
-use reports::tell_adaption;
+use reports::{tell_adaption, tell_typed_stream};
 use std::alloc::Global;
 use std::hash::RandomState;
 use std::io::{BufWriter, Write};
@@ -143,6 +143,7 @@ pub(crate) fn try_stream(
     features: Features,
     state: RandomState,
 ) -> Result<(), CliFault> {
+    tell_typed_stream(run);
     let alloc = run.rt.alloc();
     let progress = ProgressLine::new(run);
     let mut input = Traced::input(run, &progress);

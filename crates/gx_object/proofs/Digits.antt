@@ -1,11 +1,10 @@
 -- Digits: what the crate `hex` writes and reads is what the definitions say.
-use Rattle.std.proofs.Common.{◌≡◌, ℕ, zero, suc, ◌+◌, ◌-◌, ◌<◌, ◌/◌, ◌%◌, Bool, true, false, cond, refl, sym, ap, ◌∙◌, arith, [], ◌∷◌, length, map, Ok, Err, Some, None, Result, is_some, inl, inr}
+use Rattle.std.proofs.Common.{◌≡◌, ℕ, zero, suc, ◌+◌, ◌-◌, ◌*◌, ◌<◌, ◌/◌, ◌%◌, Bool, true, false, cond, refl, sym, ap, ◌∙◌, arith, [], ◌∷◌, ◌++◌, length, take, get_or, map, Ok, Err, Some, None, Result, is_some}
 use Rattle.std.specs.Prelude.{nat_le, nat_eq, slice_index, ◌&&◌, ◌||◌, IsOk}
-use Rattle.std.specs.List.{list_all, list_any, AllPass}
+use Rattle.std.specs.List.{list_all, AllPass}
 use Rattle.std.specs.Result.{result_ok}
-use Rattle.std.specs.Char.{is_ascii_uppercase}
 use Rattle.std.proofs.Math.Nat.{mul_comm}
-use Rattle.std.proofs.lemmas.Bool.{false≢true, and_from, and_parts, and_left, and_right, or_cases, or_parts, eq-eqb, eqb-true}
+use Rattle.std.proofs.lemmas.Bool.{false≢true, and_from, and_parts, and_right, eq-eqb, eqb-true, ne_eqb}
 use Rattle.std.proofs.lemmas.Bool.Decides.{nat_tests}
 use Rattle.std.proofs.lemmas.List.Sums.{list_all-from_AllPass}
 use Rattle.hex.specs.Hex.{encode_with, encode_lower, lower_digits, decode_pairs, decode_sized, hex_digit_value, is_hex_digit}
@@ -98,33 +97,42 @@ name_read x = some_read x (nat_eq (length x) 40 && list_all is_any_digit x) refl
 
 -- ---- reading lower case alone
 
-not_upper : (c : ℕ) → is_ascii_uppercase c ≡ true → is_lower_digit c ≡ false
-not_upper c h = grind (arith, nat_tests)
-
-kept_digit : (c : ℕ) → is_ascii_uppercase c ≡ false → is_any_digit c ≡ is_lower_digit c
-kept_digit c h = grind (arith, nat_tests)
-
-kept_lower : (c : ℕ) → is_ascii_uppercase c ≡ false → lower c ≡ c
-kept_lower c h = grind (arith, nat_tests)
-
-none_lower : (x : Bytes) → list_any is_ascii_uppercase x ≡ true → list_all is_lower_digit x ≡ false
-none_lower [] h = absurd (false≢true h)
-none_lower (c ∷ x) h = elim (or_cases (is_ascii_uppercase c) _ h) [
-  | inl here ↦ and_left _ _ (not_upper c here)
-  | inr later ↦ and_right _ _ (none_lower x later)
-]
-
-all_lower : (x : Bytes) → list_any is_ascii_uppercase x ≡ false → (list_all is_any_digit x ≡ list_all is_lower_digit x) × (map lower x ≡ x)
-all_lower [] h = (refl, refl)
-all_lower (c ∷ x) h =
-    let p = or_parts (is_ascii_uppercase c) _ h in
-    let rest = all_lower x p.1 in
-    (λ i. kept_digit c p.0 i && rest.0 i, λ i. kept_lower c p.0 i ∷ rest.1 i)
-
-pub upper_refused : (x : Bytes) → list_any is_ascii_uppercase x ≡ true → lower_name_in x ≡ None
+pub long_refused : (x : Bytes) → (length x ≡ 40 → ⊥) → lower_name_in x ≡ None
 unfolding lower_name_in
-upper_refused x h = rw (and_right (nat_eq (length x) 40) _ (none_lower x h)) refl
+long_refused x h = rw (ne_eqb (length x) 40 h) refl
 
-pub lower_read : (x : Bytes) → list_any is_ascii_uppercase x ≡ false → name_in x ≡ lower_name_in x
-unfolding name_in lower_name_in
-lower_read x h = let p = all_lower x h in rw (p.0, p.1) refl
+pub other_refused : (x : Bytes) → list_all is_lower_digit x ≡ false → lower_name_in x ≡ None
+unfolding lower_name_in
+other_refused x h = rw (and_right (nat_eq (length x) 40) _ h) refl
+
+pub lower_read : (x : Bytes) → length x ≡ 40 → list_all is_lower_digit x ≡ true → lower_name_in x ≡ Some (unhex x)
+unfolding lower_name_in
+lower_read x long h = rw (and_from _ _ (eq-eqb (length x) 40 long) h) refl
+
+twice : ℕ → ℕ
+twice zero = zero
+twice (suc n) = suc (suc (twice n))
+
+twice_is : (n : ℕ) → twice n ≡ 2 * n
+unfolding twice
+twice_is zero = refl
+twice_is (suc n) = let before = twice_is n in omega (arith, before)
+
+pair_more : (n : ℕ) (x : Bytes) → twice n + 1 < length x
+    → unhex (take (suc (suc (twice n))) x) ≡ unhex (take (twice n) x) ++ (16 * digit_value (get_or x (twice n) 0) + digit_value (get_or x (suc (twice n)) 0)) ∷ []
+unfolding twice
+pair_more zero [] lt = absurd (omega (arith, lt))
+pair_more zero (a ∷ []) lt = absurd (omega (arith, lt))
+pair_more zero (a ∷ b ∷ x) lt = refl
+pair_more (suc n) [] lt = absurd (omega (arith, lt))
+pair_more (suc n) (a ∷ []) lt = absurd (omega (arith, lt))
+pair_more (suc n) (a ∷ b ∷ x) lt = ap (λ t. (16 * digit_value a + digit_value b) ∷ t) (pair_more n x (omega (arith, lt)))
+
+-- the bytes of two digits more
+pub unhex_more : (n : ℕ) (x : Bytes) → 2 * n + 1 < length x
+    → unhex (take (2 * (n + 1)) x) ≡ unhex (take (2 * n) x) ++ (16 * digit_value (get_or x (2 * n) 0) + digit_value (get_or x (2 * n + 1) 0)) ∷ []
+unhex_more n x lt =
+    let at = twice_is n in
+    let more : suc (suc (twice n)) ≡ 2 * (n + 1) = omega (arith, at) in
+    let odd : suc (twice n) ≡ 2 * n + 1 = omega (arith, at) in
+    ap (λ k. unhex (take k x)) (sym more) ∙ pair_more n x (omega (arith, at, lt)) ∙ (λ i. unhex (take (at i) x) ++ (16 * digit_value (get_or x (at i) 0) + digit_value (get_or x (odd i) 0)) ∷ [])

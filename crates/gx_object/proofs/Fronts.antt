@@ -1,5 +1,9 @@
 -- The order of two texts by their fronts, and by their rests where the fronts are the same.
-use Rattle.std.proofs.Common.{◌≡◌, ◌≤◌, ◌-◌, min, ℕ, zero, suc, [], ◌∷◌, ◌++◌, take, drop, length, refl, sym, ap, ◌∙◌, arith, Ordering}
+use Rattle.std.proofs.Common.{◌≡◌, ◌≤◌, ◌-◌, min, ℕ, zero, suc, true, false, [], ◌∷◌, ◌++◌, take, drop, length, refl, sym, ap, ◌∙◌, arith, Ordering}
+use Rattle.std.specs.Prelude.{nat_eq}
+use Rattle.std.specs.List.{starts_with}
+use Rattle.std.proofs.lemmas.Bool.{and_parts, false≢true, false_from_ne_true}
+use Rattle.std.proofs.lemmas.Bool.Decides.{nat_tests}
 use Rattle.std.specs.declared.cmp.Ordering.TheVariants.{Less, Equal, Greater}
 use Rattle.std.specs.Ordering.{nat_cmp, ordering_then}
 use Rattle.std.proofs.lemmas.List.{take_rest}
@@ -39,3 +43,18 @@ rests_tell a m b n k o r e f equal g =
     rests
     ∙ ap (λ x. ordering_then x (byte_cmp (drop k a ++ m) (drop k b ++ n))) (sym equal ∙ f)
     ∙ sym (compared_by_fronts a m b n k (omega (arith, e)) (omega (arith, e)))
+
+same_heads : (x y : ℕ) → nat_eq x y ≡ true → nat_cmp x y ≡ Equal
+same_heads x y h = grind (arith, nat_tests)
+
+begun_alike : (a b : Bytes) (k : ℕ) → starts_with nat_eq b a ≡ true → k ≤ length a → byte_cmp (take k a) (take k b) ≡ Equal
+begun_alike a b zero h le = refl
+begun_alike [] b (suc k) h le = absurd (omega (arith, le))
+begun_alike (x ∷ a) [] (suc k) h le = absurd (false≢true h)
+begun_alike (x ∷ a) (y ∷ b) (suc k) h le =
+    let p = and_parts (nat_eq x y) (starts_with nat_eq b a) h in
+    rw (same_heads x y p.0, begun_alike a b k p.1 (omega (arith, le))) refl
+
+-- where the fronts differ, neither text begins with the other
+pub begins_not : (a b : Bytes) (k : ℕ) → k ≤ length a → byte_cmp (take k a) (take k b) ≡ Less → starts_with nat_eq b a ≡ false
+begins_not a b k le less = false_from_ne_true _ (λ h. cc (sym less ∙ begun_alike a b k h le))

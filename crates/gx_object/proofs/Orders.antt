@@ -33,7 +33,7 @@ keys es = map (λ e. (entry_key e, e.component)) es
 abbrev components : List Entry → List Bytes
 components es = map (λ e. e.component) es
 
-less : (o : Ordering) → is_lt o ≡ true → o ≡ Less
+pub less : (o : Ordering) → is_lt o ≡ true → o ≡ Less
 less Less h = refl
 less Equal h = absurd (false≢true h)
 less Greater h = absurd (false≢true h)

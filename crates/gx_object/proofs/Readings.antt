@@ -16,7 +16,7 @@ use Rattle.gx_object.specs.Passing.{LeadsPastFrom}
 use Rattle.gx_object.specs.Reading.{FollowsFrom, IsReadWith}
 use Rattle.gx_object.specs.Trees.{IsEntryText, entry_at, entries_within, entries_of, entries_left, followers, may_follow, tree_of}
 use Rattle.gx_object.specs.Lines.{◌>>=◌}
-use Rattle.gx_object.proofs.Bodies.{entries_step, entries_stop, entry_again, entry_takes, is_some-step, left-step}
+use Rattle.gx_object.proofs.Bodies.{entries_step, entries_stop, entry_again, entry_takes, is_some-step, left-end, left-step}
 use Rattle.gx_object.proofs.Laws.{tree_again, tree_takes}
 use Rattle.gx_object.proofs.Orders.{ordered_is}
 use Rattle.gx_object.proofs.Steps.{past_end, past_first}
@@ -135,6 +135,23 @@ text_some e text bytes rest is h some = is_some-step bytes (e, rest) (text_first
 
 pub text_left : (e : Entry) (text bytes rest : Bytes) → IsEntryText e text → bytes ≡ text ++ rest → is_some (entries_of bytes) ≡ true → entries_left bytes ≡ e ∷ entries_left rest
 text_left e text bytes rest is h some = left-step bytes (e, rest) (text_first e text bytes rest is h) some
+
+-- bytes whose first entry has this text begin with it
+pub text_stands : (e : Entry) (es : List Entry) (text bytes : Bytes) → IsEntryText e text → is_some (entries_of bytes) ≡ true → entries_left bytes ≡ e ∷ es → take (length text) bytes ≡ text
+text_stands e es text bytes is some h = by (entry_at bytes) refl
+  where
+    nothing : (es : List Entry) → [] ≡ e ∷ es → take (length text) bytes ≡ text
+    nothing es h = cc
+
+    first : (x : Entry) (fs gs : List Entry) → x ∷ fs ≡ e ∷ gs → x ≡ e
+    first x fs gs h = cc
+
+    by : (o : Option (Entry × Bytes)) → entry_at bytes ≡ o → take (length text) bytes ≡ text
+    by None none = nothing es (sym (left-end bytes none some) ∙ h)
+    by (Some x) found =
+        let same : x.0 ≡ e = first x.0 (entries_left x.1) es (sym (left-step bytes x found some) ∙ h) in
+        let parts : bytes ≡ text ++ x.1 = (entry_takes bytes x found).parts ∙ (λ i. entry_text (same i) ++ x.1) ∙ (λ i. sym is.0 i ++ x.1) in
+        ap (take (length text)) parts ∙ take_at text x.1 (length text) refl
 
 -- what an entry was read from is its text
 pub text_taken : (bytes : Bytes) (x : Entry × Bytes) → entry_at bytes ≡ Some x → is_component x.0.component ≡ true → IsEntryText x.0 (take (length bytes - length x.1) bytes)

@@ -1,11 +1,12 @@
 -- Each entry is tested against the next one and those behind that.
-use Rattle.std.proofs.Common.{◌≡◌, ℕ, Bool, true, false, not, List, [], ◌∷◌, refl, sym}
-use Rattle.std.specs.Prelude.{◌&&◌, nat_eq}
+use Rattle.std.proofs.Common.{◌≡◌, ℕ, Bool, true, false, not, List, [], ◌∷◌, length, refl, sym, ap}
+use Rattle.std.specs.Prelude.{◌&&◌, ◌||◌, nat_eq, nat_lt}
 use Rattle.std.specs.List.{starts_with}
 use Rattle.gx_model.specs.Texts.{Bytes, same_bytes}
 use Rattle.gx_model.specs.Texts.Paths.{is_component}
 use Rattle.gx_model.specs.Objects.{Entry, is_dir}
-use Rattle.gx_object.specs.Order.{are_ordered, leads, meets, meets_any}
+use Rattle.gx_object.specs.Order.{are_ordered, comes_before, is_kept, is_short, leads, meets, meets_any}
+use Rattle.std.proofs.lemmas.Bool.{false≢true}
 use Rattle.gx_object.proofs.MetFiles.{meets_nothing}
 
 -- the test of an entry before these, where these files stood before it
@@ -50,6 +51,24 @@ past_end above is_file e = rw (meets_nothing above is_file e.component) (alone (
   alone true false = refl
   alone false true = refl
   alone false false = refl
+
+-- an entry that comes before the next one and doesn't begin it may stand there; what stood before it decides
+pub past_apart : (e f : Entry) (fs : List Entry) (met later answer : Bool) → is_component e.component ≡ true → comes_before e f ≡ true → is_kept e f ≡ false
+    → (is_short e (f ∷ fs) || met) ≡ (answer || later) → (leads e (f ∷ fs) && not met) ≡ (not answer && not later)
+past_apart e f fs met later answer proper before other h =
+    let alone = split (not (is_dir e.mode)) (starts_with nat_eq f.component e.component) (same_bytes f.component e.component || meets e.component fs) other in
+    rw (proper, before, alone) (joined (nat_lt (length e.component) 4096) met later answer (rw alone at h))
+  where
+    split : (d s m : Bool) → (d && s) ≡ false → (d && (s && m)) ≡ false
+    split true true m h = absurd (false≢true (sym h))
+    split true false m h = refl
+    split false s m h = refl
+
+    joined : (b met later answer : Bool) → ((b && false) || met) ≡ (answer || later) → not met ≡ (not answer && not later)
+    joined true met later true h = ap not h
+    joined true met later false h = ap not h
+    joined false met later true h = ap not h
+    joined false met later false h = ap not h
 
 -- ---- looking ahead
 

@@ -45,6 +45,16 @@ impl EarlierFiles {
             self.above = len + 1;
             return len == next.component.len();
         }
+        self.pass(first, next)
+    }
+
+    /// The same, where the first entry isn't to be remembered.
+    pub(crate) fn pass(&mut self, first: &Entry<'_>, next: &Entry<'_>) -> bool
+        requires within { self.old.above ≤ length first.now.component.now }
+        requires other { is_added (shown first.now) (shown next.now) ≡ false }
+        ensures within { result ≡ false → self.new.above ≤ length next.now.component.now }
+        ensures met { MeetsPast self.old self.new first.now next.now result }
+    {
         self.above = kept(&self.is_file, self.above, first.component, next.component);
         next.component.len() < self.above
     }

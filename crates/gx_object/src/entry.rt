@@ -1,6 +1,7 @@
 //! The entries of trees, one by one.
 
-ghost use Rattle.std.specs.Prelude.{◌≡◌, ◌+◌, ◌≤◌, ◌++◌, ◌∷◌, [], not, length, vec_capacity, vec_len, IfSome, IsTrue, OnErr, OnOk};
+ghost use Rattle.std.specs.Prelude.{◌≡◌, ◌+◌, ◌<◌, ◌≤◌, ◌++◌, ◌∷◌, ◌==◌, [], not, length, vec_capacity, vec_len, IfSome, IsTrue, OnErr, OnOk};
+ghost use Rattle.std.specs.List.{position_or_len};
 ghost use Rattle.std.specs.Option.{option_map};
 ghost use Rattle.gx_model.specs.Objects.{entry_text, is_name, mode_text};
 ghost use Rattle.gx_model.specs.Texts.{cut_at};
@@ -14,6 +15,7 @@ use crate::order::{has_bytes, is_component};
 use crate::{Mode, Name};
 use gx_text::cut;
 use std::alloc::{AllocError, Allocator};
+use std::simd::prelude::*;
 
 /// An entry of a tree: a file, or a directory by the name of its tree. Source: gitglossary(7), "tree object".
 #[derive(Clone, Copy, Debug, PartialEq, Eq)]
@@ -40,7 +42,9 @@ pub(crate) struct FirstEntry<'a> {
     pub(crate) rest: &'a [u8],
 }
 
-/// The entry at the front. Its bytes are gone over once, unless its component is long or no path's.
+/// The entry at the front. Its bytes are gone over once, unless its component is long or no path's. It is inlined with its
+/// parts, since most of an opening's entries are read by one caller.
+#[inline(always)]
 #[tactic(auto, unfolding(crate::specs::Trees::entry_at))]
 pub(crate) fn read_entry(bytes: &[u8]) -> Option<FirstEntry<'_>>
     ensures entry { option_map (λ x. (shown x.entry, x.rest.now)) result ≡ entry_at bytes.now }
@@ -62,6 +66,7 @@ pub(crate) fn read_entry(bytes: &[u8]) -> Option<FirstEntry<'_>>
 }
 
 /// The mode and its space at the front, and what follows them.
+#[inline(always)]
 fn read_mode(bytes: &[u8]) -> Option<(Mode, &[u8])>
     ensures { option_map (λ x. (x.0, x.1.now)) result ≡ mode_at bytes.now }
 {
@@ -84,6 +89,7 @@ fn read_mode(bytes: &[u8]) -> Option<(Mode, &[u8])>
 }
 
 /// What stands before the first NUL, whether it is a component of a path, and what stands after the NUL.
+#[inline(always)]
 fn cut_component(bytes: &[u8]) -> Option<(&[u8], bool, &[u8])>
     ensures cut { option_map (λ x. (x.0.now, x.2.now)) result ≡ cut_at 0 bytes.now }
     ensures proper { IfSome result (λ x. x.1 ≡ is_component x.0.now) }
@@ -97,22 +103,47 @@ fn cut_component(bytes: &[u8]) -> Option<(&[u8], bool, &[u8])>
     Some((component, is_component(component), rest))
 }
 
-// Components below this length are looked at byte by byte.
-const SHORT: usize = 32;
-
-/// The length of what stands before the first NUL, where that is short and has no slash.
+/// The length of what stands before the first NUL, where that is short and has no slash. Behind a component of a tree's
+/// entry stand 21 bytes, so one of less than 16 is found by the first look.
+#[inline(always)]
 fn plain_len(bytes: &[u8]) -> Option<usize>
     ensures { IfSome result (λ len. IsPlainFront bytes.now len) }
 {
-    let near = bytes.len().min(SHORT);
-    for len in 0..near {
-        match bytes[len] {
-            0 => return Some(len),
-            b'/' => return None,
-            _ => {}
-        }
+    if let Some(len) = plain_within::<16>(bytes) {
+        return Some(len);
     }
-    None
+    plain_within::<32>(bytes)
+}
+
+/// The same, where so many bytes stand there and the NUL is one of them.
+#[inline(always)]
+fn plain_within<const LANES: usize>(bytes: &[u8]) -> Option<usize>
+    requires { (0 < LANES) × (LANES ≤ 64) }
+    ensures { IfSome result (λ len. IsPlainFront bytes.now len) }
+{
+    let near = bytes.first_chunk::<LANES>()?;
+    let len = run_before(near, 0);
+    if len < LANES && len < run_before(near, b'/') {
+        Some(len)
+    } else {
+        None
+    }
+}
+
+/// How many bytes stand before the first of these.
+#[inline(always)]
+fn run_before<const LANES: usize>(near: &[u8; LANES], end: u8) -> usize
+    requires { (0 < LANES) × (LANES ≤ 64) }
+    ensures { result ≡ position_or_len (λ b. b == end) near.now }
+{
+    let ends = Simd::<u8, LANES>::from_array(*near)
+        .simd_eq(Simd::splat(end))
+        .to_bitmask();
+    if ends == 0 {
+        LANES
+    } else {
+        ends.trailing_zeros() as usize
+    }
 }
 
 /// Whether this is nothing, `.` or `..`.

@@ -37,7 +37,8 @@ pub(crate) fn append_optional_line<A: Allocator + Copy>(
     }
 }
 
-/// What follows this front.
+/// What follows this front. Inlined, so that a front of a known length is compared at once.
+#[inline(always)]
 #[tactic(auto, unfolding(crate::specs::Lines::stripped))]
 pub(crate) fn strip<'a>(bytes: &'a [u8], front: &[u8]) -> Option<&'a [u8]>
     ensures { option_map (λ rest. rest.now) result ≡ stripped front.now bytes.now }

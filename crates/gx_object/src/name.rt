@@ -1,11 +1,12 @@
 //! The names of objects.
 
-ghost use Rattle.std.specs.Prelude.{◌≡◌, ◌∷◌, ℕ, [], length, take, IsTrue, ◌↔◌};
+ghost use Rattle.std.specs.Prelude.{◌≡◌, ◌<◌, ◌∷◌, ℕ, [], length, take, true, IsTrue, ◌↔◌};
 ghost use Rattle.std.specs.Option.{option_map};
 ghost use Rattle.std.specs.List.{list_all};
 ghost use Rattle.std.proofs.Common.{rules};
 ghost use Rattle.std.specs.Cmp.Rules.{hashing};
-ghost use Rattle.gx_model.specs.Objects.{hex, is_name};
+ghost use Rattle.gx_model.specs.Objects.{digit_value, hex, is_name, unhex};
+ghost use Rattle.gx_model.specs.Texts.Digits.{is_lower_digit};
 ghost use Rattle.gx_model.specs.Objects.Naming.{name_in, lower_name_in};
 
 use std::hash::{Hash, Hasher};
@@ -54,10 +55,55 @@ impl Name {
     pub fn read_lower(text: &[u8]) -> Option<Name>
         ensures { option_map (λ name. name.bytes) result ≡ lower_name_in text.now }
     {
-        if text.iter().any(|b| b.is_ascii_uppercase()) {
+        let digits = text.as_array()?;
+        if !are_lower(digits) {
             return None;
         }
-        Name::read(text)
+        Some(Name {
+            bytes: bytes_of(digits),
+        })
+    }
+}
+
+/// Whether these are digits, none of them in upper case.
+fn are_lower(text: &[u8]) -> bool
+    ensures { result ≡ list_all is_lower_digit text.now }
+{
+    let mut are = true;
+    for digit in text {
+        are &= is_lower(*digit);
+    }
+    are
+}
+
+fn is_lower(digit: u8) -> bool
+    ensures { result ≡ is_lower_digit digit }
+{
+    matches!(digit, b'0'..=b'9' | b'a'..=b'f')
+}
+
+/// A byte for each two of 40 digits.
+fn bytes_of(digits: &[u8; 40]) -> [u8; 20]
+    requires { list_all is_lower_digit digits.now ≡ true }
+    ensures { result ≡ unhex digits.now }
+{
+    let mut bytes = [0; 20];
+    for place in 0..20 {
+        bytes[place] = 16 * value(digits[2 * place]) + value(digits[2 * place + 1]);
+    }
+    bytes
+}
+
+/// The number that a digit stands for.
+fn value(digit: u8) -> u8
+    requires { is_lower_digit digit ≡ true }
+    ensures value { result ≡ digit_value digit }
+    ensures bound { result < 16 }
+{
+    if digit <= b'9' {
+        digit - b'0'
+    } else {
+        digit - b'a' + 10
     }
 }
 

@@ -1,13 +1,13 @@
 //! Which lists of entries are a tree's: the components are proper and differ, and a directory is sorted as if its
 //! component ended in a slash.
 
-ghost use Rattle.std.specs.Prelude.{◌≡◌, ◌≤◌, ◌++◌, ◌∷◌, true, length, map, nat_lt};
+ghost use Rattle.std.specs.Prelude.{◌≡◌, ◌≤◌, ◌++◌, ◌∷◌, false, true, length, map, nat_lt, IsTrue};
 ghost use Rattle.std.specs.List.{list_all};
 ghost use Rattle.std.specs.Ordering.{nat_cmp};
 ghost use Rattle.std.specs.Cmp.Lexicographic.{slice_cmp};
 ghost use Rattle.gx_model.specs.Texts.Paths.{is_component};
 ghost use Rattle.gx_model.specs.Objects.{entry_key, is_canonical};
-ghost use Rattle.gx_object.specs.Order.{comes_before, is_long_repeated, meets};
+ghost use Rattle.gx_object.specs.Order.{comes_before, is_kept, is_long_repeated, meets};
 ghost use Rattle.gx_object.specs.Entries.{mark_of, shown};
 ghost use Rattle.gx_object.specs.Passing.{LeadsPast};
 
@@ -96,6 +96,17 @@ pub(crate) fn comes_before(a: &Entry<'_>, b: &Entry<'_>) -> bool
     ensures { result ≡ comes_before (shown a.now) (shown b.now) }
 {
     compare_keys(a, b).is_lt()
+}
+
+/// Whether two components differ where both have a byte, and the first is the less there. Then it comes before the other,
+/// whatever their modes are, and the other doesn't begin with it. Else nothing is told.
+pub(crate) fn is_apart(first: &Entry<'_>, next: &Entry<'_>) -> bool
+    ensures order { IsTrue result → comes_before (shown first.now) (shown next.now) ≡ true }
+    ensures front { IsTrue result → is_kept (shown first.now) (shown next.now) ≡ false }
+{
+    let (first, next) = (first.component, next.component);
+    let both = first.len().min(next.len());
+    first[..both].cmp(&next[..both]).is_lt()
 }
 
 fn compare_keys(a: &Entry<'_>, b: &Entry<'_>) -> Ordering

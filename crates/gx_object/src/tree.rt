@@ -86,6 +86,7 @@ impl<'a> TreeEntries<'a> {
     pub fn pass(&mut self, text: &[u8]) -> bool
         requires text { (entry : TreeEntry) × IsEntryText entry text.now }
         ensures passed { IsTrue result → (entry : TreeEntry) → IsEntryText entry text.now → self.old ≡ entry ∷ self.new }
+        ensures met { (entry : TreeEntry) → (left : List TreeEntry) → IsEntryText entry text.now → self.old ≡ entry ∷ left → IsTrue result }
         ensures unchanged { IsFalse result → self.new ≡ self.old }
     {
         match self.rest.strip_prefix(text) {

@@ -12,7 +12,7 @@ ghost use Rattle.gx_object.specs.Passing.{LeadsPastFrom};
 
 use crate::earlier_files::{EarlierFiles, MOST, is_front};
 use crate::entry::{FirstEntry, first_entry, read_entry};
-use crate::order::comes_before;
+use crate::order::{comes_before, is_apart};
 use crate::{BadObject, Entry};
 use std::marker::Model;
 
@@ -114,6 +114,9 @@ fn leads(files: &mut EarlierFiles, first: &Entry<'_>, next: &Entry<'_>, after: &
     ensures within { result ≡ true → files.new.above ≤ length next.now.component.now }
     ensures leads { LeadsPastFrom files.old files.new first.now next.now after.now result }
 {
+    if is_apart(first, next) {
+        return !files.pass(first, next);
+    }
     comes_before(first, next) && !is_long_repeated(first, next, after) && !files.meet(first, next)
 }
 

@@ -77,6 +77,8 @@ Refusals:
   gx: store exists      FILE is there, where a store is to be made
   gx: read failed       FILE or standard input can't be read
   gx: write failed      FILE or standard output can't be written
+  gx: random bytes failed
+                        the system gave none
   gx: lock failed       FILE.new, where the next store is written, can't be
                         locked
   gx: out of memory",

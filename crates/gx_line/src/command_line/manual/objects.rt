@@ -28,8 +28,8 @@ pub(crate) const LS: Page = Page {
 Lists the entries of the tree that a revision gives: the tree itself, that of a
 commit, or that of a tag's commit.
 
-With --recursive the files are printed as they are found, so that what is
-refused may stand behind a front of the list.",
+With --recursive the files are printed as they are found, so that a refusal may
+come when some of them are printed already.",
     details: "\
 Output:
   A line for each entry, in the order of the tree: six digits of mode, a space,
@@ -69,7 +69,7 @@ Refusals:
   gx: read failed
   gx: store: KIND       as gx --help has it
   gx: revision 1: KIND  as gx --help has it
-  gx: write failed      what was written is a front of the archive
+  gx: write failed      what was written is the archive's beginning
   gx: out of memory     the same",
 };
 

@@ -145,7 +145,7 @@ Refusals:
   gx: store: KIND       as gx --help has it
   gx: revision N: KIND  the Nth RANGE, as gx --help has it
   gx: export: KIND      KIND is OutOfMemory or WriteFailed. What was written
-                        is a front of the stream
+                        is the stream's beginning
   gx: write failed
   gx: out of memory",
 };

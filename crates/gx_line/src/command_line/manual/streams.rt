@@ -44,12 +44,12 @@ Refusals:
 pub(crate) const CHECK: Page = Page {
     about: "Imports standard input, exports it, and imports it again",
     description: "\
-Imports the stream on standard input into an empty store, exports its changes,
-and imports the export into another empty one.
+Imports the stream on standard input into an empty store, exports that store's
+changes, and imports the export into another empty one.
 
-It is accepted where each ref came back with its object's name, and with all
-that it reaches. Nothing is kept. Where the stream comes from a pipe, --done
-shows an end that came too early.",
+Where it is accepted, each ref has come back with its object's name, and with
+all that it reaches: that is proved, and not compared. Nothing is kept. Where
+the stream comes from a pipe, --done shows an end that came too early.",
     details: "\
 Output:
   The lines of the stream's progress commands, as they come, and then how many
@@ -92,7 +92,9 @@ Output:
 
 Refusals:
   gx: adapt: KIND       KIND is ReadFailed, WriteFailed, TruncatedData,
-                        BadNumber or OutOfMemory",
+                        BadNumber or OutOfMemory
+  gx: write failed      the last bytes couldn't be written
+  gx: out of memory     there was none to begin with",
 };
 
 /// The page of `where`.

@@ -10,6 +10,7 @@
 # for, see below. All of it takes about half an hour with RUNS=3 and streams that are there.
 # RUNS: how many runs, 5 if it isn't set; what took longer than LONG seconds, 10 if it isn't set, isn't run again. GX: the program, crates/gx/out/gx if it
 # isn't set. GX_BENCH: the program gx_bench, which hashes by the kit's SHA-1; crates/gx_bench/out/gx_bench if it isn't set, and left out where it isn't built.
+# GIT: where it is `no`, git's programs are left out, and names aren't compared with git's. All of it then takes seven minutes.
 # STREAMS: a folder of streams, as `steady_10000`, each made there unless it is there. It needs git, sha1sum, python3 and GNU time, what bench/linux.sh needs, and
 # 15 GB of disk.
 set -euo pipefail
@@ -84,10 +85,13 @@ commits_of() {
   esac
 }
 
+has_git() { [ "${GIT:-yes}" != no ]; }
+
 # one row: row COMMAND PROGRAM BYTES WORD.., where BYTES is `out` for what is printed, or a file or folder
 row() {
   local command=$1 program=$2 bytes=$3 runs
   shift 3
+  [[ "$program" != 'git '* ]] || has_git || return 0
   timed "$@" > "$folder/runs"
   runs=$(wc -l < "$folder/runs")
   [ "$bytes" != out ] || bytes=$folder/out
@@ -122,9 +126,9 @@ import_both() {
     new_store
     "$gx" import "$store" < "$file" > "$folder/out"
     new_repo
-    git -C "$repo" fast-import --quiet < "$file" > "$folder/out"
+    ! has_git || git -C "$repo" fast-import --quiet < "$file" > "$folder/out"
   fi
-  "$gx" refs "$store" | cmp - <(git -C "$repo" show-ref) >&2 || {
+  ! has_git || "$gx" refs "$store" | cmp - <(git -C "$repo" show-ref) >&2 || {
     echo "$stream: the refs or names differ" >&2
     status=1
   }
@@ -162,7 +166,7 @@ measure_log() {
 
 measure_show() {
   local path
-  path=$(git -C "$repo" ls-tree -r --name-only -z "$ref" | tr '\0' '\n' | tail -n 1)
+  path=$("$gx" ls -r "$store" "$ref" | cut -f 2- | grep -v '^"' | tail -n 1)
   row show gx out "$gx" show "$store" "$ref:$path"
   row show 'git cat-file' out git -C "$repo" cat-file blob "$ref:$path"
 }
@@ -192,7 +196,7 @@ measure() {
   [ "$1" != file ] || stream=$(basename "$2")
   commits=$(commits_of "$1")
   import_both
-  ref=$(git -C "$repo" for-each-ref --format='%(refname)' refs/heads | sort | sed -n '\,^refs/heads/main$,{p;q};$p')
+  ref=$("$gx" refs "$store" | cut -d ' ' -f 2 | grep '^refs/heads/' | sed -n '\,^refs/heads/main$,{p;q};$p')
   ! asked open || measure_open
   ! asked ls || measure_ls
   ! asked log || measure_log

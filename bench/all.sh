@@ -10,7 +10,7 @@
 # for, see below. All of it takes about half an hour with RUNS=3 and streams that are there.
 # RUNS: how many runs, 5 if it isn't set; what took longer than LONG seconds, 10 if it isn't set, isn't run again. GX: the program, crates/gx/out/gx if it
 # isn't set. GX_BENCH: the program gx_bench, which hashes by the kit's SHA-1; crates/gx_bench/out/gx_bench if it isn't set, and left out where it isn't built.
-# GIT: where it is `no`, git's programs are left out, and names aren't compared with git's. All of it then takes seven minutes.
+# GIT: where it is `no`, git's programs are left out, and names aren't compared with git's.
 # STREAMS: a folder of streams, as `steady_10000`, each made there unless it is there. It needs git, sha1sum, python3 and GNU time, what bench/linux.sh needs, and
 # 15 GB of disk.
 set -euo pipefail

@@ -196,7 +196,7 @@ measure() {
   [ "$1" != file ] || stream=$(basename "$2")
   commits=$(commits_of "$1")
   import_both
-  ref=$("$gx" refs "$store" | cut -d ' ' -f 2 | grep '^refs/heads/' | sed -n '\,^refs/heads/main$,{p;q};$p')
+  ref=$("$gx" refs "$store" | awk '$2 ~ "^refs/heads/" && ref != "refs/heads/main" { ref = $2 } END { print ref }')
   ! asked open || measure_open
   ! asked ls || measure_ls
   ! asked log || measure_log

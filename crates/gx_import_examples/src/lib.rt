@@ -1,6 +1,8 @@
-//! Imports, exports, store texts, batches and hostile use on worked examples. There are tests alone here.
+//! Imports, exports, archives, store texts, batches and hostile use on worked examples. There are tests alone here.
 #![tactic(auto)]
 
+#[cfg(test)]
+mod archives;
 #[cfg(test)]
 mod asking;
 #[cfg(test)]

@@ -88,19 +88,23 @@ fn comes_back(alloc: Global, stream: &[u8], done: bool, state: RandomState) -> b
     let tripped = tripped(alloc, stream, &mut sink, done, state);
     match &tripped.trip {
         Ok(trip) => {
-            let is_closed = trip.text.starts_with(b"feature done\n");
-            let is_two = stream == text("two branches");
-            let has_text = !is_two
-                || !done
-                || trip.text.as_slice() == text("changes of two branches");
-            is_closed == done
-                && has_text
-                && have_same_refs(&tripped.first, &trip.again)
-                && trip.again.store().len() <= tripped.first.store().len()
-                && comes_again(alloc, trip, done, state)
+            let is_kept = is_written(stream, &trip.text, done) && is_same(&tripped.first, trip);
+            is_kept && comes_again(alloc, trip, done, state)
         }
         Err(_) => false,
     }
+}
+
+/// Whether a text ends as it is to, and is that of the example where the stream is.
+fn is_written(stream: &[u8], written: &[u8], done: bool) -> bool {
+    let is_other = !done || stream != text("two branches");
+    written.starts_with(b"feature done\n") == done
+        && (is_other || written == text("changes of two branches"))
+}
+
+/// Whether a trip has the refs of what went out, and no more objects.
+fn is_same(first: &Repo<Sha1Namer, Global>, trip: &RoundTrip<Sha1Namer, Global>) -> bool {
+    have_same_refs(first, &trip.again) && trip.again.store().len() <= first.store().len()
 }
 
 /// Whether a trip of a trip's text gives the same text, and no fewer objects.
@@ -156,11 +160,19 @@ fn is_trip_refused<'a, B: Allocator>(
     let tripped = tripped(heap, text("two branches"), sink, true, state);
     let is_waiting = heap.is_waiting();
     heap.arm(0);
-    let is_right = match &tripped.trip {
+    if is_answer(&tripped, is_waiting) {
+        Some(!is_waiting)
+    } else {
+        None
+    }
+}
+
+/// Whether a trip succeeded where no growth was refused, and wants memory where one was.
+fn is_answer<A: Allocator + Copy>(tripped: &Made<A>, is_waiting: bool) -> bool {
+    match &tripped.trip {
         Ok(trip) => is_waiting && have_same_refs(&tripped.first, &trip.again),
         Err(CliFault::OutOfMemory) => !is_waiting,
         Err(CliFault::Import(fault)) => !is_waiting && fault.kind == ImportKind::OutOfMemory,
         Err(_) => false,
-    };
-    if is_right { Some(!is_waiting) } else { None }
+    }
 }

@@ -212,12 +212,19 @@ fn tripped<A: Allocator + Copy>(
 
 /// A range word alone.
 fn range_alone<A: Allocator + Copy>(alloc: A, word: &str) -> Option<Vec<Range<A>, A>> {
-    let range = Range::read(alloc, word.as_bytes()).ok()?;
+    match Range::read(alloc, word.as_bytes()) {
+        Ok(range) => alone(alloc, range),
+        Err(_) => None,
+    }
+}
+
+/// A list of one.
+fn alone<A: Allocator + Copy>(alloc: A, range: Range<A>) -> Option<Vec<Range<A>, A>> {
     let mut ranges = Vec::new(alloc);
-    let Ok(()) = ranges.push(range) else {
-        return None;
-    };
-    Some(ranges)
+    match ranges.push(range) {
+        Ok(()) => Some(ranges),
+        Err(_) => None,
+    }
 }
 
 /// The same of a question.
@@ -412,7 +419,7 @@ fn is_refused<A: Allocator + Copy>(tripped: &Made<A>, is_waiting: bool) -> Optio
 
 /// Whether each part of a question is answered.
 fn is_whole_reply<A: Allocator + Copy>(reply: &Reply<A>) -> bool {
-    reply.file.is_ok() && reply.commit.is_ok() && reply.listed.is_ok()
+    matches!(reply.file, Ok(_)) && matches!(reply.commit, Ok(_)) && matches!(reply.listed, Ok(_))
 }
 
 /// Whether memory ran out for a part of a question.

@@ -30,3 +30,7 @@ mod steps;
 mod storing;
 #[cfg(test)]
 mod texts;
+#[cfg(test)]
+mod trip_growths;
+#[cfg(test)]
+mod trips;

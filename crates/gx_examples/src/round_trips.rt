@@ -4,18 +4,14 @@ use crate::commands::{has_line, is_text};
 use crate::exported::generated::history;
 use crate::steps::{Step, halves, step_of};
 use crate::texts::text;
-use gx_cli::{
-    CliFault, Explanation, ExportForm, Features, Question, Reply, RoundTrip, RoundTripOptions,
-    look_in, round_trip,
-};
-use gx_devices::Refusing;
+use crate::trips::{Made, have_same_refs, tripped};
+use gx_cli::{CliFault, ExportForm, Reply, RoundTrip, look_in};
 use gx_import::{ImportFault, ImportKind};
-use gx_model::gitlink_laws::replays_keep_none;
 use gx_object::{Mode, Name, Sha1Namer};
 use gx_repo::Repo;
-use gx_rev::{Range, Revision};
-use gx_text::{Bytes, Held, TreePath};
-use std::alloc::{Allocator, Global};
+use gx_rev::Revision;
+use gx_text::{Held, TreePath};
+use std::alloc::Global;
 use std::hash::RandomState;
 use std::test::Fail;
 
@@ -91,7 +87,14 @@ fn question_has_the_commit_and_the_list_of_its_revision(rt: HostRuntime) -> Resu
     let state = RandomState::new(&rt)?;
     let alloc = rt.alloc();
     let mut sink = Held::new(alloc, 64)?;
-    let tripped = tripped(alloc, text("version"), "v1 test.txt", &mut sink, state);
+    let tripped = tripped(
+        alloc,
+        text("version"),
+        "v1 test.txt",
+        ExportForm::FullTree,
+        &mut sink,
+        state,
+    );
     let is_right = match &tripped {
         Some(made) => is_answered(made),
         None => false,
@@ -140,7 +143,14 @@ fn refused_trip_leaves_the_last_checkpoint(rt: HostRuntime) -> Result<(), Fail> 
     let state = RandomState::new(&rt)?;
     for (stream, refs) in [(CHECKPOINTED, 1), (NOT_CHECKPOINTED, 0)] {
         let mut sink = Held::new(rt.alloc(), 64)?;
-        let tripped = tripped(rt.alloc(), stream, "main f", &mut sink, state);
+        let tripped = tripped(
+            rt.alloc(),
+            stream,
+            "main f",
+            ExportForm::FullTree,
+            &mut sink,
+            state,
+        );
         let count = match &tripped {
             Some(made) => refs_left(made),
             None => None,
@@ -175,93 +185,19 @@ data 0
 foo
 ";
 
-#[test]
-fn each_refused_growth_of_a_round_trip_is_out_of_memory(rt: HostRuntime) -> Result<(), Fail> {
-    let state = RandomState::new(&rt)?;
-    assert!(rt; refused_growths(rt.alloc(), state) >= 100);
-    Ok(())
-}
-
-/// What a stream made of an empty store, and its trip, or why there is none.
-#[derive(Drop)]
-struct Made<A: Allocator> {
-    first: Repo<Sha1Namer, A>,
-    trip: Result<RoundTrip<Sha1Namer, A>, CliFault>,
-}
-
-/// A stream that is imported into an empty store, exported, and imported again, and what is asked between: a revision and a path
-/// behind it, and the commits of the revision. There is none where there is no memory for these words.
-fn tripped<A: Allocator + Copy>(
-    alloc: A,
-    stream: &[u8],
-    words: &str,
-    sink: &mut Held<A>,
-    state: RandomState,
-) -> Option<Made<A>> {
-    let (word, path) = halves(words, ' ');
-    let revision = Revision::read(alloc, word.as_bytes()).ok()?;
-    let path = TreePath::read(alloc, path.as_bytes()).ok()?;
-    let ranges = range_alone(alloc, word)?;
-    let question = Question {
-        revision,
-        path,
-        ranges,
-    };
-    Some(asked(alloc, stream, Some(question), sink, state))
-}
-
-/// A range word alone.
-fn range_alone<A: Allocator + Copy>(alloc: A, word: &str) -> Option<Vec<Range<A>, A>> {
-    match Range::read(alloc, word.as_bytes()) {
-        Ok(range) => alone(alloc, range),
-        Err(_) => None,
-    }
-}
-
-/// A list of one.
-fn alone<A: Allocator + Copy>(alloc: A, range: Range<A>) -> Option<Vec<Range<A>, A>> {
-    let mut ranges = Vec::new(alloc);
-    match ranges.push(range) {
-        Ok(()) => Some(ranges),
-        Err(_) => None,
-    }
-}
-
-/// The same of a question.
-fn asked<A: Allocator + Copy>(
-    alloc: A,
-    stream: &[u8],
-    question: Option<Question<A>>,
-    sink: &mut Held<A>,
-    state: RandomState,
-) -> Made<A> {
-    replays_keep_none();
-    let mut first = Repo::new(alloc, Sha1Namer, state);
-    let mut told = Explanation::none();
-    let options = RoundTripOptions {
-        features: Features::none(),
-        question,
-        form: ExportForm::FullTree,
-    };
-    let trip = round_trip(
-        alloc,
-        &mut first,
-        Sha1Namer,
-        Bytes::new(stream, 4096, false),
-        sink,
-        &options,
-        state,
-        &mut told,
-    );
-    Made { first, trip }
-}
-
 /// Whether a trip shows what a step says, or is refused at its second command.
 fn shows(alloc: Global, step: &Step<'_>, state: RandomState) -> bool {
     let Ok(mut sink) = Held::new(alloc, 64) else {
         return false;
     };
-    let Some(tripped) = tripped(alloc, step.input, step.words, &mut sink, state) else {
+    let Some(tripped) = tripped(
+        alloc,
+        step.input,
+        step.words,
+        ExportForm::FullTree,
+        &mut sink,
+        state,
+    ) else {
         return false;
     };
     let is_right = match &tripped.trip {
@@ -331,7 +267,14 @@ fn comes_back(
     let Ok(mut sink) = Held::new(alloc, 64) else {
         return false;
     };
-    let Some(twice) = tripped(alloc, &trip.text, words, &mut sink, state) else {
+    let Some(twice) = tripped(
+        alloc,
+        &trip.text,
+        words,
+        ExportForm::FullTree,
+        &mut sink,
+        state,
+    ) else {
         return false;
     };
     match &twice.trip {
@@ -344,87 +287,4 @@ fn comes_back(
         }
         Err(_) => false,
     }
-}
-
-/// Whether two repositories have the same refs.
-pub(crate) fn have_same_refs<A: Allocator + Copy>(
-    one: &Repo<Sha1Namer, A>,
-    other: &Repo<Sha1Namer, A>,
-) -> bool {
-    for (own, others) in one.refs().zip(other.refs()) {
-        if own != others {
-            return false;
-        }
-    }
-    one.refs().count() == other.refs().count()
-}
-
-/// How many growths are refused before a trip succeeds; none where one is answered otherwise.
-fn refused_growths(alloc: Global, state: RandomState) -> u64 {
-    for nth in 1..3000u64 {
-        match is_refused_at(alloc, nth, state) {
-            Some(true) => {}
-            Some(false) => return nth - 1,
-            None => return 0,
-        }
-    }
-    0
-}
-
-/// Whether a trip, or its file alone, is refused for want of memory of which this growth is to be refused; none where it is
-/// answered otherwise.
-fn is_refused_at(alloc: Global, nth: u64, state: RandomState) -> Option<bool> {
-    let heap = Refusing::new(alloc, 0);
-    match Held::new(&heap, 64) {
-        Ok(mut sink) => is_trip_refused(&heap, &mut sink, nth, state),
-        Err(_) => None,
-    }
-}
-
-/// The same, with a sink for what it prints.
-fn is_trip_refused<'a, B: Allocator>(
-    heap: &'a Refusing<B>,
-    sink: &mut Held<&'a Refusing<B>>,
-    nth: u64,
-    state: RandomState,
-) -> Option<bool> {
-    heap.arm(nth);
-    let tripped = tripped(heap, text("two branches"), "a f", sink, state);
-    let is_waiting = heap.is_waiting();
-    heap.arm(0);
-    match &tripped {
-        Some(tripped) => is_refused(tripped, is_waiting),
-        None if is_waiting => None,
-        None => Some(true),
-    }
-}
-
-/// Whether a trip, or a part of its reply alone, is refused for want of memory; none where it is answered otherwise. One that
-/// succeeds, at which a growth is still waited for, has its reply, and the same refs twice.
-fn is_refused<A: Allocator + Copy>(tripped: &Made<A>, is_waiting: bool) -> Option<bool> {
-    let is_right = match &tripped.trip {
-        Ok(trip) => match &trip.reply {
-            Some(reply) if is_waiting => {
-                is_whole_reply(reply) && have_same_refs(&tripped.first, &trip.again)
-            }
-            Some(reply) => lacks_memory(reply),
-            None => false,
-        },
-        Err(CliFault::OutOfMemory) => !is_waiting,
-        Err(CliFault::Import(fault)) => !is_waiting && fault.kind == ImportKind::OutOfMemory,
-        Err(_) => false,
-    };
-    if is_right { Some(!is_waiting) } else { None }
-}
-
-/// Whether each part of a question is answered.
-fn is_whole_reply<A: Allocator + Copy>(reply: &Reply<A>) -> bool {
-    matches!(reply.file, Ok(_)) && matches!(reply.commit, Ok(_)) && matches!(reply.listed, Ok(_))
-}
-
-/// Whether memory ran out for a part of a question.
-fn lacks_memory<A: Allocator + Copy>(reply: &Reply<A>) -> bool {
-    matches!(reply.file, Err(CliFault::OutOfMemory))
-        || matches!(reply.commit, Err(CliFault::OutOfMemory))
-        || matches!(reply.listed, Err(CliFault::OutOfMemory))
 }

@@ -1,0 +1,179 @@
+"""What the tests share: the program, git without settings, and stores in folders of their own."""
+
+from __future__ import annotations
+
+import os
+import random
+import subprocess
+from collections.abc import Callable
+from dataclasses import dataclass
+from pathlib import Path
+
+import pytest
+from hypothesis import HealthCheck, settings
+
+TOP = Path(__file__).resolve().parent.parent
+SCRIPTS = TOP / "scripts"
+EMPTY_STORE = b"gxstore 2\nobjects 0\nrefs 0\nend\n"
+# where the program may stand, the first one that does: proved, and made without proofs
+BUILT = (TOP / "crates/gx/out/gx", TOP / "out/try/gx")
+WHO = {"NAME": "A", "EMAIL": "a@x", "DATE": "@1 +0000"}
+
+settings.register_profile(
+    "quick",
+    max_examples=2,
+    derandomize=True,
+    database=None,
+    deadline=None,
+    suppress_health_check=list(HealthCheck),
+)
+settings.register_profile(
+    "long",
+    max_examples=100,
+    database=None,
+    deadline=None,
+    print_blob=True,
+    suppress_health_check=list(HealthCheck),
+)
+
+
+def pytest_addoption(parser: pytest.Parser) -> None:
+    group = parser.getgroup("ginlarch")
+    group.addoption("--gx", metavar="PROGRAM", help="the program to try, in place of GX or the built one")
+    group.addoption("--seed", type=int, help="begin random histories here, in place of 1")
+    group.addoption("--long", action="store_true", help="run what is marked long, and longer histories")
+
+
+def pytest_configure(config: pytest.Config) -> None:
+    config.addinivalue_line("markers", "quick: run by `make test` and by the gate, as all that isn't long")
+    config.addinivalue_line("markers", "long: run only with --long")
+    if config.getoption("hypothesis_profile", None) is None:
+        settings.load_profile("long" if config.getoption("long") else "quick")
+    seed = config.getoption("seed")
+    if seed is not None and config.getoption("hypothesis_seed", None) is None:
+        config.option.hypothesis_seed = str(seed)
+        settings.register_profile("seeded", settings(), derandomize=False)
+        settings.load_profile("seeded")
+
+
+def pytest_collection_modifyitems(config: pytest.Config, items: list[pytest.Item]) -> None:
+    if config.getoption("long"):
+        return
+    for item in items:
+        if item.get_closest_marker("long"):
+            item.add_marker(pytest.mark.skip(reason="long: run with --long"))
+
+
+@dataclass(frozen=True)
+class Done:
+    """How a program ended, and what it wrote."""
+
+    status: int
+    out: bytes
+    err: bytes
+
+
+def run_program(words: list[str | bytes | Path], stdin: bytes = b"", timeout: float = 60, **more) -> Done:
+    """Runs a program to its end; `more` is subprocess.run's."""
+    if "stdin" not in more and "input" not in more:
+        more["input"] = stdin
+    done = subprocess.run(words, capture_output=True, timeout=timeout, **more)
+    return Done(done.returncode, done.stdout, done.stderr)
+
+
+class Program:
+    """The program gx, run by a call with its words."""
+
+    def __init__(self, path: Path, environment: dict[str, str]):
+        self.path, self.environment = path, environment
+
+    def __call__(self, *words: str | bytes | Path, stdin: bytes = b"", **more) -> Done:
+        return run_program([self.path, *words], stdin, **{"env": self.environment, **more})
+
+    def prints(self, *words: str | bytes | Path, stdin: bytes = b"", **more) -> bytes:
+        """What it prints, where it has to end with 0."""
+        return printed(self(*words, stdin=stdin, **more), ["gx", *words])
+
+
+def printed(done: Done, words: list[str | bytes | Path]) -> bytes:
+    """What a program printed that has to end with 0."""
+    assert done.status == 0, f"{words}: status {done.status}\n{done.err.decode(errors='replace')}"
+    return done.out
+
+
+def program_path(config: pytest.Config) -> Path:
+    """The program that the options, GX or the builds name."""
+    named = config.getoption("gx") or os.environ.get("GX")
+    if named:
+        path = Path(named).resolve()
+    else:
+        path = next((built for built in BUILT if built.exists()), BUILT[0])
+    if not os.access(path, os.X_OK):
+        pytest.exit(f"no program {path}: make one by `make try`, or name one by --gx or GX", 2)
+    return path
+
+
+@pytest.fixture(scope="session")
+def gx_path(request: pytest.FixtureRequest) -> Path:
+    return program_path(request.config)
+
+
+@pytest.fixture(scope="session")
+def environment(gx_path: Path, tmp_path_factory: pytest.TempPathFactory) -> dict[str, str]:
+    """gx and git-remote-gx in PATH, no settings of git, and fixed identities and times."""
+    home = tmp_path_factory.mktemp("home")
+    commands = home / "bin"
+    commands.mkdir()
+    (commands / "gx").symlink_to(gx_path)
+    (commands / "git-remote-gx").symlink_to(SCRIPTS / "git-remote-gx")
+    who = {f"GIT_{side}_{what}": value for side in ("AUTHOR", "COMMITTER") for what, value in WHO.items()}
+    return {
+        **who,
+        "GIT_CONFIG_NOSYSTEM": "1",
+        "GX": str(gx_path),
+        "HOME": str(home),
+        "LC_ALL": "C.UTF-8",
+        "PATH": f"{commands}:{os.environ['PATH']}",
+        "TZ": "UTC",
+    }
+
+
+@pytest.fixture(scope="session")
+def gx(gx_path: Path, environment: dict[str, str]) -> Program:
+    return Program(gx_path, environment)
+
+
+@pytest.fixture(scope="session")
+def git(environment: dict[str, str]) -> Callable[..., bytes]:
+    """What a command of git prints, which has to end with 0: git(WORD.., cwd=FOLDER, stdin=BYTES)."""
+
+    def run(*words: str | bytes | Path, stdin: bytes = b"", **more) -> bytes:
+        done = run_program(["git", *words], stdin, **{"env": environment, **more})
+        return printed(done, ["git", *words])
+
+    return run
+
+
+@pytest.fixture
+def new_store(gx: Program, tmp_path: Path) -> Callable[..., Path]:
+    """Makes a store in the test's folder, of a stream: new_store(STREAM, NAME)."""
+
+    def make(stream: bytes = b"", name: str = "store") -> Path:
+        path = tmp_path / name
+        gx.prints("init", path)
+        if stream:
+            gx.prints("import", path, stdin=stream)
+        return path
+
+    return make
+
+
+@pytest.fixture(scope="session")
+def seed(request: pytest.FixtureRequest) -> int:
+    """Where random choices begin."""
+    return request.config.getoption("seed") or 1
+
+
+@pytest.fixture
+def randoms(seed: int) -> random.Random:
+    return random.Random(seed)

@@ -58,7 +58,7 @@ fn collect_opened<N: Namer + Drop, A: Allocator + Copy>(
     pruned_answers();
     repo.sound();
     let mut left = repo;
-    match left.prune() {
+    match left.prune(&[]) {
         Ok(gone) => Ok((left, gone)),
         Err(_) => Err(CliFault::OutOfMemory),
     }

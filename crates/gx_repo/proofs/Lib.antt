@@ -16,4 +16,5 @@ pub mod ReadTrees
 pub mod AddedRecords
 pub mod WantingTrees
 pub mod PrunedRecords
+pub mod KeptRecords
 pub mod ReportedRefs

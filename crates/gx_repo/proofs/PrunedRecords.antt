@@ -12,20 +12,22 @@ use Rattle.gx_model.specs.declared.objects.Mode.{Mode}
 use Rattle.gx_model.specs.declared.objects.Mode.TheVariants.{Dir, Exec, File, Gitlink, Link}
 use Rattle.gx_model.specs.Texts.{Bytes, same_bytes}
 use Rattle.gx_model.specs.Histories.{AreDistinct, Record, Records}
-use Rattle.gx_model.specs.Laws.PruningLaws.{PrunedStands}
 use Rattle.gx_model.specs.Laws.RepositoryLaws.{with_records}
 use Rattle.gx_model.specs.Laws.StoreLaws.{IsBody}
-use Rattle.gx_model.specs.Objects.{Entry}
-use Rattle.gx_model.specs.Pruning.{is_reachable, is_tip, link_of, links_of, links_to, pruned}
+use Rattle.gx_model.specs.Objects.{Entry, IsNamer}
+use Rattle.gx_model.specs.Pruning.{is_reachable, is_tip, link_of, links_of, links_to}
 use Rattle.gx_model.specs.Records.Publishing.{Ref}
 use Rattle.gx_model.specs.Records.Sound.{IsLinked, IsLinkedAfter, IsSound}
 use Rattle.gx_model.proofs.Texts.PathTests.{is_same, is_true, same_is}
+use Rattle.gx_object.specs.Commits.{bytes_of_names}
+use Rattle.gx_object.specs.declared.name.Name.{Name}
 use Rattle.gx_store.specs.Marked.{first_mark, marked}
 use Rattle.gx_store.specs.Stores.{place_named}
 use Rattle.gx_repo.specs.Places.{IsPlace}
-use Rattle.gx_repo.specs.Pruning.{MarksNames, marks_by, objects_held, weight}
+use Rattle.gx_repo.specs.Pruning.{MarksNames, is_kept_beside, marks_by, objects_held, pruned_beside, tips_of, weight}
 use Rattle.gx_repo.specs.Refs.{shown_ref}
 use Rattle.gx_repo.specs.declared.refs.Ref.{Ref as HeldRef}
+use Rattle.gx_repo.proofs.KeptRecords.{kept_sound, tip_more}
 use Rattle.gx_repo.proofs.Places.{is_place, no_place, no_record}
 
 abbrev among : List Bytes → Bytes → Bool
@@ -173,6 +175,18 @@ tips_are (r ∷ refs) n = ap (λ b. same_bytes n r.1 || b) (tips_are refs n)
 pub tips_marked : (refs : List Ref) (rs : List Record) (old new : List Bool) → old ≡ marks_by (λ n. false) rs → MarksNames rs (objects_held refs) old new → new ≡ marks_by (is_tip refs) rs
 tips_marked refs rs old new e h = h (λ n. false) e ∙ same_marks (λ n. false || among (objects_held refs) n) (is_tip refs) (λ n. tips_are refs n) rs
 
+-- besides these, what has one of these names is marked
+pub names_marked : (refs : List Ref) (names : List Bytes) (rs : List Record) (old new : List Bool) → old ≡ marks_by (is_tip refs) rs → MarksNames rs names old new → new ≡ marks_by (is_tip (refs ++ tips_of names)) rs
+names_marked refs names rs old new e h =
+    h (is_tip refs) e ∙ same_marks (λ n. is_tip refs n || among names n) (is_tip (refs ++ tips_of names)) (λ n. ap (λ b. is_tip refs n || b) (named_tips names n) ∙ sym (tip_more refs (tips_of names) n)) rs where
+      named_tips : (names : List Bytes) (n : Bytes) → among names n ≡ is_tip (tips_of names) n
+      named_tips [] n = refl
+      named_tips (m ∷ names) n = ap (λ b. same_bytes n m || b) (named_tips names n)
+
+-- the next of the names that are asked for
+pub next_name : (names : List Name) (i : ℕ) (d : Name) → i < length names → bytes_of_names (drop i names) ≡ (get_or names i d).bytes ∷ bytes_of_names (drop (i + 1) names)
+next_name names i d l = ap bytes_of_names (drop_more names i d l)
+
 -- ---- bodies
 
 body_linked : (rs : List Record) (k : Kind) (body : Bytes) → IsLinked rs k body → IsBody k body
@@ -193,23 +207,23 @@ pub marked_left : (test : Bytes → Bool) (rs : List Record) → marked (marks_b
 marked_left test [] = refl
 marked_left test (r ∷ rs) = ap (λ left. cond (test r.name) (r ∷ left) left) (marked_left test rs)
 
--- the records that are left where those are marked that refs reach
-pub pruned_left : (r : Records) (marks : List Bool) → marks ≡ marks_by (is_reachable r.refs r.records) r.records → marked marks r.records ≡ (pruned r).records
-unfolding pruned
-pruned_left r marks e = ap (λ ms. marked ms r.records) e ∙ marked_left (is_reachable r.refs r.records) r.records
+-- the records that are left where those are marked that refs or the objects of these names reach
+pub pruned_left : (names : List Bytes) (r : Records) (marks : List Bool) → marks ≡ marks_by (is_kept_beside names r) r.records → marked marks r.records ≡ (pruned_beside names r).records
+unfolding pruned_beside
+pruned_left names r marks e = ap (λ ms. marked ms r.records) e ∙ marked_left (is_kept_beside names r) r.records
 
 -- what a repository holds is sound without its refs
 pub store_sound : (name : Kind → Bytes → Bytes) (r : Records) → IsSound name r → IsSound name (record { records = r.records; refs = [] })
 store_sound name r s = record { named = s.named; distinct = s.distinct; linked = s.linked; paths = s.paths; sorted = refl; ref_names = refl; held = tt }
 
 -- with those that are left it is the repository that is wanted
-pub pruned_is : (r : Records) (marks : List Bool) → marks ≡ marks_by (is_reachable r.refs r.records) r.records → with_records r (marked marks r.records) ≡ pruned r
-unfolding pruned
-pruned_is r marks e = ap (with_records r) (pruned_left r marks e)
+pub pruned_is : (names : List Bytes) (r : Records) (marks : List Bool) → marks ≡ marks_by (is_kept_beside names r) r.records → with_records r (marked marks r.records) ≡ pruned_beside names r
+unfolding pruned_beside
+pruned_is names r marks e = ap (with_records r) (pruned_left names r marks e)
 
 -- which is sound
-pub pruned_sound : (name : Kind → Bytes → Bytes) → PrunedStands name → (r : Records) (marks : List Bool) → IsSound name r → marks ≡ marks_by (is_reachable r.refs r.records) r.records → IsSound name (with_records r (marked marks r.records))
-pruned_sound name law r marks s e = subst (IsSound name) (sym (pruned_is r marks e)) (law.sound r s)
+pub pruned_sound : (name : Kind → Bytes → Bytes) → IsNamer name → (names : List Bytes) (r : Records) (marks : List Bool) → IsSound name r → marks ≡ marks_by (is_kept_beside names r) r.records → IsSound name (with_records r (marked marks r.records))
+pruned_sound name namer names r marks s e = subst (IsSound name) (sym (pruned_is names r marks e)) (kept_sound name namer names r s)
 
 -- no more are left than there were
 pub marked_less : {X : Type 0} (marks : List Bool) (xs : List X) → length (marked marks xs) ≤ length xs

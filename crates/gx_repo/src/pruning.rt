@@ -1,16 +1,17 @@
-//! Objects that no ref reaches. The objects that refs hold are marked by their places, and one pass from the newest record on
-//! spreads the marks: what an object names stands before it. Source: git-prune(1), and gitglossary(7), "reachable".
-ghost use Rattle.std.specs.Prelude.{◌≡◌, ◌+◌, [], ◌∷◌, false, length, replicate, IfOk, OnErr, OnOk};
+//! Objects that no ref reaches. The objects that refs hold are marked by their places, and those that are asked for beside them,
+//! and one pass from the newest record on spreads the marks: what an object names stands before it.
+//! Source: git-prune(1), and gitglossary(7), "reachable".
+ghost use Rattle.std.specs.Prelude.{◌≡◌, ◌+◌, [], ◌∷◌, ◌++◌, false, length, replicate, IfOk, OnErr, OnOk};
 ghost use Rattle.gx_model.specs.declared.objects.Kind.TheVariants as kinds;
 ghost use Rattle.gx_model.specs.Laws.StoreLaws.{IsBody};
 ghost use Rattle.gx_model.specs.Pruning.{is_reachable, links_of, pruned};
-ghost use Rattle.gx_repo.specs.Pruning.{MarksNames, Spreads, marks_by, objects_held, weight};
+ghost use Rattle.gx_object.specs.Commits.{bytes_of_names};
+ghost use Rattle.gx_repo.specs.Pruning.{MarksNames, Spreads, marks_by, objects_held, pruned_beside, tips_of, weight};
 ghost use Rattle.gx_repo.specs.Repositories.{IsSoundStore};
 
 use crate::fault::OutOfMemory;
 use crate::ref_list::RefList;
 use crate::repo::Repo;
-use gx_model::pruning_laws::pruned_stands;
 use gx_object::{Kind, Mode, Name, Namer, decode_commit, decode_tag, held_tree};
 use gx_store::Store;
 use std::alloc::{AllocError, Allocator};
@@ -25,21 +26,22 @@ pub struct Pruned {
 }
 
 impl<N: Namer, A: Allocator + Copy> Repo<N, A> {
-    /// Lets all objects go that no ref reaches, and answers how much that is. The others keep their order, and the refs stay.
+    /// Lets all objects go that neither a ref nor an object of one of these names reaches, which reaches itself, and answers how
+    /// much that is. The others keep their order, and the refs stay. A name that no object has keeps nothing.
     ///
     /// `OutOfMemory`: a growth was refused; the repository is as it was.
-    /// Cost: the number of objects and of refs, and for each object that is reached its body, and a look-up for each object
-    /// that it names. Nothing is named or hashed anew. Memory: a byte for each object. Source: git-prune(1), and
+    /// Cost: the number of objects, of refs and of names, and for each object that is reached its body, and a look-up for each
+    /// object that it names. Nothing is named or hashed anew. Memory: a byte for each object. Source: git-prune(1), and
     /// gitglossary(7), "reachable".
-    pub fn prune(&mut self) -> Result<Pruned, OutOfMemory>
+    pub fn prune(&mut self, kept: &[Name]) -> Result<Pruned, OutOfMemory>
         ensures namer { self.new.0 ≡ self.old.0 }
-        ensures pruned { OnOk result (self.new.1 ≡ pruned self.old.1) }
+        ensures pruned { OnOk result (self.new.1 ≡ pruned_beside (bytes_of_names kept.now) self.old.1) }
+        ensures by_refs { OnOk result (kept.now ≡ [] → self.new.1 ≡ pruned self.old.1) }
         ensures objects { IfOk result (λ gone. gone.objects + length self.new.1.records ≡ length self.old.1.records) }
         ensures bytes { IfOk result (λ gone. gone.bytes + weight self.new.1.records ≡ weight self.old.1.records) }
         ensures unchanged { OnErr result (self.new ≡ self.old) }
     {
-        pruned_stands();
-        let marks = reachable_marks(self.alloc, &self.store, &self.refs)?;
+        let marks = reachable_marks(self.alloc, &self.store, &self.refs, kept)?;
         let held = self.store.len();
         let weighed = weight(&self.store);
         self.store.retain(&marks);
@@ -50,35 +52,40 @@ impl<N: Namer, A: Allocator + Copy> Repo<N, A> {
     }
 }
 
-/// Marks of the objects that refs reach, by place.
+/// Marks of the objects that refs or objects of these names reach, by place.
 ///
-/// Cost: the number of objects and of refs, and for each object that is reached its body, and a look-up for each object that it
-/// names. Takes a byte for each object.
+/// Cost: the number of objects, of refs and of names, and for each object that is reached its body, and a look-up for each
+/// object that it names. Takes a byte for each object.
 fn reachable_marks<N: Namer, A: Allocator + Copy>(
     alloc: A,
     store: &Store<N, A>,
     refs: &RefList<A>,
+    kept: &[Name],
 ) -> Result<Vec<bool, A>, AllocError>
     requires { IsSoundStore N.name_of store.now }
-    ensures { IfOk result (λ marks. marks.items ≡ marks_by (is_reachable refs.now store.now.1) store.now.1) }
+    ensures { IfOk result (λ marks. marks.items
+        ≡ marks_by (is_reachable (refs.now ++ tips_of (bytes_of_names kept.now)) store.now.1) store.now.1) }
 {
     let count = store.len();
     let mut marks = vec![in alloc; false; count]?;
-    mark_reachable(store, &mut marks, refs);
+    mark_reachable(store, &mut marks, refs, kept);
     Ok(marks)
 }
 
-/// Marks what refs reach, where nothing is marked.
+/// Marks what refs or objects of these names reach, where nothing is marked.
 fn mark_reachable<N: Namer, A: Allocator + Copy>(
     store: &Store<N, A>,
     marks: &mut [bool],
     refs: &RefList<A>,
+    kept: &[Name],
 )
     requires sound { IsSoundStore N.name_of store.now }
     requires none { marks.old ≡ replicate (length store.now.1) false }
-    ensures { marks.new ≡ marks_by (is_reachable refs.now store.now.1) store.now.1 }
+    ensures { marks.new
+        ≡ marks_by (is_reachable (refs.now ++ tips_of (bytes_of_names kept.now)) store.now.1) store.now.1 }
 {
     mark_tips(store, marks, refs);
+    mark_names(store, marks, kept);
     spread(store, marks);
 }
 
@@ -108,6 +115,21 @@ fn mark_tips<N: Namer, A: Allocator + Copy>(
 {
     for held in refs.refs.as_slice() {
         mark(store, marks, &held.object);
+    }
+}
+
+/// Marks the objects of these names, where they are held.
+fn mark_names<N: Namer, A: Allocator + Copy>(
+    store: &Store<N, A>,
+    marks: &mut [bool],
+    names: &[Name],
+)
+    requires sound { IsSoundStore N.name_of store.now }
+    requires long { length marks.old ≡ length store.now.1 }
+    ensures { MarksNames store.now.1 (bytes_of_names names.now) marks.old marks.new }
+{
+    for name in names {
+        mark(store, marks, name);
     }
 }
 

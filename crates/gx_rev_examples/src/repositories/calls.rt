@@ -300,7 +300,7 @@ fn prune<'a, N: Namer>(
     ensures named { IsNamedMap repo.new.1.records tree.new.files }
 {
     tree.clear();
-    match repo.prune() {
+    match repo.prune(&[]) {
         Ok(gone) if gone.bytes == bytes => Answer::Counted(gone.objects),
         Ok(_) => Answer::Nothing,
         Err(_) => Answer::OutOfMemory,

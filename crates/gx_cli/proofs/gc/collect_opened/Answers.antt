@@ -6,4 +6,4 @@ returns-in-Ok g c =
     let names = g.N.Namer.name_of c.args.repo.0 in
     let namer = g.met.N.Namer.is_namer c.args.repo.0 in
     repository_collected g.N.Namer.name_of c.args.repo c.prune.new.self c.in-Ok.gone (c.pruned_stands.ensures names namer) (c.pruned_answers.ensures names namer) c.sound.ensures
-    c.prune.ensures.namer c.in-Ok.ensures.pruned c.in-Ok.ensures.objects c.in-Ok.ensures.bytes
+    c.prune.ensures.namer (c.in-Ok.ensures.by_refs refl) c.in-Ok.ensures.objects c.in-Ok.ensures.bytes

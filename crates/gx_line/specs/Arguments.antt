@@ -9,6 +9,10 @@ use Rattle.clap.specs.declared.builder.value_parser.ValueParser.TheVariants as p
 abbrev pub one_word : Text → Rule
 one_word id = record (new_rule id) { value_names = 1; required = true }
 
+-- a positional argument that may be left out
+abbrev pub any_word : Text → Rule
+any_word id = record (new_rule id) { value_names = 1 }
+
 -- a positional argument that stands at least once
 abbrev pub words : Text → Rule
 words id = record (new_rule id) {
@@ -79,6 +83,18 @@ report = flag (codes "report")
 abbrev pub explain : Rule
 explain = flag (codes "explain")
 
+-- a file that tells what refs are wanted to be
+abbrev pub push : Rule
+push = text (codes "push")
+
+-- a file that tells which objects stay
+abbrev pub keep : Rule
+keep = text (codes "keep")
+
+-- --wait and a whole number of seconds
+abbrev pub wait : Rule
+wait = number (codes "wait")
+
 abbrev pub changes : Rule
 changes = flag (codes "changes")
 
@@ -101,6 +117,22 @@ fault = bound (flag (codes "fault"))
 -- the names of refs, which are needed where --stdin isn't given
 abbrev pub refs : Rule
 refs = bound (any_words (codes "ref"))
+
+-- the name of a ref, which is needed where --stdin isn't given
+abbrev pub changed_ref : Rule
+changed_ref = bound (any_word (codes "ref"))
+
+-- what the ref becomes, which is needed where --stdin isn't given
+abbrev pub new_value : Rule
+new_value = bound (any_word (codes "new"))
+
+-- what the ref is
+abbrev pub old_value : Rule
+old_value = any_word (codes "old")
+
+-- a flag that is refused beside the name of a ref
+abbrev pub changes_read : Rule
+changes_read = bound (flag (codes "stdin"))
 
 abbrev pub stdin : Rule
 stdin = flag (codes "stdin")

@@ -14,7 +14,8 @@ use Rattle.gx_line.specs.declared.command_line.BatchForm.TheVariants as form
 use Rattle.gx_line.specs.declared.command_line.ExportForm.{ExportForm}
 use Rattle.gx_line.specs.declared.command_line.ExportForm.TheVariants.{Changes, FullTree}
 use Rattle.gx_line.specs.declared.command_line.Line.{Line}
-use Rattle.gx_line.specs.declared.command_line.Line.TheVariants.{Blobs, Try, Check, Adapt, Where, WhereFault, Init, Import, Drop, Gc, Export, ExportRange, Show, Ls, Archive, Batch, Refs, Log, RevParse}
+use Rattle.gx_line.specs.declared.command_line.Line.TheVariants.{Blobs, Try, Check, Adapt, Where, WhereFault, Init, Import, Drop, SetRef, Gc, Export, ExportRange, Show, Ls, Archive, Batch, Refs, Log, RevParse}
+use Rattle.gx_line.specs.declared.command_line.RefChange.{RefChange}
 use Rattle.gx_line.specs.declared.fault.LineFault.{LineFault}
 use Rattle.gx_line.specs.declared.fault.LineFault.TheVariants.{OutOfMemory, Status}
 use Rattle.gx_line.specs.declared.command_line.LogFormat.{LogFormat}
@@ -47,14 +48,33 @@ check_command = with_rule (with_features (new_app (codes "check"))) rules.explai
 abbrev pub adapt_command : App
 adapt_command = with_rule (new_app (codes "adapt")) rules.drop_signatures
 
+-- a command that writes a store file, and may have to wait for another one that does
+abbrev pub with_wait : App → App
+with_wait a = with_rule a rules.wait
+
+abbrev pub init_command : App
+init_command = with_wait (file_command (codes "init"))
+
+-- what an import can be asked to tell
+abbrev pub telling_import : App
+telling_import = with_rule (with_rule (with_features (file_command (codes "import"))) rules.report) rules.explain
+
 abbrev pub import_command : App
-import_command = with_rule (with_rule (with_features (file_command (codes "import"))) rules.report) rules.explain
+import_command = with_wait (with_rule telling_import rules.push)
 
 abbrev pub drop_command : App
-drop_command = with_rule (with_rule (file_command (codes "drop")) rules.refs) rules.stdin
+drop_command = with_wait (with_rule (with_rule (file_command (codes "drop")) rules.refs) rules.stdin)
+
+-- which refs are set, and to what
+abbrev pub changed_command : App
+changed_command =
+    with_rule (with_rule (with_rule (file_command (codes "set-ref")) rules.changed_ref) rules.new_value) rules.old_value
+
+abbrev pub set_ref_command : App
+set_ref_command = with_wait (with_rule (with_rule changed_command rules.changes_read) rules.force)
 
 abbrev pub gc_command : App
-gc_command = with_rule (file_command (codes "gc")) rules.report
+gc_command = with_wait (with_rule (with_rule (file_command (codes "gc")) rules.report) rules.keep)
 
 abbrev pub export_command : App
 export_command = with_rule (with_rule (with_rule (file_command (codes "export")) rules.changes) rules.no_done) rules.sent_ranges
@@ -113,7 +133,7 @@ with_stream_commands a =
 -- the commands on a store as a whole
 abbrev pub with_store_commands : App → App
 with_store_commands a =
-    under (under (under (under (under (under a (file_command (codes "init"))) import_command) drop_command) gc_command)
+    under (under (under (under (under (under (under a init_command) import_command) drop_command) set_ref_command) gc_command)
     export_command) (file_command (codes "refs"))
 
 -- the commands that show objects
@@ -182,6 +202,20 @@ AreLogOptions rows options = AreChosen rows options × (IsFlag (codes "reverse")
 abbrev pub AreFeatures : List Row → Bool → Bool → Type 0
 AreFeatures rows done force = IsFlag (codes "done") rows done × IsFlag (codes "force") rows force
 
+-- so many seconds are waited at most
+abbrev pub IsWait : List Row → Option ℕ → Type 0
+IsWait rows wait = IsNumber (codes "wait") rows wait
+
+-- a file tells what refs are wanted to be, and then no branch may lose commits by --force
+abbrev pub IsPush : List Row → Option (Bor Text) → Type 0
+IsPush rows push = IsOption (codes "push") rows push × (IsFlag (codes "force") rows true → push ≡ None)
+
+-- a ref is set, or what standard input tells
+abbrev pub IsRefChange : List Row → Option RefChange → Type 0
+IsRefChange rows None = IsFlag (codes "stdin") rows true
+IsRefChange rows (Some change) = IsFlag (codes "stdin") rows false × (IsWord (codes "ref") rows change.name
+    × (IsWord (codes "new") rows change.new × IsOption (codes "old") rows change.old))
+
 abbrev pub IsForm : List Row → ExportForm → Type 0
 IsForm rows FullTree = IsFlag (codes "changes") rows false × IsFlag (codes "no-done") rows false
 IsForm rows (Changes done) = IsFlag (codes "changes") rows true × IsFlag (codes "no-done") rows (not done)
@@ -202,12 +236,16 @@ Says name rows (Adapt drop_signatures) = (name ≡ codes "adapt") × IsFlag (cod
 Says name rows (Where command) = (name ≡ codes "where")
     × (IsFlag (codes "fault") rows false × IsNumber (codes "number") rows (Some command))
 Says name rows (WhereFault done force) = (name ≡ codes "where") × (IsFlag (codes "fault") rows true × AreFeatures rows done force)
-Says name rows (Init file) = (name ≡ codes "init") × IsWord (codes "file") rows file
-Says name rows (Import file done force report explain) = (name ≡ codes "import") × (AreFeatures rows done force
-    × (IsFlag (codes "report") rows report × (IsFlag (codes "explain") rows explain × IsWord (codes "file") rows file)))
-Says name rows (Drop file refs stdin) = (name ≡ codes "drop") × (IsFlag (codes "stdin") rows stdin
-    × (IsWord (codes "file") rows file × AreAnyWords (codes "ref") rows refs.items))
-Says name rows (Gc file report) = (name ≡ codes "gc") × (IsFlag (codes "report") rows report × IsWord (codes "file") rows file)
+Says name rows (Init file wait) = (name ≡ codes "init") × (IsWord (codes "file") rows file × IsWait rows wait)
+Says name rows (Import file done force report explain push wait) = (name ≡ codes "import") × (AreFeatures rows done force
+    × (IsFlag (codes "report") rows report × (IsFlag (codes "explain") rows explain
+    × (IsPush rows push × (IsWord (codes "file") rows file × IsWait rows wait)))))
+Says name rows (Drop file refs stdin wait) = (name ≡ codes "drop") × (IsFlag (codes "stdin") rows stdin
+    × (IsWord (codes "file") rows file × (AreAnyWords (codes "ref") rows refs.items × IsWait rows wait)))
+Says name rows (SetRef file change force wait) = (name ≡ codes "set-ref") × (IsRefChange rows change
+    × (IsFlag (codes "force") rows force × (IsWord (codes "file") rows file × IsWait rows wait)))
+Says name rows (Gc file report keep wait) = (name ≡ codes "gc") × (IsFlag (codes "report") rows report
+    × (IsOption (codes "keep") rows keep × (IsWord (codes "file") rows file × IsWait rows wait)))
 Says name rows (Export form file) = (name ≡ codes "export")
     × (IsForm rows form × (IsWord (codes "file") rows file × (all_of (codes "range") rows ≡ None)))
 Says name rows (ExportRange done file ranges) = (name ≡ codes "export")
@@ -232,7 +270,7 @@ stream_names = codes "blobs" ∷ codes "try" ∷ codes "check" ∷ codes "adapt"
 
 -- the commands on a store, without those with a list of words
 abbrev pub store_names : List Text
-store_names = codes "init" ∷ codes "import" ∷ codes "gc" ∷ codes "export" ∷ codes "refs" ∷ codes "show" ∷ codes "ls"
+store_names = codes "init" ∷ codes "import" ∷ codes "set-ref" ∷ codes "gc" ∷ codes "export" ∷ codes "refs" ∷ codes "show" ∷ codes "ls"
     ∷ codes "archive" ∷ codes "batch" ∷ []
 
 -- the name is none of these
@@ -266,6 +304,15 @@ HasNoForm rows = IsFlag (codes "changes") rows false × IsFlag (codes "no-done")
 -- --command stands beside --check
 abbrev pub HasNoBatchForm : List Row → Type 0
 HasNoBatchForm rows = IsFlag (codes "check") rows true × IsFlag (codes "command") rows true
+
+-- there is no --stdin, and neither a ref with what it becomes
+abbrev pub HasNoRefChange : List Row → Type 0
+HasNoRefChange rows = IsFlag (codes "stdin") rows false
+    × (first_of (codes "ref") rows ≡ None ⊎ (first_of (codes "new") rows ≡ None))
+
+-- --force stands beside --push
+abbrev pub HasForcedPush : List Row → Type 0
+HasForcedPush rows = IsFlag (codes "force") rows true × (first_of (codes "push") rows ≡ None → ⊥)
 
 -- the word asks for no format
 abbrev pub HasNoFormat : Option Text → Type 0

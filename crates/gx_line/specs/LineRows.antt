@@ -18,7 +18,8 @@ line_rows =
     ∷ record { words = codes "adapt" ∷ codes "--drop-signatures" ∷ []; taken = true }
     ∷ record { words = codes "init" ∷ codes "a.gx" ∷ []; taken = true }
     ∷ record { words = codes "import" ∷ codes "--report" ∷ codes "a.gx" ∷ []; taken = true }
-    ∷ record { words = codes "gc" ∷ codes "a.gx" ∷ []; taken = true }
+    ∷ record { words = codes "import" ∷ codes "--push" ∷ codes "refs" ∷ codes "a.gx" ∷ []; taken = true }
+    ∷ record { words = codes "gc" ∷ codes "--keep" ∷ codes "names" ∷ codes "a.gx" ∷ []; taken = true }
     ∷ record { words = codes "refs" ∷ codes "a.gx" ∷ []; taken = true }
     ∷ record { words = codes "show" ∷ codes "a.gx" ∷ codes "main" ∷ []; taken = true }
     ∷ record { words = codes "ls" ∷ codes "--recursive" ∷ codes "a.gx" ∷ codes "main" ∷ []; taken = true }
@@ -33,6 +34,7 @@ line_rows =
     -- a command that has an argument with a rule on another one
     ∷ record { words = codes "where" ∷ codes "3" ∷ []; taken = false }
     ∷ record { words = codes "drop" ∷ codes "a.gx" ∷ codes "refs/heads/main" ∷ []; taken = false }
+    ∷ record { words = codes "set-ref" ∷ codes "--stdin" ∷ codes "a.gx" ∷ []; taken = false }
     ∷ record { words = codes "export" ∷ codes "a.gx" ∷ []; taken = false }
     ∷ record { words = codes "log" ∷ codes "a.gx" ∷ codes "main" ∷ []; taken = false }
     ∷ record { words = codes "batch" ∷ codes "a.gx" ∷ []; taken = false }

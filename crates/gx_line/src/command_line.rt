@@ -15,8 +15,8 @@ use clap::{ArgMatches, Error};
 use commands::command_line;
 use std::alloc::Global;
 use values::{
-    any_words_of, batch_form_of, form_of, format_of, is_set, number_of, option_of, text_of,
-    unknown, word_of, words_of,
+    any_words_of, batch_form_of, form_of, format_of, is_set, number_of, option_of, push_of,
+    ref_change_of, text_of, unknown, word_of, words_of,
 };
 
 /// What `log` prints of each commit.
@@ -73,7 +73,16 @@ pub enum ExportForm {
     Changes { done: bool },
 }
 
-/// A command with its options and words.
+/// What a ref is to be: its name, what it becomes, and what it has to be before, where that is given.
+#[derive(Clone, Copy, Debug, PartialEq, Eq)]
+pub struct RefChange<'a> {
+    pub name: &'a str,
+    pub new: &'a str,
+    pub old: Option<&'a str>,
+}
+
+/// A command with its options and words. Those that write a store file wait for another one that does: at most `wait`
+/// seconds, where that is given.
 #[derive(Debug, Drop)]
 pub enum Line<'a> {
     Blobs,
@@ -104,26 +113,41 @@ pub enum Line<'a> {
     /// A new store is made.
     Init {
         file: &'a str,
+        wait: Option<u64>,
     },
     /// A stream is imported into a store. With `done` it has to end with that command, and with `force` branches may
-    /// lose commits. With `report` the refs that it changed are told, and with `explain` what a refusal is about.
+    /// lose commits. With `report` the refs that it changed are told, and with `explain` what a refusal is about. `push` names
+    /// a file that tells what the refs are that change.
     Import {
         file: &'a str,
         done: bool,
         force: bool,
         report: bool,
         explain: bool,
+        push: Option<&'a str>,
+        wait: Option<u64>,
     },
     /// Refs are dropped from a store. With `stdin` further ones stand on standard input, one a line.
     Drop {
         file: &'a str,
         refs: Vec<&'a str>,
         stdin: bool,
+        wait: Option<u64>,
     },
-    /// The objects of a store go that no ref reaches. With `report` it is told how many.
+    /// A ref of a store is set or, where none is given, what standard input tells. With `force` branches may lose commits.
+    SetRef {
+        file: &'a str,
+        change: Option<RefChange<'a>>,
+        force: bool,
+        wait: Option<u64>,
+    },
+    /// The objects of a store go that no ref reaches. With `report` it is told how many. `keep` names a file of those that
+    /// stay, with all that they reach.
     Gc {
         file: &'a str,
         report: bool,
+        keep: Option<&'a str>,
+        wait: Option<u64>,
     },
     /// A store is exported as a stream.
     Export {
@@ -260,17 +284,17 @@ fn file_line<'a>(
     ensures refused { IfErr result (say.IsRefused name.now (rows_of (found_of matches.now))) }
 {
     match name {
-        "init" => Ok(Line::Init { file }),
-        "import" => Ok(Line::Import {
+        "init" => Ok(Line::Init {
             file,
-            done: is_set(matches, "done"),
-            force: is_set(matches, "force"),
-            report: is_set(matches, "report"),
-            explain: is_set(matches, "explain"),
+            wait: number_of(matches, "wait"),
         }),
+        "import" => import_line(alloc, matches, file),
+        "set-ref" => set_ref_line(alloc, matches, file),
         "gc" => Ok(Line::Gc {
             file,
             report: is_set(matches, "report"),
+            keep: option_of(matches, "keep"),
+            wait: number_of(matches, "wait"),
         }),
         "export" => export_line(alloc, matches, file),
         "refs" => Ok(Line::Refs { file }),
@@ -299,6 +323,47 @@ fn file_line<'a>(
         },
         _ => list_line(alloc, name, matches, file),
     }
+}
+
+/// The line of an import.
+#[tactic(auto, unfolding(crate::specs::CommandLine::Says))]
+fn import_line<'a>(
+    alloc: Global,
+    matches: &ArgMatches<'a>,
+    file: &'a str,
+) -> Result<Line<'a>, LineFault>
+    requires { first_of (codes "file") (rows_of (found_of matches.now)) ≡ Some file.now }
+    ensures line { IfOk result (λ line. say.Says (codes "import") (rows_of (found_of matches.now)) line) }
+    ensures refused { IfErr result (say.IsRefused (codes "import") (rows_of (found_of matches.now))) }
+{
+    Ok(Line::Import {
+        file,
+        done: is_set(matches, "done"),
+        force: is_set(matches, "force"),
+        report: is_set(matches, "report"),
+        explain: is_set(matches, "explain"),
+        push: push_of(alloc, matches)?,
+        wait: number_of(matches, "wait"),
+    })
+}
+
+/// The line of `set-ref`.
+#[tactic(auto, unfolding(crate::specs::CommandLine::Says))]
+fn set_ref_line<'a>(
+    alloc: Global,
+    matches: &ArgMatches<'a>,
+    file: &'a str,
+) -> Result<Line<'a>, LineFault>
+    requires { first_of (codes "file") (rows_of (found_of matches.now)) ≡ Some file.now }
+    ensures line { IfOk result (λ line. say.Says (codes "set-ref") (rows_of (found_of matches.now)) line) }
+    ensures refused { IfErr result (say.IsRefused (codes "set-ref") (rows_of (found_of matches.now))) }
+{
+    Ok(Line::SetRef {
+        file,
+        change: ref_change_of(alloc, matches)?,
+        force: is_set(matches, "force"),
+        wait: number_of(matches, "wait"),
+    })
 }
 
 /// The line of an export. clap makes sure that `--no-done` and range words stand beside `--changes`.
@@ -358,6 +423,7 @@ fn list_line<'a>(
             file,
             refs: any_words_of(alloc, matches, "ref")?,
             stdin: is_set(matches, "stdin"),
+            wait: number_of(matches, "wait"),
         }),
         "rev-parse" => Ok(Line::RevParse {
             file,

@@ -28,6 +28,14 @@ pub(super) fn one_word<'a>(alloc: Global, id: &'a str, shown: &'a str, help: &'a
         .help(help)
 }
 
+/// A positional argument that may be left out. Help shows it by `shown`.
+pub(super) fn any_word<'a>(alloc: Global, id: &'a str, shown: &'a str, help: &'a str) -> Arg<'a>
+    ensures rule { rule_of result ≡ rules.any_word id.entry.now }
+    ensures local { result.global ≡ false }
+{
+    Arg::new(alloc, id).value_name(shown).help(help)
+}
+
 /// A positional argument that stands at least once. Help shows it by `shown`.
 pub(super) fn words<'a>(alloc: Global, id: &'a str, shown: &'a str, help: &'a str) -> Arg<'a>
     ensures rule { rule_of result ≡ rules.words id.entry.now }
@@ -77,13 +85,13 @@ pub(super) fn text<'a>(alloc: Global, id: &'a str, shown: &'a str, help: &'a str
     Arg::new(alloc, id).long(id).value_name(shown).help(help)
 }
 
-/// A whole number below 2^64. Help shows it by `N`.
-pub(super) fn number<'a>(alloc: Global, id: &'a str, help: &'a str) -> Arg<'a>
+/// A whole number below 2^64. Help shows it by `shown`.
+pub(super) fn number<'a>(alloc: Global, id: &'a str, shown: &'a str, help: &'a str) -> Arg<'a>
     ensures rule { rule_of result ≡ rules.whole_number id.entry.now }
     ensures local { result.global ≡ false }
 {
     Arg::new(alloc, id)
-        .value_name("N")
+        .value_name(shown)
         .value_parser(ValueParser::unsigned(0, u64::MAX))
         .help(help)
 }

@@ -8,7 +8,7 @@ ghost use Rattle.gx_line.specs.Arguments as rules;
 ghost use Rattle.gx_line.specs.CommandLine as say;
 
 use super::arguments::{
-    any_words, flag, letter, number, one_word, revision, text, with_argument, words,
+    any_word, any_words, flag, letter, number, one_word, revision, text, with_argument, words,
 };
 use super::manual::{self, Page, commits, objects, stores, streams};
 use clap::{Arg, Command};
@@ -72,9 +72,8 @@ fn adapt_command<'a>(alloc: Global) -> Result<Command<'a>, AllocError>
 fn where_command<'a>(alloc: Global) -> Result<Command<'a>, AllocError>
     ensures { say.Makes result say.where_command }
 {
-    let place = number(alloc, "number", "The number of a command, from 1").required_unless_present(
-        "fault",
-    )?;
+    let place = number(alloc, "number", "N", "The number of a command, from 1");
+    let place = place.required_unless_present("fault")?;
     let fault = flag(
         alloc,
         "fault",
@@ -146,16 +145,56 @@ fn with_store_commands<'a>(
 ) -> Result<Command<'a>, AllocError>
     ensures { (a : App) → say.Makes gx.entry a → say.Makes result (say.with_store_commands a) }
 {
-    let gx = with_command(gx, file_command(alloc, "init", stores::INIT));
+    let gx = with_command(gx, init_command(alloc));
     let gx = with_command(gx, import_command(alloc));
     let gx = with_command(gx, drop_command(alloc));
+    let gx = with_command(gx, set_ref_command(alloc));
     let gx = with_command(gx, gc_command(alloc));
     let gx = with_command(gx, export_command(alloc));
     with_command(gx, file_command(alloc, "refs", stores::REFS))
 }
 
+fn init_command<'a>(alloc: Global) -> Result<Command<'a>, AllocError>
+    ensures { say.Makes result say.init_command }
+{
+    with_wait(alloc, file_command(alloc, "init", stores::INIT))
+}
+
+/// What a command that writes a store file can be asked for, where another run writes it, too.
+fn with_wait<'a>(
+    alloc: Global,
+    command: Result<Command<'a>, AllocError>,
+) -> Result<Command<'a>, AllocError>
+    ensures { (a : App) → say.Makes command.entry a → say.Makes result (say.with_wait a) }
+{
+    let wait = number(
+        alloc,
+        "wait",
+        "SECONDS",
+        "Waits so long at most for another run that writes FILE, and is\n\
+         then refused by gx: lock failed",
+    )
+    .long("wait");
+    with_argument(command, wait)
+}
+
 fn import_command<'a>(alloc: Global) -> Result<Command<'a>, AllocError>
     ensures { say.Makes result say.import_command }
+{
+    let push = text(
+        alloc,
+        "push",
+        "F",
+        "Wants the refs to be as the lines of F have them, and changes\n\
+         no others",
+    );
+    let import = with_argument(telling_import(alloc), push);
+    with_wait(alloc, import)
+}
+
+/// An import with what it can be asked to tell.
+fn telling_import<'a>(alloc: Global) -> Result<Command<'a>, AllocError>
+    ensures { say.Makes result say.telling_import }
 {
     let report = flag(
         alloc,
@@ -182,7 +221,45 @@ fn drop_command<'a>(alloc: Global) -> Result<Command<'a>, AllocError>
         "Takes further names from standard input, one a line",
     );
     let dropping = with_argument(file_command(alloc, "drop", stores::DROP), refs);
-    with_argument(dropping, stdin)
+    with_wait(alloc, with_argument(dropping, stdin))
+}
+
+fn set_ref_command<'a>(alloc: Global) -> Result<Command<'a>, AllocError>
+    ensures { say.Makes result say.set_ref_command }
+{
+    let stdin = flag(
+        alloc,
+        "stdin",
+        "Takes lines of git update-ref --stdin from standard input",
+    )
+    .conflicts_with("ref")?;
+    let force = flag(alloc, "force", "Branches may lose commits");
+    let changed = with_argument(changed_command(alloc), stdin);
+    with_wait(alloc, with_argument(changed, force))
+}
+
+/// `set-ref` with its words.
+fn changed_command<'a>(alloc: Global) -> Result<Command<'a>, AllocError>
+    ensures { say.Makes result say.changed_command }
+{
+    let name = any_word(alloc, "ref", "REF", "The name of a ref, as gx refs prints it")
+        .required_unless_present("stdin")?;
+    let new = any_word(
+        alloc,
+        "new",
+        "NEW",
+        "The 40 digits of what it becomes; forty zeros remove it",
+    )
+    .required_unless_present("stdin")?;
+    let old = any_word(
+        alloc,
+        "old",
+        "OLD",
+        "The 40 digits of what it is; forty zeros where there is none",
+    );
+    let changed = with_argument(file_command(alloc, "set-ref", stores::SET_REF), name);
+    let changed = with_argument(changed, new);
+    with_argument(changed, old)
 }
 
 fn gc_command<'a>(alloc: Global) -> Result<Command<'a>, AllocError>
@@ -193,7 +270,15 @@ fn gc_command<'a>(alloc: Global) -> Result<Command<'a>, AllocError>
         "report",
         "Tells how many objects and bytes went, on standard error",
     );
-    with_argument(file_command(alloc, "gc", stores::GC), report)
+    let keep = text(
+        alloc,
+        "keep",
+        "F",
+        "Keeps the objects with the names in F, too, one a line, and all\n\
+         that they reach",
+    );
+    let collecting = with_argument(file_command(alloc, "gc", stores::GC), report);
+    with_wait(alloc, with_argument(collecting, keep))
 }
 
 fn export_command<'a>(alloc: Global) -> Result<Command<'a>, AllocError>
@@ -351,6 +436,7 @@ fn chosen_command<'a>(alloc: Global) -> Result<Command<'a>, AllocError>
     let max_count = number(
         alloc,
         "max-count",
+        "N",
         "Lists N commits at most, counted before --reverse turns them",
     )
     .long("max-count")

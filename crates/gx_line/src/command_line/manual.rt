@@ -63,6 +63,9 @@ Exit status:
 
 Refusals:
   gx: command N: KIND   the Nth command of the stream, from 1
+  gx: push N: KIND      the Nth line of F, as gx import --help has it
+  gx: ref N: KIND       the Nth change of a ref, as gx set-ref --help has it
+  gx: keep N: BadLine   the Nth line of F is no 40 digits
   gx: revision N: KIND  the Nth REV, RANGE or REF, from 1. KIND is BadRevision,
                         BadPath, PathTooLong, UnknownRef, UnknownObject,
                         Ambiguous, NoParent, WrongKind or NoSuchPath
@@ -80,6 +83,6 @@ Refusals:
   gx: random bytes failed
                         the system gave none
   gx: lock failed       FILE.new, where the next store is written, can't be
-                        locked
+                        locked, or another run has it for longer than --wait
   gx: out of memory",
 };

@@ -5,7 +5,7 @@ ghost use Rattle.clap.specs.Words.{all_of, first_of, found_of, rows_of};
 ghost use Rattle.gx_line.specs.CommandLine as say;
 ghost use Rattle.gx_line.specs.declared.fault.LineFault.TheVariants.{OutOfMemory};
 
-use super::{BatchForm, ExportForm, LogFormat};
+use super::{BatchForm, ExportForm, LogFormat, RefChange};
 use crate::LineFault;
 use clap::ArgMatches;
 use std::alloc::Global;
@@ -14,6 +14,13 @@ use std::alloc::Global;
 const NO_FORMAT: &str = "\
 error: invalid value for '--format <FORMAT>'
   [possible values: oneline, raw, subject, author, dates]
+
+For more information, try '--help'.
+";
+
+/// What is said of --push beside --force, in the manner of clap.
+const FORCED_PUSH: &str = "\
+error: the argument '--push <F>' cannot be used with '--force'
 
 For more information, try '--help'.
 ";
@@ -97,6 +104,39 @@ pub(super) fn batch_form_of(matches: &ArgMatches<'_>) -> Option<BatchForm>
     }
 }
 
+/// The file that tells what the refs are that an import changes, where one is given.
+pub(super) fn push_of<'a>(
+    alloc: Global,
+    matches: &ArgMatches<'a>,
+) -> Result<Option<&'a str>, LineFault>
+    ensures push { IfOk result (λ push. say.IsPush (rows_of (found_of matches.now)) push) }
+    ensures forced { IfErr result (say.HasCause (say.HasForcedPush (rows_of (found_of matches.now)))) }
+{
+    let push = option_of(matches, "push");
+    if push.is_some() && is_set(matches, "force") {
+        return Err(not_accepted(alloc, FORCED_PUSH));
+    }
+    Ok(push)
+}
+
+/// The ref that is set, where standard input isn't to tell. clap makes sure that it is given, with what it becomes.
+pub(super) fn ref_change_of<'a>(
+    alloc: Global,
+    matches: &ArgMatches<'a>,
+) -> Result<Option<RefChange<'a>>, LineFault>
+    ensures change { IfOk result (λ change. say.IsRefChange (rows_of (found_of matches.now)) change) }
+    ensures missing { IfErr result (say.HasCause (say.HasNoRefChange (rows_of (found_of matches.now)))) }
+{
+    if is_set(matches, "stdin") {
+        return Ok(None);
+    }
+    Ok(Some(RefChange {
+        name: word_of(alloc, matches, "ref")?,
+        new: word_of(alloc, matches, "new")?,
+        old: option_of(matches, "old"),
+    }))
+}
+
 /// The format that a list of commits is asked for in.
 pub(super) fn format_of(alloc: Global, matches: &ArgMatches<'_>) -> Result<LogFormat, LineFault>
     ensures format { IfOk result (λ format. say.IsLogFormat (rows_of (found_of matches.now)) format) }
@@ -119,13 +159,13 @@ fn format_named(alloc: Global, word: &str) -> Result<LogFormat, LineFault>
         "subject" => Ok(LogFormat::Subject),
         "author" => Ok(LogFormat::Author),
         "dates" => Ok(LogFormat::Dates),
-        _ => Err(no_format(alloc)),
+        _ => Err(not_accepted(alloc, NO_FORMAT)),
     }
 }
 
-/// What is answered to a word that asks for none.
-fn no_format(alloc: Global) -> LineFault {
-    match format!(in alloc; "{NO_FORMAT}") {
+/// What is answered to a line that isn't accepted for this reason.
+fn not_accepted(alloc: Global, why: &str) -> LineFault {
+    match format!(in alloc; "{why}") {
         Ok(text) => LineFault::Status { status: 2, text },
         Err(_) => LineFault::OutOfMemory,
     }

@@ -31,7 +31,15 @@ comes from a pipe, --done shows an end that came too early.
 A branch that the store has already only moves forward: its new commit has to be
 the old one or a descendant of it, unless --force is given or the stream has the
 line 'feature force'. Neither outlives the import. The next store is written to
-FILE.new, which then takes the place of FILE.",
+FILE.new, which then takes the place of FILE.
+
+With --push each line of F tells of one ref what FILE has to have of it, before
+the stream is read, and what may become of it:
+  OLD REF   the 40 digits that gx refs prints of REF, or forty zeros where there
+            is no such ref. It only moves forward
+  +OLD REF  the same, but it may lose commits
+  -OLD REF  the ref is removed once the stream is read
+No other ref changes, and nothing is published before all of the stream is read.",
     details: "\
 Output:
   The lines of the stream's progress commands, as they come. What was printed
@@ -67,6 +75,12 @@ Refusals, each of which leaves FILE as it was but for those checkpoints:
                         RootNotTree, FromItself, EmptyBranch, Unsupported,
                         LateOption, MissingDone, NotFastForward, NameHeld,
                         BadRevision, UnknownRef, Ambiguous or NoParent
+  gx: push N: KIND      the Nth line of F. KIND is RefMoved where FILE has
+                        another OLD, NotFastForward where the ref would lose
+                        commits, or BadLine where it isn't such a line or its
+                        ref is given before. Of a ref that changes and has no
+                        line, it is RefMoved and the number of lines and one.
+                        FILE stays as it was, also behind checkpoints
   gx: write failed
   gx: out of memory",
 };
@@ -96,6 +110,45 @@ Refusals, each of which leaves FILE as it was:
   gx: out of memory",
 };
 
+/// The page of `set-ref`.
+pub(crate) const SET_REF: Page = Page {
+    about: "Sets refs of a store",
+    description: "\
+Sets a ref of a store to an object that the store has, or removes it.
+
+NEW and OLD are 40 digits, as gx refs prints them. Forty zeros as NEW remove the
+ref. Where OLD is given, the ref has to be that, and with forty zeros there may
+be none. A branch only moves forward: its new commit has to be the old one or a
+descendant of it, unless --force is given. The next store is written to
+FILE.new, which then takes the place of FILE.
+
+With --stdin each line of standard input is a change, as git update-ref --stdin
+has them, and all are made, or none:
+  update REF NEW [OLD]  as above
+  create REF NEW        there may be no such ref
+  delete REF [OLD]      the ref has to be there
+  verify REF [OLD]      the ref stays. Without OLD there may be none",
+    details: "\
+Output:
+  None.
+
+Refusals, each of which leaves FILE as it was:
+  gx: read failed       FILE or standard input can't be read
+  gx: lock failed       as gx --help has it
+  gx: store: KIND       as gx --help has it
+  gx: ref N: KIND       the Nth change, from 1. KIND is
+                        BadLine         it isn't such a change, or its ref is
+                                        given before
+                        BadRefName      REF is no name of a ref
+                        RefMoved        the ref isn't OLD
+                        UnknownObject   the store has no object NEW
+                        WrongKind       NEW isn't a commit or a tag, and of a
+                                        branch not a commit
+                        NotFastForward  the branch would lose commits
+  gx: write failed
+  gx: out of memory",
+};
+
 /// The page of `gc`.
 pub(crate) const GC: Page = Page {
     about: "Leaves out of a store what no ref reaches",
@@ -104,7 +157,10 @@ Leaves out of a store the objects that no ref reaches.
 
 The others keep their order, and the refs stay: what revisions and ranges by
 refs gave, they give. The next store is written to FILE.new, which then takes
-the place of FILE.",
+the place of FILE.
+
+With --keep each line of F is the 40 digits of an object, which stays with all
+that it reaches. Digits that no object has keep nothing.",
     details: "\
 Output:
   None. At a terminal, or with --report, standard error tells how many objects
@@ -114,6 +170,7 @@ Refusals, each of which leaves FILE as it was:
   gx: read failed
   gx: lock failed       as gx --help has it
   gx: store: KIND       as gx --help has it
+  gx: keep N: BadLine   the Nth line of F isn't 40 digits
   gx: write failed
   gx: out of memory",
 };

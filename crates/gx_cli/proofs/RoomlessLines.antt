@@ -50,14 +50,16 @@ module _ (name : Kind → Bytes → Bytes) {A : Type 0} (o : Outcome A) (was : O
   roomless_served (line.Adapt drops) store coming f e h = absurd (cc)
   roomless_served (line.Where command) store coming f e h = absurd (cc)
   roomless_served (line.WhereFault done force) store coming f e h = absurd (cc)
-  roomless_served (line.Init path) store coming f e h = absurd (cc)
+  roomless_served (line.Init path wait) store coming f e h = absurd (cc)
+  roomless_served (line.Push path push done report explain wait) store coming f e h = absurd (cc)
+  roomless_served (line.Put path stamp wait) store coming f e h = absurd (cc)
   roomless_served (line.Batch form format nul path) store coming f e h = batch_unread form (format_parts format) (ending_of nul) store coming (refused_so o f OutOfMemory e h)
-  roomless_served (line.Import path done force report explain) store coming f e h =
+  roomless_served (line.Import path done force report explain wait) store coming f e h =
       ((None, Err (Store file.OutOfMemory)), import_unopened name (features_of done force) (store_of name store) coming was, refused_so o f (Store file.OutOfMemory) e h)
   roomless_served l store coming f e h = unopened (store_of name store) (λ r. ServesOpened name l r coming was was o) (refused_so o f (Store file.OutOfMemory) e h)
 
   pub roomless_again : (l : Line) (store : Bytes) (coming : Option Coming) (f : CliFault) → without_room l ≡ Some f → IsRefused f o → ServesExported name l store coming o
-  roomless_again (line.Import path done force report explain) store coming f e h =
+  roomless_again (line.Import path done force report explain wait) store coming f e h =
       ((None, Err (Store file.OutOfMemory)), again_unopened name (features_of done force) (store_of name store) coming, refused_so o f (Store file.OutOfMemory) e h)
   roomless_again l store coming f e h = tt
 
@@ -70,9 +72,11 @@ module _ (name : Kind → Bytes → Bytes) {A : Type 0} (o : Outcome A) where
   unread_served other store coming (line.Adapt drops) was now e h = h
   unread_served other store coming (line.Where command) was now e h = h
   unread_served other store coming (line.WhereFault done force) was now e h = h
-  unread_served other store coming (line.Init path) was now e h = h
+  unread_served other store coming (line.Init path wait) was now e h = h
+  unread_served other store coming (line.Push path push done report explain wait) was now e h = h
+  unread_served other store coming (line.Put path stamp wait) was now e h = h
   unread_served other store coming _ was now e h = absurd (cc)
 
   pub unread_again : (store : Bytes) (coming : Option Coming) (l : Line) → without_room l ≡ None → ServesExported name l store coming o
-  unread_again store coming (line.Import path done force report explain) e = absurd (cc)
+  unread_again store coming (line.Import path done force report explain wait) e = absurd (cc)
   unread_again store coming l e = tt

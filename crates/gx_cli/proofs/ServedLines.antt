@@ -15,14 +15,14 @@ use Rattle.gx_cli.specs.declared.serving.Outcome.{Outcome}
 
 module _ (name : Kind → Bytes → Bytes) {A : Type 0} (o : Outcome A) (coming : Option Coming) (was now : Option Taken) where
   -- a command that leaves no text is answered
-  pub asked_opened : (l : Line) (r : Records) → ((file : Bor Bytes) (words : Vec (Bor Bytes) Global) (stdin : Bool) → l ≡ line.Drop file words stdin → ⊥)
-      → ((file : Bor Bytes) (report : Bool) → l ≡ line.Gc file report → ⊥) → EndsAnswered (IsAnswered name l r coming was now) o → ServesOpened name l r coming was now o
-  asked_opened (line.Drop file words stdin) r d g h = absurd (d file words stdin refl)
-  asked_opened (line.Gc file report) r d g h = absurd (g file report refl)
+  pub asked_opened : (l : Line) (r : Records) → ((file : Bor Bytes) (words : Vec (Bor Bytes) Global) (stdin : Bool) (wait : Option ℕ) → l ≡ line.Drop file words stdin wait → ⊥)
+      → ((file : Bor Bytes) (report : Bool) (keep : Option (Bor Bytes)) (wait : Option ℕ) → l ≡ line.Gc file report keep wait → ⊥) → EndsAnswered (IsAnswered name l r coming was now) o → ServesOpened name l r coming was now o
+  asked_opened (line.Drop file words stdin wait) r d g h = absurd (d file words stdin wait refl)
+  asked_opened (line.Gc file report keep wait) r d g h = absurd (g file report keep wait refl)
   asked_opened l r d g h = h
 
   -- a command that reads a store's text, and neither imports into it nor answers lines of it, reads it first
-  pub opened_served : (l : Line) (store : Bytes) → IsSome (without_room l) → ((file : Bor Bytes) (done force report explain : Bool) → l ≡ line.Import file done force report explain → ⊥)
+  pub opened_served : (l : Line) (store : Bytes) → IsSome (without_room l) → ((file : Bor Bytes) (done force report explain : Bool) (wait : Option ℕ) → l ≡ line.Import file done force report explain wait → ⊥)
       → ((form : BatchForm) (format : Option (Bor Bytes)) (nul : Bool) (file : Bor Bytes) → l ≡ line.Batch form format nul file → ⊥)
       → EndsOpened (store_of name store) (λ r. ServesOpened name l r coming was now o) was now o → Serves name l store coming was now o
   opened_served line.Blobs store s i m h = absurd (cc s)
@@ -31,25 +31,31 @@ module _ (name : Kind → Bytes → Bytes) {A : Type 0} (o : Outcome A) (coming 
   opened_served (line.Adapt drops) store s i m h = absurd (cc s)
   opened_served (line.Where command) store s i m h = absurd (cc s)
   opened_served (line.WhereFault done force) store s i m h = absurd (cc s)
-  opened_served (line.Init file) store s i m h = absurd (cc s)
-  opened_served (line.Import file done force report explain) store s i m h = absurd (i file done force report explain refl)
+  opened_served (line.Init file wait) store s i m h = absurd (cc s)
+  opened_served (line.Push file push done report explain wait) store s i m h = absurd (cc s)
+  opened_served (line.Put file stamp wait) store s i m h = absurd (cc s)
+  opened_served (line.Import file done force report explain wait) store s i m h = absurd (i file done force report explain wait refl)
   opened_served (line.Batch form format nul file) store s i m h = absurd (m form format nul file refl)
   opened_served l store s i m h = h
 
   -- a command that has no use for one, and reads no source, makes one
   pub made_served : (l : Line) (store : Bytes) → without_room l ≡ None → (l ≡ line.Blobs → ⊥) → ((word : Bor Bytes) (done force explain : Bool) → l ≡ line.Try word done force explain → ⊥)
       → ((done force explain : Bool) → l ≡ line.Check done force explain → ⊥) → ((done force : Bool) → l ≡ line.WhereFault done force → ⊥) → ((drops : Bool) → l ≡ line.Adapt drops → ⊥) → ((command : ℕ) → l ≡ line.Where command → ⊥)
+      → ((file push : Bor Bytes) (done report explain : Bool) (wait : Option ℕ) → l ≡ line.Push file push done report explain wait → ⊥)
+      → ((file stamp : Bor Bytes) (wait : Option ℕ) → l ≡ line.Put file stamp wait → ⊥)
       → IsWritten name empty_repository o × (now ≡ was) → Serves name l store coming was now o
-  made_served line.Blobs store e b t k f a w h = absurd (b refl)
-  made_served (line.Try word done force explain) store e b t k f a w h = absurd (t word done force explain refl)
-  made_served (line.Check done force explain) store e b t k f a w h = absurd (k done force explain refl)
-  made_served (line.WhereFault done force) store e b t k f a w h = absurd (f done force refl)
-  made_served (line.Adapt drops) store e b t k f a w h = absurd (a drops refl)
-  made_served (line.Where command) store e b t k f a w h = absurd (w command refl)
-  made_served (line.Init file) store e b t k f a w h = h
-  made_served _ store e b t k f a w h = absurd (cc e)
+  made_served line.Blobs store e b t k f a w p q h = absurd (b refl)
+  made_served (line.Try word done force explain) store e b t k f a w p q h = absurd (t word done force explain refl)
+  made_served (line.Check done force explain) store e b t k f a w p q h = absurd (k done force explain refl)
+  made_served (line.WhereFault done force) store e b t k f a w p q h = absurd (f done force refl)
+  made_served (line.Adapt drops) store e b t k f a w p q h = absurd (a drops refl)
+  made_served (line.Where command) store e b t k f a w p q h = absurd (w command refl)
+  made_served (line.Push file push done report explain wait) store e b t k f a w p q h = absurd (p file push done report explain wait refl)
+  made_served (line.Put file stamp wait) store e b t k f a w p q h = absurd (q file stamp wait refl)
+  made_served (line.Init file wait) store e b t k f a w p q h = h
+  made_served _ store e b t k f a w p q h = absurd (cc e)
 
   -- and of what it makes of an export, nothing is told
-  pub other_again : (l : Line) (store : Bytes) → ((file : Bor Bytes) (done force report explain : Bool) → l ≡ line.Import file done force report explain → ⊥) → ServesExported name l store coming o
-  other_again (line.Import file done force report explain) store i = absurd (i file done force report explain refl)
+  pub other_again : (l : Line) (store : Bytes) → ((file : Bor Bytes) (done force report explain : Bool) (wait : Option ℕ) → l ≡ line.Import file done force report explain wait → ⊥) → ServesExported name l store coming o
+  other_again (line.Import file done force report explain wait) store i = absurd (i file done force report explain wait refl)
   other_again l store i = tt

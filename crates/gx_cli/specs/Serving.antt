@@ -125,7 +125,9 @@ without_room (line.Check done force explain) = None
 without_room (line.Adapt drops) = None
 without_room (line.Where command) = None
 without_room (line.WhereFault done force) = None
-without_room (line.Init file) = None
+without_room (line.Init file wait) = None
+without_room (line.Push file push done report explain wait) = None
+without_room (line.Put file stamp wait) = None
 without_room (line.Batch form format nul file) = Some OutOfMemory
 without_room _ = Some (Store file.OutOfMemory)
 
@@ -216,8 +218,8 @@ module _ (name : Kind → Bytes → Bytes) {A : Type 0} where
 
   -- how a command ends over the repository of a store that was read
   abbrev pub ServesOpened : Line → Records → Option Coming → Option Taken → Option Taken → Outcome A → Type 0
-  ServesOpened (line.Drop file words stdin) r coming was now o = DropsFrom stdin r (lent_texts words.items) coming o × (now ≡ was)
-  ServesOpened (line.Gc file report) r coming was now o = LeavesCollected r o × (now ≡ was)
+  ServesOpened (line.Drop file words stdin wait) r coming was now o = DropsFrom stdin r (lent_texts words.items) coming o × (now ≡ was)
+  ServesOpened (line.Gc file report keep wait) r coming was now o = LeavesCollected r o × (now ≡ was)
   ServesOpened line r coming was now o = EndsAnswered (IsAnswered name line r coming was now) o
 
   -- what a command does to the sink, and how it ends
@@ -231,11 +233,13 @@ module _ (name : Kind → Bytes → Bytes) {A : Type 0} where
   Serves (line.Where command) store coming was now o = EndsAnswered (PlacesFrom command coming was now) o
   Serves (line.WhereFault done force) store coming was now o = EndsAnswered (FindsFault name (features_of done force) coming) o × (now ≡ was)
   Serves (line.Batch form format nul file) store coming was now o = AnswersLines form (format_parts format) (ending_of nul) store coming was now o
-  Serves (line.Init file) store coming was now o = IsWritten name empty_repository o × (now ≡ was)
-  Serves (line.Import file done force report explain) store coming was now o = ImportsText (features_of done force) store coming was now o
+  Serves (line.Init file wait) store coming was now o = IsWritten name empty_repository o × (now ≡ was)
+  Serves (line.Push file push done report explain wait) store coming was now o = IsRefused ReadFailed o × (now ≡ was)
+  Serves (line.Put file stamp wait) store coming was now o = IsRefused ReadFailed o × (now ≡ was)
+  Serves (line.Import file done force report explain wait) store coming was now o = ImportsText (features_of done force) store coming was now o
   Serves line store coming was now o = EndsOpened (store_of name store) (λ r. ServesOpened line r coming was now o) was now o
 
   -- the import of an export, in any form, into an empty store makes that repository again, as far as its refs reach
   abbrev pub ServesExported : Line → Bytes → Option Coming → Outcome A → Type 0
-  ServesExported (line.Import file done force report explain) store coming o = ImportsTextAgain (features_of done force) store coming o
+  ServesExported (line.Import file done force report explain wait) store coming o = ImportsTextAgain (features_of done force) store coming o
   ServesExported line store coming o = ⊤

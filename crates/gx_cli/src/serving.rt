@@ -34,7 +34,8 @@ pub struct Outcome<A: Allocator> {
 ///
 /// `blobs` reads the source as [`blobs`] does, `adapt` as [`adapt_stream`] does, and `try` as [`try_revision`] does: the source
 /// is read before the revision. `check` does what [`check_stream`] does. `where` reads it whole, and tells where a command begins, or
-/// what [`find_fault`] finds. These, and `init`, have no use for the store's bytes. The other commands read the store's text first, then all words, and then evaluate
+/// what [`find_fault`] finds. These, and `init`, have no use for the store's bytes. An import with `--push`, which
+/// [`push_store`](crate::push_store) does, and `put` read a file that isn't here, and are refused by `ReadFailed`. The other commands read the store's text first, then all words, and then evaluate
 /// each in its order; but `batch` reads its format before. `import` and `batch` read their source then, and so do `drop` and
 /// `log` before the words, where its lines are words. Only `init`, `import`, `drop` and `gc` answer a next store text: where they
 /// are accepted, and `import` also where it is refused after a checkpoint. What `import` and `gc` report is told by
@@ -129,6 +130,7 @@ fn serve_alone<N: Namer + Drop, R: Source + Drop, W: Sink, A: Allocator + Copy>(
         Line::Adapt { drop_signatures } => {
             outcome_of(adapt_stream(alloc, source, sink, *drop_signatures))
         }
+        Line::Push { .. } | Line::Put { .. } => refused(CliFault::ReadFailed),
         Line::Where(command) => outcome_of(print_place(alloc, *command, source, sink)),
         _ => init(alloc, namer, state),
     }
@@ -156,6 +158,7 @@ fn serve_text<N: Namer + Drop, R: Source + Drop, W: Sink, A: Allocator + Copy>(
             force,
             report: _,
             explain: _,
+            wait: _,
         } => {
             let features = features_of(*done, *force);
             import_text(alloc, namer, store, source, sink, features, state)
@@ -206,7 +209,9 @@ fn without_room(line: &Line<'_>) -> Option<CliFault>
         | Line::Adapt { .. }
         | Line::Where(_)
         | Line::WhereFault { .. }
-        | Line::Init { .. } => None,
+        | Line::Init { .. }
+        | Line::Push { .. }
+        | Line::Put { .. } => None,
         Line::Batch { .. } => Some(CliFault::OutOfMemory),
         _ => Some(CliFault::Store(FileFault::OutOfMemory)),
     }

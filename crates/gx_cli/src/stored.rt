@@ -62,8 +62,14 @@ fn serve_opened<N: Namer + Drop, R: Source + Drop, W: Sink, A: Allocator + Copy>
             file: _,
             refs,
             stdin,
+            wait: _,
         } => drop_named(alloc, repo, refs.as_slice(), *stdin, source),
-        Line::Gc { file: _, report: _ } => collect(alloc, repo),
+        Line::Gc {
+            file: _,
+            report: _,
+            keep: _,
+            wait: _,
+        } => collect(alloc, repo),
         _ => outcome_of(answer(alloc, &repo, line, source, sink)),
     }
 }

@@ -132,6 +132,7 @@ pub(crate) fn stored(alloc: Global, stream: &[u8], state: RandomState) -> Option
         force: false,
         report: false,
         explain: false,
+        wait: None,
     };
     let source = Bytes::new(stream, 4096, false);
     ran(alloc, &line, text("empty"), source, &mut sink, state).store

@@ -91,6 +91,10 @@ push = text (codes "push")
 abbrev pub keep : Rule
 keep = text (codes "keep")
 
+-- which file it is that is replaced, which has to be told
+abbrev pub expect_stamp : Rule
+expect_stamp = record (text (codes "expect-stamp")) { required = true }
+
 -- --wait and a whole number of seconds
 abbrev pub wait : Rule
 wait = number (codes "wait")

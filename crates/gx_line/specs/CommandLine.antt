@@ -14,7 +14,7 @@ use Rattle.gx_line.specs.declared.command_line.BatchForm.TheVariants as form
 use Rattle.gx_line.specs.declared.command_line.ExportForm.{ExportForm}
 use Rattle.gx_line.specs.declared.command_line.ExportForm.TheVariants.{Changes, FullTree}
 use Rattle.gx_line.specs.declared.command_line.Line.{Line}
-use Rattle.gx_line.specs.declared.command_line.Line.TheVariants.{Blobs, Try, Check, Adapt, Where, WhereFault, Init, Import, Drop, SetRef, Gc, Export, ExportRange, Show, Ls, Archive, Batch, Refs, Log, RevParse}
+use Rattle.gx_line.specs.declared.command_line.Line.TheVariants.{Blobs, Try, Check, Adapt, Where, WhereFault, Init, Import, Push, Drop, SetRef, Put, Gc, Export, ExportRange, Show, Ls, Archive, Batch, Refs, Log, RevParse}
 use Rattle.gx_line.specs.declared.command_line.RefChange.{RefChange}
 use Rattle.gx_line.specs.declared.fault.LineFault.{LineFault}
 use Rattle.gx_line.specs.declared.fault.LineFault.TheVariants.{OutOfMemory, Status}
@@ -72,6 +72,9 @@ changed_command =
 
 abbrev pub set_ref_command : App
 set_ref_command = with_wait (with_rule (with_rule changed_command rules.changes_read) rules.force)
+
+abbrev pub put_command : App
+put_command = with_wait (with_rule (file_command (codes "put")) rules.expect_stamp)
 
 abbrev pub gc_command : App
 gc_command = with_wait (with_rule (with_rule (file_command (codes "gc")) rules.report) rules.keep)
@@ -133,8 +136,8 @@ with_stream_commands a =
 -- the commands on a store as a whole
 abbrev pub with_store_commands : App → App
 with_store_commands a =
-    under (under (under (under (under (under (under a init_command) import_command) drop_command) set_ref_command) gc_command)
-    export_command) (file_command (codes "refs"))
+    under (under (under (under (under (under (under (under a init_command) import_command) drop_command) set_ref_command) put_command)
+    gc_command) export_command) (file_command (codes "refs"))
 
 -- the commands that show objects
 abbrev pub with_tree_commands : App → App
@@ -206,9 +209,9 @@ AreFeatures rows done force = IsFlag (codes "done") rows done × IsFlag (codes "
 abbrev pub IsWait : List Row → Option ℕ → Type 0
 IsWait rows wait = IsNumber (codes "wait") rows wait
 
--- a file tells what refs are wanted to be, and then no branch may lose commits by --force
-abbrev pub IsPush : List Row → Option (Bor Text) → Type 0
-IsPush rows push = IsOption (codes "push") rows push × (IsFlag (codes "force") rows true → push ≡ None)
+-- what an import is asked to tell
+abbrev pub AreTold : List Row → Bool → Bool → Type 0
+AreTold rows report explain = IsFlag (codes "report") rows report × IsFlag (codes "explain") rows explain
 
 -- a ref is set, or what standard input tells
 abbrev pub IsRefChange : List Row → Option RefChange → Type 0
@@ -237,13 +240,16 @@ Says name rows (Where command) = (name ≡ codes "where")
     × (IsFlag (codes "fault") rows false × IsNumber (codes "number") rows (Some command))
 Says name rows (WhereFault done force) = (name ≡ codes "where") × (IsFlag (codes "fault") rows true × AreFeatures rows done force)
 Says name rows (Init file wait) = (name ≡ codes "init") × (IsWord (codes "file") rows file × IsWait rows wait)
-Says name rows (Import file done force report explain push wait) = (name ≡ codes "import") × (AreFeatures rows done force
-    × (IsFlag (codes "report") rows report × (IsFlag (codes "explain") rows explain
-    × (IsPush rows push × (IsWord (codes "file") rows file × IsWait rows wait)))))
+Says name rows (Import file done force report explain wait) = (name ≡ codes "import") × (AreFeatures rows done force
+    × (AreTold rows report explain × (IsWord (codes "file") rows file × (IsWait rows wait × (first_of (codes "push") rows ≡ None)))))
+Says name rows (Push file push done report explain wait) = (name ≡ codes "import") × (AreFeatures rows done false
+    × (AreTold rows report explain × (IsWord (codes "file") rows file × (IsWait rows wait × IsWord (codes "push") rows push))))
 Says name rows (Drop file refs stdin wait) = (name ≡ codes "drop") × (IsFlag (codes "stdin") rows stdin
     × (IsWord (codes "file") rows file × (AreAnyWords (codes "ref") rows refs.items × IsWait rows wait)))
 Says name rows (SetRef file change force wait) = (name ≡ codes "set-ref") × (IsRefChange rows change
     × (IsFlag (codes "force") rows force × (IsWord (codes "file") rows file × IsWait rows wait)))
+Says name rows (Put file stamp wait) = (name ≡ codes "put") × (IsWord (codes "expect-stamp") rows stamp
+    × (IsWord (codes "file") rows file × IsWait rows wait))
 Says name rows (Gc file report keep wait) = (name ≡ codes "gc") × (IsFlag (codes "report") rows report
     × (IsOption (codes "keep") rows keep × (IsWord (codes "file") rows file × IsWait rows wait)))
 Says name rows (Export form file) = (name ≡ codes "export")
@@ -270,7 +276,7 @@ stream_names = codes "blobs" ∷ codes "try" ∷ codes "check" ∷ codes "adapt"
 
 -- the commands on a store, without those with a list of words
 abbrev pub store_names : List Text
-store_names = codes "init" ∷ codes "import" ∷ codes "set-ref" ∷ codes "gc" ∷ codes "export" ∷ codes "refs" ∷ codes "show" ∷ codes "ls"
+store_names = codes "init" ∷ codes "import" ∷ codes "set-ref" ∷ codes "put" ∷ codes "gc" ∷ codes "export" ∷ codes "refs" ∷ codes "show" ∷ codes "ls"
     ∷ codes "archive" ∷ codes "batch" ∷ []
 
 -- the name is none of these
@@ -309,10 +315,6 @@ HasNoBatchForm rows = IsFlag (codes "check") rows true × IsFlag (codes "command
 abbrev pub HasNoRefChange : List Row → Type 0
 HasNoRefChange rows = IsFlag (codes "stdin") rows false
     × (first_of (codes "ref") rows ≡ None ⊎ (first_of (codes "new") rows ≡ None))
-
--- --force stands beside --push
-abbrev pub HasForcedPush : List Row → Type 0
-HasForcedPush rows = IsFlag (codes "force") rows true × (first_of (codes "push") rows ≡ None → ⊥)
 
 -- the word asks for no format
 abbrev pub HasNoFormat : Option Text → Type 0

@@ -20,6 +20,7 @@ line_rows =
     ∷ record { words = codes "import" ∷ codes "--report" ∷ codes "a.gx" ∷ []; taken = true }
     ∷ record { words = codes "import" ∷ codes "--push" ∷ codes "refs" ∷ codes "a.gx" ∷ []; taken = true }
     ∷ record { words = codes "gc" ∷ codes "--keep" ∷ codes "names" ∷ codes "a.gx" ∷ []; taken = true }
+    ∷ record { words = codes "put" ∷ codes "--expect-stamp=new" ∷ codes "a.gx" ∷ []; taken = true }
     ∷ record { words = codes "refs" ∷ codes "a.gx" ∷ []; taken = true }
     ∷ record { words = codes "show" ∷ codes "a.gx" ∷ codes "main" ∷ []; taken = true }
     ∷ record { words = codes "ls" ∷ codes "--recursive" ∷ codes "a.gx" ∷ codes "main" ∷ []; taken = true }
@@ -30,6 +31,7 @@ line_rows =
     ∷ record { words = codes "what" ∷ []; taken = false }
     ∷ record { words = codes "refs" ∷ codes "a.gx" ∷ codes "main" ∷ []; taken = false }
     ∷ record { words = codes "show" ∷ codes "a.gx" ∷ []; taken = false }
+    ∷ record { words = codes "put" ∷ codes "a.gx" ∷ []; taken = false }
     ∷ record { words = codes "refs" ∷ codes "--all" ∷ codes "a.gx" ∷ []; taken = false }
     -- a command that has an argument with a rule on another one
     ∷ record { words = codes "where" ∷ codes "3" ∷ []; taken = false }

@@ -15,8 +15,8 @@ use clap::{ArgMatches, Error};
 use commands::command_line;
 use std::alloc::Global;
 use values::{
-    any_words_of, batch_form_of, form_of, format_of, is_set, number_of, option_of, push_of,
-    ref_change_of, text_of, unknown, word_of, words_of,
+    FORCED_PUSH, any_words_of, batch_form_of, form_of, format_of, is_set, not_accepted, number_of,
+    option_of, ref_change_of, text_of, unknown, word_of, words_of,
 };
 
 /// What `log` prints of each commit.
@@ -116,15 +116,22 @@ pub enum Line<'a> {
         wait: Option<u64>,
     },
     /// A stream is imported into a store. With `done` it has to end with that command, and with `force` branches may
-    /// lose commits. With `report` the refs that it changed are told, and with `explain` what a refusal is about. `push` names
-    /// a file that tells what the refs are that change.
+    /// lose commits. With `report` the refs that it changed are told, and with `explain` what a refusal is about.
     Import {
         file: &'a str,
         done: bool,
         force: bool,
         report: bool,
         explain: bool,
-        push: Option<&'a str>,
+        wait: Option<u64>,
+    },
+    /// The same, where the file `push` tells of each ref that changes what it was, and what may become of it.
+    Push {
+        file: &'a str,
+        push: &'a str,
+        done: bool,
+        report: bool,
+        explain: bool,
         wait: Option<u64>,
     },
     /// Refs are dropped from a store. With `stdin` further ones stand on standard input, one a line.
@@ -139,6 +146,12 @@ pub enum Line<'a> {
         file: &'a str,
         change: Option<RefChange<'a>>,
         force: bool,
+        wait: Option<u64>,
+    },
+    /// A whole store's text on standard input becomes the store, where that is still the file with this stamp.
+    Put {
+        file: &'a str,
+        stamp: &'a str,
         wait: Option<u64>,
     },
     /// The objects of a store go that no ref reaches. With `report` it is told how many. `keep` names a file of those that
@@ -290,6 +303,11 @@ fn file_line<'a>(
         }),
         "import" => import_line(alloc, matches, file),
         "set-ref" => set_ref_line(alloc, matches, file),
+        "put" => Ok(Line::Put {
+            file,
+            stamp: word_of(alloc, matches, "expect-stamp")?,
+            wait: number_of(matches, "wait"),
+        }),
         "gc" => Ok(Line::Gc {
             file,
             report: is_set(matches, "report"),
@@ -325,7 +343,7 @@ fn file_line<'a>(
     }
 }
 
-/// The line of an import.
+/// The line of an import. Where each ref has what may become of it, no branch may lose commits by `--force`.
 #[tactic(auto, unfolding(crate::specs::CommandLine::Says))]
 fn import_line<'a>(
     alloc: Global,
@@ -336,15 +354,30 @@ fn import_line<'a>(
     ensures line { IfOk result (λ line. say.Says (codes "import") (rows_of (found_of matches.now)) line) }
     ensures refused { IfErr result (say.IsRefused (codes "import") (rows_of (found_of matches.now))) }
 {
-    Ok(Line::Import {
-        file,
-        done: is_set(matches, "done"),
-        force: is_set(matches, "force"),
-        report: is_set(matches, "report"),
-        explain: is_set(matches, "explain"),
-        push: push_of(alloc, matches)?,
-        wait: number_of(matches, "wait"),
-    })
+    let done = is_set(matches, "done");
+    let force = is_set(matches, "force");
+    let report = is_set(matches, "report");
+    let explain = is_set(matches, "explain");
+    let wait = number_of(matches, "wait");
+    match option_of(matches, "push") {
+        None => Ok(Line::Import {
+            file,
+            done,
+            force,
+            report,
+            explain,
+            wait,
+        }),
+        Some(_) if force => Err(not_accepted(alloc, FORCED_PUSH)),
+        Some(push) => Ok(Line::Push {
+            file,
+            push,
+            done,
+            report,
+            explain,
+            wait,
+        }),
+    }
 }
 
 /// The line of `set-ref`.

@@ -179,8 +179,8 @@ fn file_fault(folder: &Folder, line: &Line<'_>) -> Option<CliFault> {
     let file = file_of(line)?;
     let is_there = folder.file(file).is_some();
     match line {
-        Line::Init { file: _ } if is_there => Some(CliFault::StoreExists),
-        Line::Init { file: _ } => None,
+        Line::Init { .. } if is_there => Some(CliFault::StoreExists),
+        Line::Init { .. } => None,
         _ if is_there => None,
         _ => Some(CliFault::ReadFailed),
     }
@@ -190,63 +190,26 @@ fn file_fault(folder: &Folder, line: &Line<'_>) -> Option<CliFault> {
 fn file_of<'a>(line: &Line<'a>) -> Option<&'a str> {
     match line {
         Line::Blobs
-        | Line::Try {
-            revision: _,
-            done: _,
-            force: _,
-            explain: _,
-        }
-        | Line::Check {
-            done: _,
-            force: _,
-            explain: _,
-        }
-        | Line::Adapt { drop_signatures: _ }
+        | Line::Try { .. }
+        | Line::Check { .. }
+        | Line::Adapt { .. }
         | Line::Where(_)
-        | Line::WhereFault { done: _, force: _ } => None,
-        Line::Init { file }
-        | Line::Import {
-            file,
-            done: _,
-            force: _,
-            report: _,
-            explain: _,
-        }
-        | Line::Drop {
-            file,
-            refs: _,
-            stdin: _,
-        }
-        | Line::Gc { file, report: _ }
-        | Line::Export { form: _, file }
-        | Line::ExportRange {
-            done: _,
-            file,
-            ranges: _,
-        }
+        | Line::WhereFault { .. } => None,
+        Line::Init { file, .. }
+        | Line::Import { file, .. }
+        | Line::Push { file, .. }
+        | Line::Drop { file, .. }
+        | Line::SetRef { file, .. }
+        | Line::Put { file, .. }
+        | Line::Gc { file, .. }
+        | Line::Export { file, .. }
+        | Line::ExportRange { file, .. }
         | Line::Refs { file }
-        | Line::Batch {
-            form: _,
-            format: _,
-            nul: _,
-            file,
-        }
-        | Line::Show { file, revision: _ }
-        | Line::Ls {
-            recursive: _,
-            file,
-            revision: _,
-        }
-        | Line::Archive {
-            prefix: _,
-            file,
-            revision: _,
-        }
-        | Line::Log {
-            options: _,
-            file,
-            ranges: _,
-        }
-        | Line::RevParse { file, revisions: _ } => Some(file),
+        | Line::Batch { file, .. }
+        | Line::Show { file, .. }
+        | Line::Ls { file, .. }
+        | Line::Archive { file, .. }
+        | Line::Log { file, .. }
+        | Line::RevParse { file, .. } => Some(file),
     }
 }

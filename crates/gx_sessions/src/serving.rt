@@ -55,20 +55,13 @@ pub(crate) fn serve_line(
 fn makes_text(line: &Line<'_>) -> bool {
     matches!(
         line,
-        Line::Init { file: _ }
-            | Line::Import {
-                file: _,
-                done: _,
-                force: _,
-                report: _,
-                explain: _
-            }
-            | Line::Drop {
-                file: _,
-                refs: _,
-                stdin: _
-            }
-            | Line::Gc { file: _, report: _ }
+        Line::Init { .. }
+            | Line::Import { .. }
+            | Line::Push { .. }
+            | Line::Drop { .. }
+            | Line::SetRef { .. }
+            | Line::Put { .. }
+            | Line::Gc { .. }
     )
 }
 
@@ -95,11 +88,10 @@ fn ended<N: Namer + Copy + Drop, R: Source + Drop, W: Sink>(
     pass: Pass,
 ) -> (Outcome<Global>, Report) {
     if let Line::Import {
-        file: _,
         done,
         force,
         report: true,
-        explain: _,
+        ..
     } = line
     {
         let features = Features {
@@ -113,20 +105,14 @@ fn ended<N: Namer + Copy + Drop, R: Source + Drop, W: Sink>(
         return (outcome, Report::Unknown);
     }
     match line {
-        Line::Import {
-            file: _,
-            done,
-            force,
-            report: _,
-            explain: _,
-        } => {
+        Line::Import { done, force, .. } => {
             let features = Features {
                 done: *done,
                 force: *force,
             };
             imported(alloc, namer, store, source, sink, features, pass.state)
         }
-        Line::Gc { file: _, report: _ } => collected(alloc, namer, store, pass.state),
+        Line::Gc { .. } => collected(alloc, namer, store, pass.state),
         Line::Adapt { drop_signatures } => adapted(alloc, source, sink, *drop_signatures),
         _ => {
             let outcome = serve(alloc, namer, line, &store, source, sink, pass.state);

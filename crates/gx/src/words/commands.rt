@@ -30,10 +30,13 @@ fn run_seeded(run: &Run<'_>, line: &Line<'_>) -> Result<(), RunFault> {
 /// The store file that a command names.
 fn file_of<'a>(line: &Line<'a>) -> Option<&'a str> {
     match line {
-        Line::Init { file }
+        Line::Init { file, .. }
         | Line::Import { file, .. }
+        | Line::Push { file, .. }
         | Line::Batch { file, .. }
         | Line::Drop { file, .. }
+        | Line::SetRef { file, .. }
+        | Line::Put { file, .. }
         | Line::Gc { file, .. }
         | Line::Export { file, .. }
         | Line::ExportRange { file, .. }
@@ -55,15 +58,16 @@ fn file_of<'a>(line: &Line<'a>) -> Option<&'a str> {
 /// Runs a command on its file and on the standard streams.
 fn run_command(run: &Run<'_>, line: &Line<'_>, state: RandomState) -> Result<(), RunFault> {
     match line {
-        Line::Init { file } => init(run, line, file, state),
+        Line::Init { file, .. } => init(run, line, file, state),
         Line::Drop { file, .. } => drop_refs(run, line, file, state),
-        Line::Gc { file, report } => collect(run, file, *report, state),
+        Line::Gc { file, report, .. } => collect(run, file, *report, state),
         Line::Import {
             file,
             done,
             force,
             report,
             explain,
+            ..
         } => {
             run.explain_if(*explain);
             import(run, file, features(done, force), *report, state)

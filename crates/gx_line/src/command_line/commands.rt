@@ -149,6 +149,7 @@ fn with_store_commands<'a>(
     let gx = with_command(gx, import_command(alloc));
     let gx = with_command(gx, drop_command(alloc));
     let gx = with_command(gx, set_ref_command(alloc));
+    let gx = with_command(gx, put_command(alloc));
     let gx = with_command(gx, gc_command(alloc));
     let gx = with_command(gx, export_command(alloc));
     with_command(gx, file_command(alloc, "refs", stores::REFS))
@@ -260,6 +261,21 @@ fn changed_command<'a>(alloc: Global) -> Result<Command<'a>, AllocError>
     let changed = with_argument(file_command(alloc, "set-ref", stores::SET_REF), name);
     let changed = with_argument(changed, new);
     with_argument(changed, old)
+}
+
+fn put_command<'a>(alloc: Global) -> Result<Command<'a>, AllocError>
+    ensures { say.Makes result say.put_command }
+{
+    let stamp = text(
+        alloc,
+        "expect-stamp",
+        "S",
+        "Which file FILE has to be: DEVICE:INODE:SIZE:NANOSECONDS, as\n\
+         stat has them, or new where there is to be none",
+    )
+    .required(true);
+    let putting = with_argument(file_command(alloc, "put", stores::PUT), stamp);
+    with_wait(alloc, putting)
 }
 
 fn gc_command<'a>(alloc: Global) -> Result<Command<'a>, AllocError>

@@ -19,7 +19,7 @@ For more information, try '--help'.
 ";
 
 /// What is said of --push beside --force, in the manner of clap.
-const FORCED_PUSH: &str = "\
+pub(super) const FORCED_PUSH: &str = "\
 error: the argument '--push <F>' cannot be used with '--force'
 
 For more information, try '--help'.
@@ -104,21 +104,6 @@ pub(super) fn batch_form_of(matches: &ArgMatches<'_>) -> Option<BatchForm>
     }
 }
 
-/// The file that tells what the refs are that an import changes, where one is given.
-pub(super) fn push_of<'a>(
-    alloc: Global,
-    matches: &ArgMatches<'a>,
-) -> Result<Option<&'a str>, LineFault>
-    ensures push { IfOk result (λ push. say.IsPush (rows_of (found_of matches.now)) push) }
-    ensures forced { IfErr result (say.HasCause (say.HasForcedPush (rows_of (found_of matches.now)))) }
-{
-    let push = option_of(matches, "push");
-    if push.is_some() && is_set(matches, "force") {
-        return Err(not_accepted(alloc, FORCED_PUSH));
-    }
-    Ok(push)
-}
-
 /// The ref that is set, where standard input isn't to tell. clap makes sure that it is given, with what it becomes.
 pub(super) fn ref_change_of<'a>(
     alloc: Global,
@@ -164,7 +149,7 @@ fn format_named(alloc: Global, word: &str) -> Result<LogFormat, LineFault>
 }
 
 /// What is answered to a line that isn't accepted for this reason.
-fn not_accepted(alloc: Global, why: &str) -> LineFault {
+pub(super) fn not_accepted(alloc: Global, why: &str) -> LineFault {
     match format!(in alloc; "{why}") {
         Ok(text) => LineFault::Status { status: 2, text },
         Err(_) => LineFault::OutOfMemory,

@@ -149,6 +149,30 @@ Refusals, each of which leaves FILE as it was:
   gx: out of memory",
 };
 
+/// The page of `put`.
+pub(crate) const PUT: Page = Page {
+    about: "Puts a store's text on standard input into FILE's place",
+    description: "\
+Puts the store's text on standard input into the place of FILE, where that is
+still the file that S tells. It is for programs that make the text of a store by
+the library: they tell which file they read, and no other one is replaced.
+
+S is DEVICE:INODE:SIZE:NANOSECONDS, numbers as stat has them of FILE, the last
+one of its last modification. With new there is to be no FILE.",
+    details: "\
+Output:
+  The new file's S, in a line.
+
+Refusals, each of which leaves FILE as it was:
+  gx: bad stamp         S is no such text
+  gx: store changed     FILE is another file than S tells
+  gx: read failed       FILE or standard input can't be read
+  gx: lock failed       as gx --help has it
+  gx: store: KIND       as gx --help has it, of the text on standard input
+  gx: write failed
+  gx: out of memory",
+};
+
 /// The page of `gc`.
 pub(crate) const GC: Page = Page {
     about: "Leaves out of a store what no ref reaches",

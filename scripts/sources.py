@@ -8,7 +8,7 @@ TOP = Path(__file__).resolve().parent.parent
 TRIES = re.compile(r"_examples$|^gx_(devices|sessions|bench)$")
 CLAUSE = re.compile(r"^\s*(?:(?:requires|ensures)\b|ghost \w+ ?[=:])")
 HEAD = re.compile(r'^(?P<indent> *)(?P<pub>pub(?:\([\w :]+\))? )?(?:const |unsafe |extern "C" )*fn (?P<name>\w+)')
-OWNER = re.compile(r"^(?P<pub>pub )?(?P<what>impl|trait)\b(?P<rest>.*)$")
+OWNER = re.compile(r"^(?P<pub>pub )?(?:unsafe )?(?P<what>impl|trait)\b(?P<rest>.*)$")
 
 
 def files(top, pattern, tries=True):

@@ -66,18 +66,29 @@ def symbol_at(folder, file, old):
         return None
     head = lines[function.line - 1]
     end = lines.index(head[: len(head) - len(head.lstrip())] + "}", function.line) + 1
-    module = [part for part in Path(file).with_suffix("").parts[1:] if part not in ("lib", "main", "mod")]
-    return "::".join([*module, *owner_of(function), function.name]) if at <= end else None
+    return "::".join([*owner_of(folder, file, function), function.name]) if at <= end else None
 
 
-def owner_of(function):
-    """How the prover names what a function belongs to: a type, or a type and a trait of it."""
+def module_of(file):
+    return [part for part in Path(file).with_suffix("").parts[1:] if part not in ("lib", "main", "mod")]
+
+
+def owner_of(folder, file, function):
+    """How the prover names what a function belongs to: the module of a type and the type, or the type and a trait of it."""
     trait, apart, kind = function.owner.removeprefix("trait ").rpartition(" for ")
     name = re.sub(r"<.*", "", kind).split("::")[-1].strip("& ")
     if not apart:
-        return [name] if name else []
+        return [*home_of(folder, file, name), name] if name else module_of(file)
     given = re.match(r"(?:\w+::)*From<(?:\w+::)*(\w+)", trait)
-    return [name + re.sub(r"<.*", "", trait).split("::")[-1] + (given[1] if given else "")]
+    return [*module_of(file), name + re.sub(r"<.*", "", trait).split("::")[-1] + (given[1] if given else "")]
+
+
+def home_of(folder, file, name):
+    """The module that declares a type, which may be another than that of its functions."""
+    declared = re.compile(rf"^ *(?:pub(?:\([\w :]+\))? )?(?:struct|enum|trait) {name}\b", re.M)
+    paths = [folder / file, *sorted((folder / "src").rglob("*.rt"))]
+    found = next((path for path in paths if declared.search(path.read_text())), folder / file)
+    return module_of(found.relative_to(folder))
 
 
 class Graph:

@@ -1,46 +1,32 @@
-"""What the tests share: the program, git without settings, and stores in folders of their own."""
+"""What the tests share: options, the program, git without settings, and stores in folders of their own."""
 
 from __future__ import annotations
 
 import os
 import random
-import subprocess
-from collections.abc import Callable
-from dataclasses import dataclass
+from collections import Counter
+from collections.abc import Callable, Iterator
 from pathlib import Path
 
 import pytest
 from hypothesis import HealthCheck, settings
 
-TOP = Path(__file__).resolve().parent.parent
-SCRIPTS = TOP / "scripts"
-EMPTY_STORE = b"gxstore 2\nobjects 0\nrefs 0\nend\n"
+from programs import SCRIPTS, TOP, Program, Word, counted, printed, run_program
+
 # where the program may stand, the first one that does: proved, and made without proofs
 BUILT = (TOP / "crates/gx/out/gx", TOP / "out/try/gx")
 WHO = {"NAME": "A", "EMAIL": "a@x", "DATE": "@1 +0000"}
 
-settings.register_profile(
-    "quick",
-    max_examples=2,
-    derandomize=True,
-    database=None,
-    deadline=None,
-    suppress_health_check=list(HealthCheck),
-)
-settings.register_profile(
-    "long",
-    max_examples=100,
-    database=None,
-    deadline=None,
-    print_blob=True,
-    suppress_health_check=list(HealthCheck),
-)
+everything = {"database": None, "deadline": None, "suppress_health_check": list(HealthCheck)}
+settings.register_profile("quick", max_examples=2, derandomize=True, **everything)
+settings.register_profile("long", max_examples=100, print_blob=True, **everything)
 
 
 def pytest_addoption(parser: pytest.Parser) -> None:
     group = parser.getgroup("ginlarch")
     group.addoption("--gx", metavar="PROGRAM", help="the program to try, in place of GX or the built one")
     group.addoption("--seed", type=int, help="begin random histories here, in place of 1")
+    group.addoption("--session", metavar="FILE", action="append", default=[], help="a file of sessions to run")
     group.addoption("--long", action="store_true", help="run what is marked long, and longer histories")
 
 
@@ -64,41 +50,22 @@ def pytest_collection_modifyitems(config: pytest.Config, items: list[pytest.Item
             item.add_marker(pytest.mark.skip(reason="long: run with --long"))
 
 
-@dataclass(frozen=True)
-class Done:
-    """How a program ended, and what it wrote."""
-
-    status: int
-    out: bytes
-    err: bytes
+@pytest.hookimpl(hookwrapper=True)
+def pytest_runtest_call(item: pytest.Item) -> Iterator[None]:
+    before = counted.copy()
+    yield
+    item.user_properties += (counted - before).items()
 
 
-def run_program(words: list[str | bytes | Path], stdin: bytes = b"", timeout: float = 60, **more) -> Done:
-    """Runs a program to its end; `more` is subprocess.run's."""
-    if "stdin" not in more and "input" not in more:
-        more["input"] = stdin
-    done = subprocess.run(words, capture_output=True, timeout=timeout, **more)
-    return Done(done.returncode, done.stdout, done.stderr)
-
-
-class Program:
-    """The program gx, run by a call with its words."""
-
-    def __init__(self, path: Path, environment: dict[str, str]):
-        self.path, self.environment = path, environment
-
-    def __call__(self, *words: str | bytes | Path, stdin: bytes = b"", **more) -> Done:
-        return run_program([self.path, *words], stdin, **{"env": self.environment, **more})
-
-    def prints(self, *words: str | bytes | Path, stdin: bytes = b"", **more) -> bytes:
-        """What it prints, where it has to end with 0."""
-        return printed(self(*words, stdin=stdin, **more), ["gx", *words])
-
-
-def printed(done: Done, words: list[str | bytes | Path]) -> bytes:
-    """What a program printed that has to end with 0."""
-    assert done.status == 0, f"{words}: status {done.status}\n{done.err.decode(errors='replace')}"
-    return done.out
+def pytest_terminal_summary(terminalreporter) -> None:
+    """Tells how much the tests did."""
+    sums: Counter[str] = Counter()
+    for reports in terminalreporter.stats.values():
+        for report in reports:
+            if getattr(report, "when", None) == "call":
+                sums.update({name: count for name, count in report.user_properties if isinstance(count, int)})
+    for name, count in sorted(sums.items()):
+        terminalreporter.write_line(f"{name}: {count}")
 
 
 def program_path(config: pytest.Config) -> Path:
@@ -147,7 +114,7 @@ def gx(gx_path: Path, environment: dict[str, str]) -> Program:
 def git(environment: dict[str, str]) -> Callable[..., bytes]:
     """What a command of git prints, which has to end with 0: git(WORD.., cwd=FOLDER, stdin=BYTES)."""
 
-    def run(*words: str | bytes | Path, stdin: bytes = b"", **more) -> bytes:
+    def run(*words: Word, stdin: bytes = b"", **more) -> bytes:
         done = run_program(["git", *words], stdin, **{"env": environment, **more})
         return printed(done, ["git", *words])
 

@@ -1,0 +1,55 @@
+"""Programs that tests run, and what came of each."""
+
+from __future__ import annotations
+
+import subprocess
+from collections import Counter
+from dataclasses import dataclass
+from pathlib import Path
+
+TOP = Path(__file__).resolve().parent.parent
+SCRIPTS = TOP / "scripts"
+EMPTY_STORE = b"gxstore 2\nobjects 0\nrefs 0\nend\n"
+Word = str | bytes | Path
+
+# what the tests of this process did, by what is told of it at the end
+counted: Counter[str] = Counter()
+
+
+@dataclass(frozen=True)
+class Done:
+    """How a program ended, and what it wrote."""
+
+    status: int
+    out: bytes
+    err: bytes
+
+
+def run_program(words: list[Word], stdin: bytes = b"", timeout: float = 60, **more) -> Done:
+    """Runs a program to its end; `more` is subprocess.run's."""
+    counted["programs run"] += 1
+    how = {"capture_output": True, "timeout": timeout, **more}
+    if "stdin" not in how:
+        how.setdefault("input", stdin)
+    done = subprocess.run(words, **how)
+    return Done(done.returncode, done.stdout, done.stderr)
+
+
+def printed(done: Done, words: list[Word]) -> bytes:
+    """What a program printed that has to end with 0."""
+    assert done.status == 0, f"{words}: status {done.status}\n{done.err.decode(errors='replace')}"
+    return done.out
+
+
+class Program:
+    """The program gx, run by a call with its words."""
+
+    def __init__(self, path: Path, environment: dict[str, str]):
+        self.path, self.environment = path, environment
+
+    def __call__(self, *words: Word, stdin: bytes = b"", **more) -> Done:
+        return run_program([self.path, *words], stdin, **{"env": self.environment, **more})
+
+    def prints(self, *words: Word, stdin: bytes = b"", **more) -> bytes:
+        """What it prints, where it has to end with 0."""
+        return printed(self(*words, stdin=stdin, **more), ["gx", *words])

@@ -17,6 +17,8 @@ pub(crate) enum RunFault {
     Command(CliFault),
     /// The file of the next text can't be locked.
     LockFailed,
+    /// The store file's name is so long that the one of its next text would be too long.
+    LongName,
     /// The system gives no random bytes.
     RandomFailed,
 }
@@ -28,6 +30,7 @@ impl fmt::Display for RunFault {
         match self {
             RunFault::Command(fault) => write!(f, "{fault}"),
             RunFault::LockFailed => f.write_str("gx: lock failed"),
+            RunFault::LongName => f.write_str("gx: name too long"),
             RunFault::RandomFailed => f.write_str("gx: random bytes failed"),
         }
     }

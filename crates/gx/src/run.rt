@@ -2,6 +2,7 @@
 
 use crate::fault::RunFault;
 use gx_cli::CliFault;
+use gx_place::{Patience, PlaceFault};
 use std::cell::Cell;
 use std::io::{self, ErrorKind, IsTerminal, Write};
 
@@ -13,6 +14,16 @@ pub(crate) enum Subject {
     Folder,
     Input,
     Output,
+}
+
+impl From<gx_place::Subject> for Subject {
+    fn from(subject: gx_place::Subject) -> Subject {
+        match subject {
+            gx_place::Subject::Store => Subject::Store,
+            gx_place::Subject::NextText => Subject::NextText,
+            gx_place::Subject::Folder => Subject::Folder,
+        }
+    }
 }
 
 /// Why a call of the system failed.
@@ -30,6 +41,7 @@ pub(crate) struct Run<'a> {
     explanation: Cell<Option<Vec<u8>>>,
     cause: Cell<Option<Cause>>,
     has_told_wait: Cell<bool>,
+    patience: Cell<Patience>,
 }
 
 impl<'a> Run<'a> {
@@ -42,6 +54,7 @@ impl<'a> Run<'a> {
             explanation: Cell::new(None),
             cause: Cell::new(None),
             has_told_wait: Cell::new(false),
+            patience: Cell::new(Patience::endless()),
         }
     }
 
@@ -96,6 +109,56 @@ impl<'a> Run<'a> {
                 self.note(Subject::Store, error);
                 Err(CliFault::ReadFailed)
             }
+        }
+    }
+
+    /// What comes of a store file's place. Why it isn't read or written is kept.
+    pub(crate) fn placed<T>(&self, answer: Result<T, PlaceFault>) -> Result<T, RunFault> {
+        match answer {
+            Ok(value) => Ok(value),
+            Err(PlaceFault::Exists) => Err(RunFault::Command(CliFault::StoreExists)),
+            Err(PlaceFault::Unread(error)) => Err(self.failed(
+                Subject::Store,
+                error,
+                CliFault::ReadFailed,
+            )),
+            Err(PlaceFault::Unwritten(subject, error)) => {
+                Err(self.failed(Subject::from(subject), error, CliFault::WriteFailed))
+            }
+            Err(PlaceFault::Unlocked(error)) => {
+                self.note(Subject::NextText, error);
+                Err(RunFault::LockFailed)
+            }
+            Err(PlaceFault::Changed) => Err(self.failed(
+                Subject::Store,
+                io::Error::other("changed since it was read; the new text stays in FILE.new"),
+                CliFault::WriteFailed,
+            )),
+            Err(PlaceFault::LongName) => {
+                let error = io::Error::other(
+                    "FILE.new would have more bytes than the 255 of a name",
+                );
+                self.note(Subject::Store, error);
+                Err(RunFault::LongName)
+            }
+            Err(PlaceFault::OutOfMemory) => Err(RunFault::Command(CliFault::OutOfMemory)),
+        }
+    }
+
+    fn failed(&self, subject: Subject, error: io::Error, fault: CliFault) -> RunFault {
+        self.note(subject, error);
+        RunFault::Command(fault)
+    }
+
+    /// How long the run waits for others.
+    pub(crate) fn patience(&self) -> Patience {
+        self.patience.get()
+    }
+
+    /// Waits for others for so many seconds, where a command's option tells them.
+    pub(crate) fn wait_for_others(&self, seconds: Option<u64>) {
+        if let Some(seconds) = seconds {
+            self.patience.set(Patience::of_seconds(seconds));
         }
     }
 

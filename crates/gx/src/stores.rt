@@ -1,11 +1,9 @@
 //! Store files: the commands that make one, or put a next text in its place.
 
-mod claim;
 pub(crate) mod files;
-mod limit;
+mod host;
 mod next_text;
-mod rights;
-mod system;
+mod process;
 
 use crate::fault::RunFault;
 use crate::run::Run;

@@ -1,1 +1,3 @@
 pub mod Modes
+pub mod Permissions
+pub mod Narrowing

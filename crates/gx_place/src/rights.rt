@@ -5,6 +5,8 @@
 
 ghost use Rattle.std.specs.Prelude.{◌≡◌, ◌<◌, ◌%◌};
 ghost use Rattle.gx_place.specs.Modes.{access_number, mode_number};
+ghost use Rattle.gx_place.specs.Narrowing.{regrouped, reowned};
+ghost use Rattle.gx_place.specs.Permissions.{IsHandedOn, both, granted, in_only, known};
 
 /// What a class of users may do with a file. Source: path_resolution(7), "Permissions".
 #[derive(Clone, Copy, Debug, PartialEq, Eq, Drop)]
@@ -32,7 +34,9 @@ pub struct Rights {
 
 impl Access {
     /// Both may do it.
-    fn and(self, other: Access) -> Access {
+    fn and(self, other: Access) -> Access
+        ensures { result ≡ both self other }
+    {
         Access {
             reads: self.reads && other.reads,
             writes: self.writes && other.writes,
@@ -82,10 +86,12 @@ impl Mode {
 
 impl Rights {
     /// What a user may do who is in this group and in no other.
-    pub fn of_user(&self, user: u32, group: u32) -> Access {
+    pub fn of_user(&self, user: u32, group: u32) -> Access
+        ensures { result ≡ granted self.now (record { number = user; is_in = in_only group }) }
+    {
         if user == self.owner {
             self.mode.owner
-        } else if group == self.group {
+        } else if self.group == group {
             self.mode.group
         } else {
             self.mode.others
@@ -93,30 +99,61 @@ impl Rights {
     }
 }
 
-/// The mode of a file that takes another one's place, and has this owner and group: as much as lets nobody but a new owner do what he
-/// couldn't before. Where the group isn't known to be meant, its bits count as far as others have them.
-pub fn handed_on(replaced: Rights, owner: u32, group: u32, is_group_meant: bool) -> Mode {
-    let old = replaced.mode;
-    let both = old.group.and(old.others);
-    let (of_group, others) = if group != replaced.group {
-        (both, both)
-    } else if is_group_meant {
-        (old.group, old.others)
-    } else {
-        (both, old.others)
-    };
-    if owner == replaced.owner {
-        Mode {
-            owner: old.owner,
-            group: of_group,
-            others,
-        }
-    } else {
-        // who owned it is one of the group or of the others now
-        Mode {
-            owner: old.owner,
-            group: of_group.and(old.owner),
-            others: others.and(old.owner),
+impl Mode {
+    /// As far as the group's bits are known to be the group's.
+    fn known(self, is_group_meant: bool) -> Mode
+        ensures { result ≡ known is_group_meant self }
+    {
+        if is_group_meant {
+            self
+        } else {
+            Mode {
+                owner: self.owner,
+                group: self.group.and(self.others),
+                others: self.others,
+            }
         }
     }
+
+    /// One of the old group may be one of the others now, and one of the others one of the new group.
+    fn regrouped(self, is_same_group: bool) -> Mode
+        ensures { result ≡ regrouped is_same_group self }
+    {
+        if is_same_group {
+            self
+        } else {
+            Mode {
+                owner: self.owner,
+                group: self.group.and(self.others),
+                others: self.group.and(self.others),
+            }
+        }
+    }
+
+    /// Who owned it is one of the group or of the others now.
+    fn reowned(self, is_same_owner: bool) -> Mode
+        ensures { result ≡ reowned is_same_owner self }
+    {
+        if is_same_owner {
+            self
+        } else {
+            Mode {
+                owner: self.owner,
+                group: self.group.and(self.owner),
+                others: self.others.and(self.owner),
+            }
+        }
+    }
+}
+
+/// The mode of a file that takes another one's place, and has this owner and group: as much as lets nobody but a new owner do what he
+/// couldn't before. Where the group isn't known to be meant, its bits count as far as others have them.
+pub fn handed_on(replaced: Rights, owner: u32, group: u32, is_group_meant: bool) -> Mode
+    ensures { IsHandedOn replaced is_group_meant owner group result }
+{
+    replaced
+        .mode
+        .known(is_group_meant)
+        .regrouped(group == replaced.group)
+        .reowned(owner == replaced.owner)
 }

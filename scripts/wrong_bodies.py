@@ -180,9 +180,10 @@ def gate(tree):
     keys, differ = picks(tree, printed("git", "rev-parse", "HEAD")), 0
     for told in tried(tree, keys, len(os.sched_getaffinity(0)), is_gate=True):
         for key, (kind, why) in sorted(told.items()):
-            if kind != tree.lines[key].verdict:
-                differ += 1
-                print(f"{'/'.join(key)}: {kind}, where its line has {tree.lines[key].verdict}: {why[:300]}", file=sys.stderr)
+            is_same = kind == tree.lines[key].verdict
+            differ += not is_same
+            more = "" if is_same else f", where its line has {tree.lines[key].verdict}: {why[:300]}"
+            print(f"{'/'.join(key)}: {kind}{more}", file=sys.stderr)
     figures(tree, stale, f"; {len(keys)} tried again, {differ} otherwise; {minutes()}")
     return 1 if lacking or differ else 0
 

@@ -1,0 +1,146 @@
+"""What scripts/wrong_bodies.py tells, over copies of the crates in which something is changed."""
+
+from __future__ import annotations
+
+import re
+import shutil
+import subprocess
+from pathlib import Path
+
+import pytest
+
+TOP = Path(__file__).resolve().parent.parent
+TRIED = "gx_where"
+BELOW = ("gx_model", "gx_text", "gx_stream", "gx_command")
+CRATES = (*BELOW, TRIED)
+
+
+class Copy:
+    """A copy of some crates with their wrong bodies, of the table and of the page."""
+
+    def __init__(self, top: Path) -> None:
+        self.top = top
+        for crate in CRATES:
+            for part in ("src", "specs", "proofs", "wrong", "must-fail"):
+                if (TOP / "crates" / crate / part).is_dir():
+                    shutil.copytree(TOP / "crates" / crate / part, top / "crates" / crate / part)
+        for name in ("scripts", "docs"):
+            shutil.copytree(TOP / name, top / name, ignore=shutil.ignore_patterns("__pycache__"))
+        lines = (TOP / "crates.txt").read_text().splitlines(keepends=True)
+        (top / "crates.txt").write_text("".join(line for line in lines if line.split(":")[0] in CRATES))
+        for words in (["init", "-q"], ["add", "crates.txt"], ["commit", "-q", "-m", "A"]):
+            subprocess.run(["git", "-c", "user.name=A", "-c", "user.email=a@x", *words], cwd=top, check=True)
+
+    def hold_all(self) -> None:
+        """Has the table say that each was refused over the text as it stands."""
+        lines = "{key: tree.today(key, 'refused', 'none') for key in tree.edits}"
+        code = f"import wrong_bodies; tree = wrong_bodies.Tree(); wrong_bodies.write_lines({lines})"
+        subprocess.run(["python3", "-c", code], cwd=self.top / "scripts", check=True)
+
+    def change(self, file: str, old: str, new: str) -> None:
+        path = self.top / file
+        text = path.read_text()
+        assert text.count(old) == 1, f"{file} has {old} {text.count(old)} times"
+        path.write_text(text.replace(old, new))
+
+    def run(self, *words: str) -> subprocess.CompletedProcess[str]:
+        return subprocess.run([self.top / "scripts" / "wrong_bodies.py", *words], capture_output=True, text=True)
+
+    def stale(self) -> dict[str, str]:
+        """What is stale beside what is so without a change, and why."""
+        return dict(line.split(": ") for line in self.run("--stale").stdout.splitlines())
+
+    def edits(self, crate: str) -> set[str]:
+        return {f"{crate}/{path.stem}" for path in (self.top / "crates" / crate / "wrong").glob("*.edit")}
+
+
+@pytest.fixture
+def copy(tmp_path: Path) -> Copy:
+    return Copy(tmp_path)
+
+
+@pytest.fixture
+def fresh(copy: Copy) -> Copy:
+    """A copy whose lines all have today's checksums, whatever is stale here."""
+    copy.hold_all()
+    assert copy.stale() == {}
+    return copy
+
+
+def test_without_a_clause_all_of_the_crate_are_stale(fresh: Copy) -> None:
+    clause = "    ensures line { IfOk result (λ place. place.line ≡ line_at text.now place.byte) }\n"
+    fresh.change("crates/gx_where/src/place.rt", clause, "")
+    assert fresh.stale() == dict.fromkeys(fresh.edits(TRIED), "contracts")
+
+
+def test_a_definition_makes_stale_what_reaches_it(fresh: Copy) -> None:
+    fresh.change("crates/gx_where/specs/Places.antt", "line_at text byte = 1 + ", "line_at text byte = 2 + ")
+    assert fresh.stale() == dict.fromkeys(fresh.edits(TRIED), "definitions")
+
+
+def test_a_definition_below_is_told_apart(fresh: Copy) -> None:
+    path = fresh.top / "crates/gx_model/specs/Streams/Items.antt"
+    path.write_text(re.sub(r"^(is_lf \w+ = .*)$", r"\1 && true", path.read_text(), flags=re.M))
+    stale = fresh.stale()
+    assert fresh.edits(TRIED) <= stale.keys()
+    assert {stale[key] for key in fresh.edits(TRIED)} == {"below"}
+    assert f"{sum(why == 'below' for why in stale.values())} of them by a definition below alone" in fresh.run().stderr
+
+
+def test_comments_layout_and_proofs_change_nothing(fresh: Copy) -> None:
+    fresh.change("crates/gx_where/src/lines.rt", "/// How many LFs stand in a text.", "/// The LFs of a text, counted.")
+    fresh.change("crates/gx_where/specs/Places.antt", "line_at text byte = 1 + ", "line_at text byte =  1  + ")
+    for path in (fresh.top / "crates/gx_where/proofs").rglob("*.antt"):
+        path.write_text("-- a proof\n" + path.read_text())
+    assert fresh.stale() == {}
+
+
+def test_an_edit_and_one_without_a_line_are_told(fresh: Copy) -> None:
+    folder = fresh.top / "crates/gx_where/wrong"
+    shutil.copy(folder / "place_shows_no_line.edit", folder / "new.edit")
+    fresh.change("crates/gx_where/wrong/place_shows_no_line.edit", "[..0]", "[..1]")
+    assert fresh.stale() == {"gx_where/place_shows_no_line": "edit", "gx_where/new": "no line"}
+
+
+def test_a_text_that_does_not_stand_once_is_told(fresh: Copy) -> None:
+    fresh.change("crates/gx_where/wrong/lines_are_counted_from_nought.edit", "old: line: 1 + count_lines(&text[..byte]),", "old: byte")
+    done = fresh.run("--check")
+    assert done.returncode == 1
+    assert "lines_are_counted_from_nought.edit: its text stands in src/place.rt" in done.stderr
+
+
+def is_built() -> bool:
+    return all((TOP / "crates" / crate / "out/rlib" / f"{crate}.rlib").is_dir() for crate in BELOW)
+
+
+@pytest.fixture
+def planted(copy: Copy) -> Copy:
+    """A copy with one wrong body, whose code changed since its line, over the libraries that stand built here."""
+    if not is_built():
+        pytest.skip("the libraries below gx_where aren't built")
+    for crate in BELOW:
+        # without its stamp a library is taken as it is, as one of `rt ci`
+        name = f"crates/{crate}/out/rlib/{crate}.rlib"
+        shutil.copytree(TOP / name, copy.top / name)
+    for path in copy.top.glob("crates/*/wrong/*.edit"):
+        if path.stem != "lines_are_counted_from_nought":
+            path.unlink()
+    return copy
+
+
+def test_the_gate_refuses_a_wrong_body_again_and_one_without_a_line(planted: Copy) -> None:
+    planted.hold_all()
+    folder = planted.top / "crates/gx_where/wrong"
+    shutil.copy(folder / "lines_are_counted_from_nought.edit", folder / "new.edit")
+    done = planted.run("--gate")
+    assert done.returncode == 1
+    assert "gx_where/new: its line in docs/tried.tsv isn't of today's text (no line)" in done.stderr
+    assert "1 held, 1 stale, 0 of them by a definition below alone; 1 tried again, 0 otherwise" in done.stderr
+
+
+def test_the_gate_tells_a_body_that_is_proved(planted: Copy) -> None:
+    planted.change("crates/gx_where/wrong/lines_are_counted_from_nought.edit", "new: line: count", "new: line: 1 + 0 + count")
+    planted.hold_all()
+    done = planted.run("--gate")
+    assert done.returncode == 1
+    assert "gx_where/lines_are_counted_from_nought: proved, where its line has refused" in done.stderr

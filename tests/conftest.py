@@ -4,6 +4,7 @@ from __future__ import annotations
 
 import os
 import random
+import tempfile
 from collections import Counter
 from collections.abc import Callable, Iterator
 from pathlib import Path
@@ -119,6 +120,15 @@ def git(environment: dict[str, str]) -> Callable[..., bytes]:
         return printed(done, ["git", *words])
 
     return run
+
+
+@pytest.fixture
+def tmp_path() -> Iterator[Path]:
+    """A folder of the test's own, which goes with it, since stores may be large. Other users may pass through it."""
+    with tempfile.TemporaryDirectory(prefix="gx-test-", ignore_cleanup_errors=True) as name:
+        folder = Path(name)
+        folder.chmod(0o755)
+        yield folder
 
 
 @pytest.fixture

@@ -1,6 +1,6 @@
 #!/usr/bin/env bash
-# Installs the built program, git-remote-gx, their manuals and the completions of bash and zsh, or removes these six files again; or the built
-# library with its header and the Python module.
+# Installs the built program, git-remote-gx, gx-mirror, their manuals and the completions of bash and zsh, or removes these eight files again;
+# or the built library with its header and the Python module.
 #   scripts/install.sh [--library] [--uninstall]
 # Variables of the environment say where, as `scripts/install.sh --help` tells.
 set -euo pipefail
@@ -16,7 +16,8 @@ usage: scripts/install.sh [--library] [--uninstall]
        scripts/install.sh --help
 
 Installs the built program gx, the script git-remote-gx by which git has stores as
-remotes, their manuals and the completions of bash and zsh.
+remotes, the script gx-mirror by which stores follow repositories, their manuals and
+the completions of bash and zsh.
 With --library it installs libginlarch in place of these: the static and the shared
 library, the header, the file for pkg-config and the Python module. --uninstall
 removes what was installed so, and leaves all folders.
@@ -45,9 +46,12 @@ fail() {
 # runs a command on each file: its mode, where it is, and where it goes
 for_each_file() {
   "$1" 755 "${stamped:-$program}" "${BINDIR:-$prefix/bin}/gx"
-  "$1" 755 "$root/scripts/git-remote-gx" "${BINDIR:-$prefix/bin}/git-remote-gx"
-  "$1" 644 "$root/docs/gx.1" "${MANDIR:-$prefix/share/man}/man1/gx.1"
-  "$1" 644 "$root/docs/git-remote-gx.1" "${MANDIR:-$prefix/share/man}/man1/git-remote-gx.1"
+  for script in git-remote-gx gx-mirror; do
+    "$1" 755 "$root/scripts/$script" "${BINDIR:-$prefix/bin}/$script"
+  done
+  for manual in gx git-remote-gx gx-mirror; do
+    "$1" 644 "$root/docs/$manual.1" "${MANDIR:-$prefix/share/man}/man1/$manual.1"
+  done
   "$1" 644 "$root/completions/gx.bash" "${BASHCOMPLETIONDIR:-$prefix/share/bash-completion/completions}/gx"
   "$1" 644 "$root/completions/_gx" "${ZSHCOMPLETIONDIR:-$prefix/share/zsh/site-functions}/_gx"
 }

@@ -1,63 +1,43 @@
-#!/usr/bin/env python3
-"""Has git use stores as remotes, by scripts/git-remote-gx, beside remotes of its own.
+"""Has git use stores as remotes beside remotes of its own: what each push tells of each ref, and the refs
+of the remote and of each clone, have to be the same behind each command."""
 
-    scripts/remote_test.py [--random N] [--steps N] [--seed N] [CASE..]
+from __future__ import annotations
 
-A case that a remote of git has an answer to is run over both: what each push tells of each ref, and
-the refs of the remote and of each clone have to be the same behind each command. The other cases
-are of stores alone: what they don't hold, what is missing, and faults in the middle. A push that is
-refused has to leave the bytes of the store as they were.
-
-Then N histories are made at random, one if N isn't given, each of twenty steps. A step is made in
-one of two clones, goes into the store by a push, and comes into the other by a fetch: the refs of
-all three are compared. In the end `git fsck` looks at the clones, and scripts/check_store.py at the
-store. The seed is printed. Names of cases, and `histories`, run these alone.
-
-GX: the program, crates/gx/out/gx if it isn't set. It needs git. The status is 1 where something differs.
-"""
-
-import argparse
 import os
 import shutil
-import tempfile
-import time
-from concurrent.futures import ThreadPoolExecutor
+from collections.abc import Callable
 from pathlib import Path
 
-from places import GX, Differs, print_of, same
-from remote_stores import STORES
-from remote_world import World, follow, started
+import pytest
+from remote_world import World
 
 
-# ---- cases that both remotes have
-
-
-def clones(world):
+def clones(world: World) -> None:
     """Clones of each kind have the same refs, and files."""
-    started(world)
+    world.started()
     kinds = {"bare": ["--bare"], "mirror": ["--mirror"], "one": ["--single-branch", "-b", "side"], "none": ["--no-tags"]}
     for name, words in kinds.items():
         world.see("clone", *words, world.url, name, where=".")
-    same(world.git("status", "--porcelain", where="clone"), "", "what differs from HEAD in the clone")
-    same(world.git("symbolic-ref", "HEAD", where="clone"), "refs/heads/main", "HEAD of the clone")
+    assert world.git("status", "--porcelain", where="clone") == ""
+    assert world.git("symbolic-ref", "HEAD", where="clone") == "refs/heads/main"
     world.git("fsck", "--strict", where="clone")
     world.see("ls-remote", world.url, where=".")
     world.see("ls-remote", "--symref", "origin", "HEAD")
 
 
-def empty(world):
+def empty(world: World) -> None:
     """A remote that has nothing yet."""
     if world.remote.suffix == ".gx":
-        print_of([GX, "init", world.remote])
+        world.store("init")
     world.see("clone", world.url, "clone", where=".")
     world.commit({"a": "1\n"}, where="clone")
     world.see("push", "--porcelain", "origin", "HEAD:refs/heads/main", where="clone")
     world.see("fetch")
 
 
-def fetches(world):
+def fetches(world: World) -> None:
     """What is new comes, by a remote's name and by its place; what is gone goes by --prune."""
-    started(world)
+    world.started()
     world.commit({"file": "4\n"})
     world.git("tag", "-m", "Second", "v2")
     world.git("tag", "-m", "Of old", "old", "side")
@@ -75,9 +55,9 @@ def fetches(world):
     world.git("fsck", where="clone")
 
 
-def pushes(world):
+def pushes(world: World) -> None:
     """By each kind of name for what is sent, and to other names."""
-    started(world)
+    world.started()
     first = world.git("rev-parse", "HEAD~1")
     refs = ["HEAD:refs/heads/from-head", f"{first}:refs/heads/from-digits", "main~1:refs/heads/from-above"]
     world.see("push", "--porcelain", "origin", *refs)
@@ -97,9 +77,9 @@ def pushes(world):
     world.see("fetch", where="clone")
 
 
-def forced(world):
+def forced(world: World) -> None:
     """Branches that lose commits, and tags that move."""
-    started(world)
+    world.started()
     world.see("fetch", where="clone")
     world.git("commit", "-q", "--amend", "-m", "Amended")
     world.git("tag", "-f", "-m", "Moved", "v1")
@@ -125,12 +105,15 @@ def forced(world):
     world.see("push", "--porcelain", f"{lease}=fresh:", "origin", "main:fresh")
 
 
-def deletions(world):
+def deletions(world: World) -> None:
     """Refs that go, and names that become directories."""
-    started(world)
+    world.started()
     world.see("push", "--porcelain", "origin", ":side", ":light")
     world.see("push", "--porcelain", "origin", "--delete", "v1", "nothing")
     world.see("push", "--porcelain", "origin", "--delete", "v1")
+    world.see("push", "--porcelain", "origin", "main:again")
+    world.see("push", "--porcelain", "origin", ":refs/heads/none", ":again", ":refs/tags/none", "main:refs/heads/more")
+    world.see("push", "--porcelain", "origin", ":refs/heads/none")
     world.see("push", "--porcelain", "origin", "main:refs/heads/main/below")
     world.see("push", "--porcelain", "origin", "main:refs/heads/dir/below", "main:refs/heads/dir2")
     world.see("push", "--porcelain", "origin", ":refs/heads/dir/below", "main:refs/heads/dir")
@@ -139,9 +122,9 @@ def deletions(world):
     world.see("fetch", "--prune", "--prune-tags", where="clone")
 
 
-def mirrors(world):
+def mirrors(world: World) -> None:
     """All refs, as they are."""
-    started(world)
+    world.started()
     world.see("push", "--porcelain", "--mirror", "origin")
     world.git("branch", "-m", "side", "side/below")
     world.git("tag", "-d", "v1")
@@ -154,9 +137,9 @@ def mirrors(world):
     world.see("push", "--porcelain", "--mirror", "origin", where="mirror")
 
 
-def tags(world):
+def tags(world: World) -> None:
     """Tags that come along."""
-    started(world)
+    world.started()
     world.commit({"file": "9\n"})
     world.git("tag", "-m", "Along\n\nMore of it.", "along")
     world.git("tag", "-m", "Not reached", "apart", world.git("commit-tree", "-m", "apart", "HEAD^{tree}"))
@@ -169,9 +152,9 @@ def tags(world):
     world.see("fetch", where="clone")
 
 
-def contents(world):
+def contents(world: World) -> None:
     """Names of files and refs, modes, merges, encodings, and a directory in place of a file."""
-    started(world)
+    world.started()
     world.commit({'q"uote': "1\n", "sp ace/t\tab": "2\n", "\u00e4\u00f6": "3\n", b"l\xe4tin": "4\n", "a": "5\n", "empty": ""})
     (world.folder / "work/link").symlink_to("q\"uote")
     (world.folder / "work/a").unlink()
@@ -191,9 +174,9 @@ def contents(world):
     world.git("fsck", where="again")
 
 
-def raced(world):
+def raced(world: World) -> None:
     """Another push comes between what git was told of the remote and its own push."""
-    started(world)
+    world.started()
     hook = world.folder / "work/.git/hooks/pre-push"
     hook.parent.mkdir(exist_ok=True)
     for number, refs in enumerate((["main"], ["--force-with-lease", "main"], ["new"], ["-f", "v1"], [":side"])):
@@ -212,54 +195,30 @@ def raced(world):
         world.see("push", "-q", "origin", ":new")
 
 
-BOTH = [clones, empty, fetches, pushes, forced, deletions, mirrors, tags, contents, raced]
+def atomic(world: World) -> None:
+    """All refs of a push, or none of them."""
+    world.started()
+    world.git("branch", "-f", "light", world.commit({"file": "4\n"}))
+    push = ["push", "--porcelain", "--atomic"]
+    world.see(*push, "origin", "main", "main:new", ":side")
+    world.see(*push, "origin", "main", "main:refs/heads/other")
+    world.git("commit", "-q", "--amend", "-m", "Amended")
+    for refs in (["main", "main:other"], ["main:other", "main:refs/heads/other/below"], ["+main", "main:main/below"]):
+        world.see(*push, "origin", *refs)
+    world.see(*push, "--force", "origin", "main", "other", "main:refs/heads/third")
+    world.see(*push, "--force-with-lease", "origin", "+main", ":other", "refs/tags/light:refs/tags/third", ":refs/tags/none")
+    world.see(*push, "--dry-run", "origin", "main:dry")
+    world.see("fetch", where="clone")
 
 
-# ---- all of them
+CASES = [clones, empty, fetches, pushes, forced, deletions, mirrors, tags, contents, raced, atomic]
 
 
-def try_both(case, folder):
-    worlds = [World(folder / name, f"remote.{name}") for name in ("git", "gx") if not (folder / name).mkdir()]
-    for world in worlds:
-        case(world)
-    for plain, by_store in zip(*(world.seen for world in worlds)):
-        same(by_store, plain, f"{case.__name__}: git {plain[0]}")
-    same(len(worlds[0].seen), len(worlds[1].seen), f"{case.__name__}: commands")
-    return len(worlds[0].seen)
-
-
-def run(name, folder, given):
-    """Runs a case, or a history by its seed, in a folder of its own; what is told of it."""
-    below = folder / str(name)
-    below.mkdir()
-    if isinstance(name, int):
-        return f"seed {name}, {given.steps} steps: {follow(name, given.steps, below)} commits, the same"
-    case = next(case for case in BOTH + STORES if case.__name__ == name)
-    if case in BOTH:
-        return f"{name}: {try_both(case, below)} commands, the same"
-    case(World(below, "store.gx"))
-    return f"{name}: as it has to be"
-
-
-def main():
-    words = argparse.ArgumentParser(description=__doc__, formatter_class=argparse.RawTextHelpFormatter)
-    words.add_argument("--random", type=int, default=1, metavar="N")
-    words.add_argument("--steps", type=int, default=20, metavar="N")
-    words.add_argument("--seed", type=int, default=time.time_ns() % 1000000, metavar="N")
-    words.add_argument("cases", nargs="*", metavar="CASE")
-    given = words.parse_args()
-    names = given.cases or [*(case.__name__ for case in BOTH + STORES), "histories"]
-    if "histories" in names:
-        names.remove("histories")
-        names = [*range(given.seed, given.seed + given.random), *names]
-        print(f"seed {given.seed}", flush=True)
-    with tempfile.TemporaryDirectory(prefix="remote-") as name, ThreadPoolExecutor(os.cpu_count()) as pool:
-        try:
-            for told in pool.map(lambda one: run(one, Path(name), given), names):
-                print(told, flush=True)
-        except Differs as fault:
-            raise SystemExit(str(fault)) from None
-
-
-if __name__ == "__main__":
-    main()
+@pytest.mark.parametrize("case", CASES, ids=lambda case: case.__name__)
+def test_beside_git(case: Callable[[World], None], tmp_path: Path, gx_path: Path) -> None:
+    plain, by_store = (World(tmp_path / name, f"remote.{name}", gx_path) for name in ("git", "gx"))
+    case(plain)
+    case(by_store)
+    for of_git, of_store in zip(plain.seen, by_store.seen):
+        assert of_store == of_git
+    assert len(by_store.seen) == len(plain.seen)

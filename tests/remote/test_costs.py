@@ -1,0 +1,116 @@
+"""What a store as a remote of git costs: in processor time beside git's own remotes, and in programs run."""
+
+from __future__ import annotations
+
+import shutil
+from collections.abc import Iterator
+from io import BytesIO
+from itertools import repeat
+from pathlib import Path
+
+import pytest
+from remote_world import World, helper
+
+COMMIT = b"commit %s\nmark :%d\ncommitter A <a@x> %d +0000\ndata 2\nx\n%sM 100644 inline file%d\ndata 2\n%d\n\n"
+TAG = b"tag v%d\nfrom :%d\ntagger A <a@x> 1 +0000\ndata 2\nx\n"
+
+
+def line_of_commits(count: int, refs: Iterator[bytes]) -> bytes:
+    """A stream of commits that follow each other, each on the next ref."""
+    rows = range(1, count + 1)
+    starts = (b"from :%d\n" % (row - 1) if row > 1 else b"" for row in rows)
+    numbered = zip(rows, refs, starts)
+    return b"".join(COMMIT % (ref, row, 1600000000 + row, start, row % 100, row % 10) for row, ref, start in numbered)
+
+
+def remotes(tmp_path: Path, gx_path: Path, stream: bytes) -> list[World]:
+    """A repository of git and a store that have what a stream tells, as remotes; each with a clone that
+    lacks a commit on main."""
+    plain, by_store = (World(tmp_path / name, f"remote.{name}", gx_path) for name in ("git", "gx"))
+    plain.git("fast-import", "--quiet", where=plain.remote, stdin=stream)
+    plain.git("pack-refs", "--all", where=plain.remote)
+    by_store.store("init")
+    by_store.store("import", stdin=stream)
+    for world in (plain, by_store):
+        world.git("clone", "-q", world.url, "clone", where=".")
+        world.git("pull", "-q", "--no-tags", "origin", "main")
+        world.commit({"more": "1\n"})
+        world.git("push", "-q", "origin", "main")
+    return [plain, by_store]
+
+
+def best_fetch(world: World) -> float:
+    """The least processor time of a fetch of one commit, of three."""
+    times = []
+    for number in range(3):
+        copy = f"copy{number}"
+        shutil.copytree(world.folder / "clone", world.folder / copy, symlinks=True)
+        done, time = world.seconds("fetch", "-q", "origin", where=copy)
+        times.append(time)
+        assert done.status == 0 and world.git("rev-parse", "origin/main", where=copy) == world.git("rev-parse", "main")
+    return min(times)
+
+
+def test_fetch_beside_many_refs(request: pytest.FixtureRequest, tmp_path: Path, gx_path: Path) -> None:
+    """A fetch of one commit beside 10,000 refs takes at most twice git's processor time. Without --long
+    it may take four times that, as programs that were built without proofs check more."""
+    refs = (b"refs/heads/" + (b"topic%d" % row if row else b"main") for row in range(10000))
+    plain, by_store = remotes(tmp_path, gx_path, line_of_commits(10000, refs))
+    of_git, of_store = best_fetch(plain), best_fetch(by_store)
+    most = 2 if request.config.getoption("long") else 4
+    assert of_store <= most * of_git, f"{of_store:.2f} s, and git's {of_git:.2f} s"
+
+
+def test_fetch_sets_no_refs(world: World) -> None:
+    """What `git fast-import` is given of a fetch sets no ref but those of tags that are new, for which
+    it has no other way."""
+    refs = (b"refs/heads/" + (b"topic%d" % row if row else b"main") for row in range(50))
+    stream = line_of_commits(50, refs) + b"".join(TAG % (row, row) for row in range(1, 20))
+    world.store("init")
+    world.store("import", stdin=stream)
+    export = world.store("export", "--changes")
+    known = {b"refs/tags/v%d" % row for row in range(1, 19)}
+    given = b"".join(helper().objects_of(BytesIO(export), known))
+    world.git("fast-import", "--quiet", "--done", stdin=given)
+    assert world.git("for-each-ref", "--format=%(refname)") == "refs/tags/v19"
+    here = [name for name in world.named() if "tags" not in name]
+    assert len(here) == 50
+    world.git("rev-list", "--objects", *(world.named()[name] for name in here))
+
+
+def test_refusal_of_many_branches(world: World) -> None:
+    """A signed root refuses 40 branches above it by one stream, in at most twice the time that it takes
+    for one branch; and what stands beside goes by one more."""
+    world.git("commit", "-q", "--allow-empty", "-m", "Root")
+    root = world.signed()
+    stream = line_of_commits(2000, repeat(b"refs/heads/main"))
+    stream = stream.replace(b"data 2\nx\nM", b"data 2\nx\nfrom %s\nM" % root.encode(), 1)
+    world.git("fast-import", "--quiet", "--force", stdin=stream)
+    for number in range(40):
+        world.git("branch", f"topic{number}", world.git("commit-tree", "-p", "main", "-m", f"{number}", "main^{tree}"))
+    world.git("branch", "beside", world.git("commit-tree", "-m", "Apart", "main^{tree}"))
+    told = f"topic0 (Unsupported: gpgsig of commit {root})"
+    more, commands = world.counted()
+    topics = [f"topic{number}" for number in range(40)]
+    of_one, one = world.seconds("push", "origin", topics[0], more=more)
+    of_many, many = world.seconds("push", "origin", *topics, more=more)
+    assert told in of_one.err.decode() and of_many.err.count(b"gpgsig of commit") == 40
+    assert commands() == ["init", "import", "refs"] * 2
+    assert many <= 2 * one, f"{many:.2f} s, and {one:.2f} s of one branch"
+    done = world.run("push", "--all", "origin", more=more)
+    assert done.err.count(b"gpgsig of commit") == 41
+    assert list(world.named()) == ["refs/heads/beside"]
+
+
+def test_tags_are_read_at_once(world: World) -> None:
+    """As many programs of git run for a push of many annotated tags as for one."""
+    world.commit({"file": "1\n"})
+    for number in range(1, 31):
+        world.git("tag", "-m", "Tag", f"v{number}")
+    trace = world.folder / "trace"
+    counts = []
+    for tags in (["v1"], [f"v{number}" for number in range(2, 31)]):
+        trace.write_text("")
+        world.git("push", "-q", "origin", *tags, more={"GIT_TRACE": str(trace)})
+        counts.append(trace.read_text().count("trace: built-in: "))
+    assert 0 < counts[1] <= counts[0], counts

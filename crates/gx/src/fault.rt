@@ -19,6 +19,10 @@ pub(crate) enum RunFault {
     LockFailed,
     /// The store file's name is so long that the one of its next text would be too long.
     LongName,
+    /// The store file isn't the one with the stamp that was given.
+    StoreChanged,
+    /// What was given is no stamp.
+    BadStamp,
     /// The system gives no random bytes.
     RandomFailed,
 }
@@ -31,6 +35,8 @@ impl fmt::Display for RunFault {
             RunFault::Command(fault) => write!(f, "{fault}"),
             RunFault::LockFailed => f.write_str("gx: lock failed"),
             RunFault::LongName => f.write_str("gx: name too long"),
+            RunFault::StoreChanged => f.write_str("gx: store changed"),
+            RunFault::BadStamp => f.write_str("gx: bad stamp"),
             RunFault::RandomFailed => f.write_str("gx: random bytes failed"),
         }
     }

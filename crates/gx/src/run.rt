@@ -129,7 +129,8 @@ impl<'a> Run<'a> {
                 self.note(Subject::NextText, error);
                 Err(RunFault::LockFailed)
             }
-            Err(PlaceFault::Changed) => Err(self.failed(
+            Err(PlaceFault::Changed) => Err(RunFault::StoreChanged),
+            Err(PlaceFault::Overtaken) => Err(self.failed(
                 Subject::Store,
                 io::Error::other("changed since it was read; the new text stays in FILE.new"),
                 CliFault::WriteFailed,

@@ -4,6 +4,8 @@ pub(crate) mod files;
 mod host;
 mod next_text;
 mod process;
+mod put;
+mod stamp;
 
 use crate::fault::RunFault;
 use crate::run::Run;
@@ -20,6 +22,7 @@ use gx_cli::{
 use gx_object::Sha1Namer;
 use gx_text::{FromRead, IntoWrite};
 use next_text::NextText;
+pub(crate) use put::put;
 use std::alloc::Global;
 use std::hash::RandomState;
 

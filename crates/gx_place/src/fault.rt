@@ -25,8 +25,10 @@ pub enum PlaceFault {
     Unwritten(Subject, io::Error),
     /// The file of the next text can't be made and locked by this run alone.
     Unlocked(io::Error),
-    /// The store file is another one than was read, and so the next text stays beside it.
+    /// The store file is another one than whoever gave the next text knows.
     Changed,
+    /// The store file became another one after it was read, and so the next text stays beside it.
+    Overtaken,
     /// The store file has so long a name that the one of its next text would be too long.
     LongName,
     OutOfMemory,

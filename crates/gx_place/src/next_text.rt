@@ -56,6 +56,7 @@ pub struct NextText<S: System> {
     held: S::File,
     replaced: Option<Replaced>,
     is_narrowed: bool,
+    is_copied: bool,
     stays: bool,
 }
 
@@ -110,6 +111,23 @@ impl<S: System> NextText<S> {
         Ok(next)
     }
 
+    /// The same for a store file that somebody else has read, who has the next text, too: it has to be the one with this stamp.
+    pub fn claim_known(
+        alloc: Global,
+        mut system: S,
+        path: &str,
+        patience: Patience,
+        known: Stamp,
+    ) -> Result<NextText<S>, PlaceFault> {
+        want_known(&mut system, path, known)?;
+        let mut next = NextText::claim_next(alloc, system, path, patience)?;
+        // another run may have replaced the store while this one waited
+        next.want_known(known)?;
+        next.is_copied = true;
+        next.expect(known);
+        Ok(next)
+    }
+
     /// Another run that holds the file is waited for, and what a killed one left is removed.
     fn claim(
         alloc: Global,
@@ -139,12 +157,17 @@ impl<S: System> NextText<S> {
             held,
             replaced: None,
             is_narrowed: false,
+            is_copied: false,
             stays: false,
         })
     }
 
     fn want_nothing(&mut self) -> Result<(), PlaceFault> {
         want_nothing(&mut self.system, self.place.store())
+    }
+
+    fn want_known(&mut self, known: Stamp) -> Result<(), PlaceFault> {
+        want_known(&mut self.system, self.place.store(), known)
     }
 
     fn new_files(&mut self) -> io::Result<NewFiles> {
@@ -166,8 +189,7 @@ impl<S: System> NextText<S> {
         }
     }
 
-    /// Wants the store file to be this one still when the next text takes its place.
-    pub fn expect(&mut self, stamp: Stamp) {
+    fn expect(&mut self, stamp: Stamp) {
         if let Some(replaced) = &mut self.replaced {
             replaced.read = Some(stamp);
         }
@@ -268,7 +290,7 @@ impl<S: System> NextText<S> {
             Err(error) => return Err(PlaceFault::Unwritten(Subject::NextText, error)),
         };
         let unchanged = self.want_unchanged();
-        self.stays = unchanged.is_err() && self.replaced.is_some();
+        self.stays = matches!(unchanged, Err(PlaceFault::Overtaken));
         unchanged?;
         if let Err(error) = self.system.rename(self.place.next(), self.place.store()) {
             return Err(PlaceFault::Unwritten(Subject::Store, error));
@@ -295,7 +317,8 @@ impl<S: System> NextText<S> {
             (None, Err(error)) if error.kind() == ErrorKind::NotFound => Ok(()),
             (None, Ok(_)) => Err(PlaceFault::Exists),
             (Some(replaced), Ok(found)) if replaced.read == Some(found.stamp) => Ok(()),
-            (Some(_), Ok(_)) => Err(PlaceFault::Changed),
+            (Some(_), Ok(_)) if self.is_copied => Err(PlaceFault::Changed),
+            (Some(_), Ok(_)) => Err(PlaceFault::Overtaken),
             (_, Err(error)) => Err(PlaceFault::Unwritten(Subject::Store, error)),
         }
     }
@@ -311,6 +334,7 @@ impl<S: System> Drop for NextText<S> {
             held: _,
             replaced: _,
             is_narrowed: _,
+            is_copied: _,
             stays: _,
         } = self;
     }
@@ -321,6 +345,16 @@ fn want_nothing<S: System>(system: &mut S, path: &str) -> Result<(), PlaceFault>
     match system.look(path) {
         Ok(_) => Err(PlaceFault::Exists),
         Err(error) if error.kind() == ErrorKind::NotFound => Ok(()),
+        Err(error) => Err(PlaceFault::unread(error)),
+    }
+}
+
+/// Refuses a place where there is another file than one that is known, or none.
+fn want_known<S: System>(system: &mut S, path: &str, known: Stamp) -> Result<(), PlaceFault> {
+    match system.look(path) {
+        Ok(found) if found.stamp == known => Ok(()),
+        Ok(_) => Err(PlaceFault::Changed),
+        Err(error) if error.kind() == ErrorKind::NotFound => Err(PlaceFault::Changed),
         Err(error) => Err(PlaceFault::unread(error)),
     }
 }

@@ -6,7 +6,7 @@ use crate::run::{Run, Subject};
 use crate::streams::devices::{Noted, flushed};
 use gx_cli::{CliFault, Repo, send_store};
 use gx_object::Sha1Namer;
-use gx_place::Limited;
+use gx_place::{Limited, Stamp};
 use gx_text::IntoWrite;
 use std::alloc::Global;
 use std::fs::File;
@@ -43,15 +43,29 @@ impl<'a> NextText<'a> {
         })
     }
 
+    /// That of a store file that another program has read, and whose next text it made.
+    pub(crate) fn claim_known(
+        run: &'a Run<'a>,
+        file: &'a str,
+        known: Stamp,
+    ) -> Result<NextText<'a>, RunFault> {
+        let (alloc, host) = (run.rt.alloc(), Host { run, file });
+        let claimed = gx_place::NextText::claim_known(alloc, host, file, run.patience(), known);
+        Ok(NextText {
+            run,
+            text: run.placed(claimed)?,
+        })
+    }
+
     /// The bytes of the store file, which has to be the same one still when the next text takes its place.
     pub(crate) fn read_store(&mut self) -> Result<Vec<u8>, RunFault> {
         let read = self.text.read_store(self.run.rt.alloc());
         self.run.placed(read)
     }
 
-    /// Writes the next text, makes it durable, and puts it into the store file's place. After a failure the store file is as it
-    /// was, unless it was the folder's sync that failed.
-    pub(crate) fn publish(&mut self, text: &[u8]) -> Result<(), RunFault> {
+    /// Writes the next text, makes it durable, and puts it into the store file's place. Answers the stamp of what is there then. After a
+    /// failure the store file is as it was, unless it was the folder's sync that failed.
+    pub(crate) fn publish(&mut self, text: &[u8]) -> Result<Stamp, RunFault> {
         let run = self.run;
         let mut file = run.placed(self.text.file())?;
         let written = file.write_all(text);
@@ -60,19 +74,22 @@ impl<'a> NextText<'a> {
     }
 
     /// The same of a repository's text, which goes out as it is made.
-    pub(crate) fn publish_store(&mut self, repo: &Repo<Sha1Namer, Global>) -> Result<(), RunFault> {
+    pub(crate) fn publish_store(
+        &mut self,
+        repo: &Repo<Sha1Namer, Global>,
+    ) -> Result<Stamp, RunFault> {
         let run = self.run;
         write_store(run, run.placed(self.text.file())?, repo)?;
         self.put_in_place()
     }
 
-    fn put_in_place(&mut self) -> Result<(), RunFault> {
+    fn put_in_place(&mut self) -> Result<Stamp, RunFault> {
         let put = self.text.put_in_place();
-        self.run.placed(put)?;
+        let stamp = self.run.placed(put)?;
         if self.text.is_narrowed() {
             self.run.tell_narrowed(self.text.place().store());
         }
-        Ok(())
+        Ok(stamp)
     }
 }
 

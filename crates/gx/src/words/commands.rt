@@ -2,7 +2,7 @@
 
 use crate::fault::RunFault;
 use crate::run::Run;
-use crate::stores::{collect, drop_refs, import, init};
+use crate::stores::{collect, drop_refs, import, init, put};
 use crate::streams::{Trial, adapt, answer_input, export, print, try_stream};
 use gx_cli::{CliFault, Features, Line};
 use std::hash::RandomState;
@@ -61,6 +61,7 @@ fn run_command(run: &Run<'_>, line: &Line<'_>, state: RandomState) -> Result<(),
         Line::Init { file, .. } => init(run, line, file, state),
         Line::Drop { file, .. } => drop_refs(run, line, file, state),
         Line::Gc { file, report, .. } => collect(run, file, *report, state),
+        Line::Put { file, stamp, .. } => put(run, file, stamp, state),
         Line::Import {
             file,
             done,

@@ -10,7 +10,7 @@ whose checksums aren't today's is stale.
     scripts/wrong_bodies.py --check           ends with 1 where a text doesn't stand once, or a document tells something else
     scripts/wrong_bodies.py --stale           prints those that are stale, and what changed
     scripts/wrong_bodies.py --try N [WORD..]  tries those that are stale, or those of the crates or CRATE/NAMEs that are given,
-                                              at most N crates at once, and writes their lines
+                                              at most N crates at once, writes their lines, and counts anew
     scripts/wrong_bodies.py --gate            tries again, over the libraries that `rt ci` left, those that a request names where
                                               more than a proof changed, and five that the commit's name picks; ends with 1 where
                                               one comes to something else, or has no line over its crate's contracts of today
@@ -36,6 +36,8 @@ TABLE = TOP / "docs" / "tried.tsv"
 PAGE = TOP / "docs" / "WRONG_BODIES.md"
 HEAD = ("# What each wrong body came to, and over what. scripts/wrong_bodies.py writes it, and docs/WRONG_BODIES.md tells of it.",)
 PICKED = 5
+# what a check of a large crate takes at most, in bytes
+MEMORY = 4 << 30
 
 
 @dataclass(frozen=True)
@@ -135,6 +137,12 @@ def tried(tree, keys, at_once, is_gate=False):
         yield from pool.map(try_crate, crates)
 
 
+def most_at_once():
+    """As many checks as there are processors, where each may take its share of memory."""
+    free = re.search(r"^MemAvailable: +(\d+) kB$", Path("/proc/meminfo").read_text(), re.M)
+    return max(1, min(len(os.sched_getaffinity(0)), int(free[1]) * 1024 // MEMORY))
+
+
 def minutes():
     used = resource.getrusage(resource.RUSAGE_CHILDREN)
     return f"{(used.ru_utime + used.ru_stime) / 60:.1f} processor minutes"
@@ -158,6 +166,7 @@ def try_them(tree, at_once, words):
             kinds[kind] += 1
             tree.lines[key] = tree.today(key, kind, commit_of(key[0]))
         write_lines(tree.lines)
+    write_counts()
     figures(tree, tree.stale(), f"; {sum(kinds.values())} tried, {minutes()}")
     return 0 if kinds.keys() <= {REFUSED, LIMIT} else 1
 
@@ -178,7 +187,7 @@ def gate(tree):
     for key, changed in sorted(lacking.items()):
         print(f"{'/'.join(key)}: its line in docs/tried.tsv isn't of today's text ({', '.join(changed)}): scripts/wrong_bodies.py --try", file=sys.stderr)
     keys, differ = picks(tree, printed("git", "rev-parse", "HEAD")), 0
-    for told in tried(tree, keys, len(os.sched_getaffinity(0)), is_gate=True):
+    for told in tried(tree, keys, most_at_once(), is_gate=True):
         for key, (kind, why) in sorted(told.items()):
             is_same = kind == tree.lines[key].verdict
             differ += not is_same
@@ -196,6 +205,13 @@ def standing():
         column = 0 if folder == "must-fail" else 1 if (crate, path.stem) in names else 2
         counts.setdefault(crate, [0, 0, 0])[column] += 1
     return counts
+
+
+def write_counts():
+    """Has the table of the page tell how many stand."""
+    rows = "".join("| " + " | ".join([f"`{crate}`", *map(str, counts)]) + " |\n" for crate, counts in standing().items())
+    text = re.sub(r"(?<=^\|---\|---\|---\|---\|\n)(?:\| `.*\n)+", rows, PAGE.read_text(), flags=re.M)
+    PAGE.write_text(text)
 
 
 def told_by_page():

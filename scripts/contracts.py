@@ -1,8 +1,9 @@
 """What the contracts of a crate say, and the definitions that they reach. For wrong_bodies.py.
 
-A contract is what `requires` and `ensures` of a function say, a trait's among them, and the views, invariants and other
-members of types that stand for proofs alone. It reaches the definitions that its words name by a `use`, those that these name
-in turn, in whatever crate, and the types and traits that it names. Comments and layout count for nothing.
+A contract is what `requires` and `ensures` of a function say, a trait's among them, and the views,
+invariants and other members of types that stand for proofs alone. It reaches the definitions that
+its words name by a `use`, those that these name in turn, in whatever crate, and the types and
+traits that it names. Comments and layout count for nothing.
 """
 
 import hashlib
@@ -12,12 +13,18 @@ from collections import defaultdict
 from sources import crate_of, files, parts_of
 
 WORD = re.compile(r"[^\s(){}\[\]<>;,&*:'\"`|]+")
-IMPORT = re.compile(r"^\s*(?:ghost )?use Rattle\.(?P<module>[\w.\-]+?)(?:\.\{(?P<names>.*)\}| as (?P<short>\w+));?$", re.M)
+IMPORT = re.compile(
+    r"^\s*(?:ghost )?use Rattle\.(?P<module>[\w.\-]+?)"
+    r"(?:\.\{(?P<names>.*)\}| as (?P<short>\w+));?$",
+    re.M,
+)
 OF_RUST = re.compile(r"^\s*(?:pub )?use (?P<crate>gx_\w+)::(?P<what>[^;]*);", re.M)
 SECTION = re.compile(r"^ *(?:module _ .* where|(?:abbrev |unfoldable )?mutual)$")
 HEAD = re.compile(r"^(?:(?:abbrev|unfoldable|pub|record|data) )*(?P<name>[^\s:({]+)")
 MODIFIER = re.compile(r"^(?:abbrev|unfoldable|pub|record|data) ")
 CONSTRUCTOR = re.compile(r"^ +(?:pub )?(?P<name>[^\s:]+) : ")
+# the crate whose wrong bodies change definitions
+LAWS = "gx_model"
 TYPE = re.compile(r"^ *(?:pub(?:\([\w :]+\))? )?(?:struct|enum|trait|type) (?P<name>\w+)")
 
 
@@ -27,8 +34,8 @@ def checksum(texts):
 
 def plain(text):
     """A text without its lines of comment and its layout."""
-    lines = (line.strip() for line in text.splitlines())
-    return re.sub(r"\s+", " ", " ".join(line for line in lines if not line.startswith(("--", "//")))).strip()
+    lines = [line.strip() for line in text.splitlines()]
+    return " ".join(" ".join(it for it in lines if not it.startswith(("--", "//"))).split())
 
 
 class Scope:
@@ -65,7 +72,7 @@ class Declared:
 
 
 def definitions_of(text):
-    """The definitions of a file of specs by name, each as its lines and the heads of the sections that it stands in."""
+    """The definitions of a file of specs by name: their lines, and the heads of their sections."""
     sections, found, name = [], {}, None
     for line in text.splitlines():
         if not line.strip() or re.match(r" *(--|use |pub mod |infix)", line):
@@ -158,7 +165,8 @@ class Contracts:
             # a crate may hand on the type of another
             keys = [(module, name), *((crate, name) for crate in self.crates_with.get(name, ()))]
         else:
-            keys = [(module, name), self.constructors.get((module, name)), (".".join(parts[:-1]), parts[-1])]
+            made_by = self.constructors.get((module, name))
+            keys = [(module, name), made_by, (".".join(parts[:-1]), parts[-1])]
         return next((key for key in keys if key in self.declared), None)
 
     def reached(self, crate):
@@ -181,7 +189,7 @@ class Contracts:
         return found
 
     def checksums(self, crate):
-        """Of the contracts of a crate, of the definitions in it that they reach, and of those in crates below."""
+        """Of a crate's contracts, of what they reach in it, and of what they reach below it."""
         own, below = [], []
         for key in sorted(self.reached(crate)):
             declared = self.declared[key]
@@ -191,7 +199,7 @@ class Contracts:
         return checksum(said), checksum(own), checksum(below)
 
     def code(self, crate):
-        """A checksum of what a crate's wrong bodies change: its code, and where it has laws alone their definitions, too."""
+        """A checksum of what a crate's wrong bodies change: its code, or definitions of laws."""
         folder = self.top / "crates" / crate
-        paths = [*folder.glob("src/**/*.rt"), *(folder.glob("specs/**/*.antt") if crate == "gx_model" else ())]
-        return checksum(f"{path.relative_to(folder)}: {plain(path.read_text())}" for path in sorted(paths))
+        paths = sorted(folder.glob("specs/**/*.antt" if crate == LAWS else "src/**/*.rt"))
+        return checksum(f"{path.relative_to(folder)}: {plain(path.read_text())}" for path in paths)

@@ -1,19 +1,26 @@
 #!/usr/bin/env python3
-"""Looks after the wrong bodies: which were tried over which contracts, and which have to be tried anew.
+"""Looks after the wrong bodies: what each came to, over what, and which have to be tried anew.
 
-A wrong body is an edit of the code that the proof of its crate has to refuse. Those of gx_model stand in its must-fail/ and are
-tried by `rt ci`. All others stand in crates/NAME/wrong/, and docs/tried.tsv has a line for each: what it came to, and checksums of
-what that rests on: the contracts of its crate, the definitions that these reach in it and in crates below, and the edit. A line
-whose checksums aren't today's is stale.
+A wrong body is an edit of the code that the proof of its crate has to refuse. Those of gx_model
+stand in its must-fail/ and are tried by `rt ci`. All others stand in crates/NAME/wrong/, and
+docs/tried.tsv has a line for each: what it came to, and checksums of what that rests on: the
+contracts of its crate, the definitions that these reach in it and in crates below, and the edit. A
+line whose checksums aren't today's is stale.
 
-    scripts/wrong_bodies.py                   prints how many stand in each crate: named by a request, others, stale
-    scripts/wrong_bodies.py --check           ends with 1 where a text doesn't stand once, or a document tells something else
-    scripts/wrong_bodies.py --stale           prints those that are stale, and what changed
-    scripts/wrong_bodies.py --try N [WORD..]  tries those that are stale, or those of the crates or CRATE/NAMEs that are given,
-                                              at most N crates at once, writes their lines, and counts anew
-    scripts/wrong_bodies.py --gate            tries again, over the libraries that `rt ci` left, those that a request names where
-                                              more than a proof changed, and five that the commit's name picks; ends with 1 where
-                                              one comes to something else, or has no line over its crate's contracts of today
+    scripts/wrong_bodies.py          prints of each crate how many stand: in must-fail/, named by a
+                                     request, others; and how many are stale
+    scripts/wrong_bodies.py --check  ends with 1 where a text doesn't stand once, or a document
+                                     tells something else
+    scripts/wrong_bodies.py --stale  prints those that are stale, and what changed
+    scripts/wrong_bodies.py --try N [WORD..]
+                                     tries those that are stale, or those of the crates or of the
+                                     CRATE/NAMEs that are given, N crates at once; writes their
+                                     lines, and how many stand
+    scripts/wrong_bodies.py --gate   tries again, over the libraries that `rt ci` left, those that
+                                     a request names where more than a proof changed, and five that
+                                     the commit's name picks; ends with 1 where one comes to
+                                     something else, or has no line over its crate's contracts of
+                                     today
 """
 
 import argparse
@@ -34,7 +41,7 @@ from wrong_trials import LIMIT, REFUSED, Edit, Graph, try_edits
 
 TABLE = TOP / "docs" / "tried.tsv"
 PAGE = TOP / "docs" / "WRONG_BODIES.md"
-HEAD = ("# What each wrong body came to, and over what. scripts/wrong_bodies.py writes it, and docs/WRONG_BODIES.md tells of it.",)
+HEAD = "# What each wrong body came to, and over what: docs/WRONG_BODIES.md tells of it."
 PICKED = 5
 # what a check of a large crate takes at most, in bytes
 MEMORY = 4 << 30
@@ -55,8 +62,13 @@ class Line:
     verdict: str
     commit: str
 
+    def differs(self, other, columns):
+        """Which of these columns another line has otherwise."""
+        return [name for name in columns if getattr(self, name) != getattr(other, name)]
+
 
 COLUMNS = [field.name for field in fields(Line)]
+RESTS_ON = ("contracts", "definitions", "below", "edit")
 
 
 def read_lines():
@@ -68,7 +80,11 @@ def read_lines():
 
 def write_lines(lines):
     rows = [COLUMNS, *(list(asdict(lines[key]).values()) for key in sorted(lines))]
-    TABLE.write_text("\n".join([*HEAD, *("\t".join(row) for row in rows)]) + "\n")
+    TABLE.write_text("\n".join([HEAD, *("\t".join(row) for row in rows)]) + "\n")
+
+
+def edits_below(pattern):
+    return [Edit(path) for path in sorted(TOP.glob(pattern))]
 
 
 class Tree:
@@ -76,7 +92,7 @@ class Tree:
 
     def __init__(self):
         self.graph, self.contracts = Graph(), Contracts(TOP)
-        self.edits = {(edit.crate, edit.name): edit for edit in map(Edit, sorted(TOP.glob("crates/*/wrong/*.edit")))}
+        self.edits = {(it.crate, it.name): it for it in edits_below("crates/*/wrong/*.edit")}
         self.lines, self.named, self.sums = read_lines(), told_by_page()[1], {}
 
     def today(self, key, verdict="", commit=""):
@@ -91,19 +107,23 @@ class Tree:
     def changed(self, key):
         """What differs from the line of a wrong body: names of its columns, or that it has none."""
         line = self.lines.get(key)
-        if line is None:
-            return ["no line"]
-        now = self.today(key)
-        return [name for name in ("contracts", "definitions", "below", "edit") if getattr(now, name) != getattr(line, name)]
+        return self.today(key).differs(line, RESTS_ON) if line else ["no line"]
 
     def stale(self):
         found = {key: self.changed(key) for key in self.edits}
         return {key: changed for key, changed in found.items() if changed}
 
 
+def say(text):
+    print(text, file=sys.stderr, flush=True)
+
+
 def figures(tree, stale, more=""):
-    below = sum(changed == ["below"] for changed in stale.values())
-    print(f"wrong bodies: {len(tree.edits) - len(stale)} held, {len(stale)} stale, {below} of them by a definition below alone{more}", file=sys.stderr)
+    held, below = len(tree.edits) - len(stale), sum(it == ["below"] for it in stale.values())
+    say(
+        f"wrong bodies: {held} held, {len(stale)} stale,"
+        f" {below} of them by a definition below alone{more}"
+    )
 
 
 def commit_of(crate):
@@ -113,25 +133,30 @@ def commit_of(crate):
 
 
 def printed(*words):
-    return subprocess.run(words, cwd=TOP, stdout=subprocess.PIPE, text=True, check=True).stdout.strip()
+    done = subprocess.run(words, cwd=TOP, stdout=subprocess.PIPE, text=True, check=True)
+    return done.stdout.strip()
 
 
 def make_libraries(tree, crates, is_gate):
-    """Has the libraries below crates built. Those that have no stamp are of the run of `rt ci` that the gate ends."""
+    """Has the libraries below crates built. Behind `rt ci` they stand, and have no stamp."""
     below = dict.fromkeys(name for crate in crates for name in tree.graph.below(crate))
-    is_made = is_gate and not any((tree.graph.library(name).parent / "stamp").exists() for name in below)
-    for name in [] if is_made else below:
-        subprocess.run(["rt", "lib", "--jobs", "1"], cwd=TOP / "crates" / name, stdout=sys.stderr, check=True)
+    stamps = [tree.graph.library(name).parent / "stamp" for name in below]
+    if is_gate and not any(stamp.exists() for stamp in stamps):
+        return
+    for name in below:
+        folder = TOP / "crates" / name
+        subprocess.run(["rt", "lib", "--jobs", "1"], cwd=folder, stdout=sys.stderr, check=True)
 
 
 def tried(tree, keys, at_once, is_gate=False):
-    """Tries wrong bodies, crate by crate as they end: what each came to, and why, by its key."""
+    """Tries wrong bodies, crate by crate: what each came to, and why, by its key."""
     crates = sorted({crate for crate, _ in keys})
     make_libraries(tree, crates, is_gate)
 
     def try_crate(crate):
         edits = [tree.edits[key] for key in sorted(keys) if key[0] == crate]
-        return {(crate, name): told for name, told in try_edits(tree.graph, crate, edits).items()}
+        found = try_edits(tree.graph, crate, edits)
+        return {(crate, name): told for name, told in found.items()}
 
     with ThreadPoolExecutor(at_once) as pool:
         yield from pool.map(try_crate, crates)
@@ -139,8 +164,9 @@ def tried(tree, keys, at_once, is_gate=False):
 
 def most_at_once():
     """As many checks as there are processors, where each may take its share of memory."""
-    free = re.search(r"^MemAvailable: +(\d+) kB$", Path("/proc/meminfo").read_text(), re.M)
-    return max(1, min(len(os.sched_getaffinity(0)), int(free[1]) * 1024 // MEMORY))
+    told = Path("/proc/meminfo").read_text()
+    free = int(re.search(r"^MemAvailable: +(\d+) kB$", told, re.M)[1]) * 1024
+    return max(1, min(len(os.sched_getaffinity(0)), free // MEMORY))
 
 
 def minutes():
@@ -150,10 +176,12 @@ def minutes():
 
 def asked(tree, words):
     """The wrong bodies of crates or of CRATE/NAMEs."""
-    found = {key for key in tree.edits for word in words if word in (key[0], "/".join(key))}
+    found = set()
     for word in words:
-        if not any(word in (key[0], "/".join(key)) for key in found):
+        meant = {key for key in tree.edits if word in (key[0], "/".join(key))}
+        if not meant:
             sys.exit(f"there is no wrong body {word}")
+        found |= meant
     return found
 
 
@@ -172,11 +200,14 @@ def try_them(tree, at_once, words):
 
 
 def picks(tree, commit):
-    """The wrong bodies that the gate tries again: those that a request names whose crate's code or what it reaches changed, and some
-    others that a commit's name picks."""
+    """The wrong bodies that the gate tries again.
+
+    Those that a request names whose crate's code or what it reaches changed, and some others that a
+    commit's name picks.
+    """
     now = {key: tree.today(key) for key in tree.edits if key in tree.lines}
-    same = ("contracts", "definitions", "below", "edit", "code")
-    moved = {key for key, line in now.items() if key in tree.named and any(getattr(line, it) != getattr(tree.lines[key], it) for it in same)}
+    named = now.keys() & tree.named
+    moved = {key for key in named if now[key].differs(tree.lines[key], (*RESTS_ON, "code"))}
     others = sorted(now.keys() - moved)
     return moved | set(random.Random(commit).sample(others, min(PICKED, len(others))))
 
@@ -185,20 +216,21 @@ def gate(tree):
     stale = tree.stale()
     lacking = {key: changed for key, changed in stale.items() if changed != ["below"]}
     for key, changed in sorted(lacking.items()):
-        print(f"{'/'.join(key)}: its line in docs/tried.tsv isn't of today's text ({', '.join(changed)}): scripts/wrong_bodies.py --try", file=sys.stderr)
+        why = ", ".join(changed)
+        say(f"{'/'.join(key)}: docs/tried.tsv has no line of today's text ({why}); see --try")
     keys, differ = picks(tree, printed("git", "rev-parse", "HEAD")), 0
     for told in tried(tree, keys, most_at_once(), is_gate=True):
         for key, (kind, why) in sorted(told.items()):
-            is_same = kind == tree.lines[key].verdict
-            differ += not is_same
-            more = "" if is_same else f", where its line has {tree.lines[key].verdict}: {why[:300]}"
-            print(f"{'/'.join(key)}: {kind}{more}", file=sys.stderr)
+            verdict = tree.lines[key].verdict
+            differ += kind != verdict
+            more = "" if kind == verdict else f", where its line has {verdict}: {why[:300]}"
+            say(f"{'/'.join(key)}: {kind}{more}")
     figures(tree, stale, f"; {len(keys)} tried again, {differ} otherwise; {minutes()}")
     return 1 if lacking or differ else 0
 
 
 def standing():
-    """How many wrong bodies stand in each crate: in must-fail/, and in wrong/ those that a request names and the others."""
+    """How many stand in each crate: in must-fail/, named by a request, and others."""
     names, counts = told_by_page()[1], {}
     for path in sorted(TOP.glob("crates/*/*/*.edit")):
         crate, folder = path.parts[-3:-1]
@@ -209,38 +241,66 @@ def standing():
 
 def write_counts():
     """Has the table of the page tell how many stand."""
-    rows = "".join("| " + " | ".join([f"`{crate}`", *map(str, counts)]) + " |\n" for crate, counts in standing().items())
-    text = re.sub(r"(?<=^\|---\|---\|---\|---\|\n)(?:\| `.*\n)+", rows, PAGE.read_text(), flags=re.M)
-    PAGE.write_text(text)
+    rows = [" | ".join([f"| `{crate}`", *map(str, it)]) for crate, it in standing().items()]
+    table = re.compile(r"(?<=^\|---\|---\|---\|---\|\n)(?:\| `.*\n)+", re.M)
+    PAGE.write_text(table.sub("".join(f"{row} |\n" for row in rows), PAGE.read_text()))
 
 
 def told_by_page():
-    """The same, as the table of the page has it, and the names that it lists, by crate."""
+    """What the table of the page tells, by crate, and the crates and names that its list has."""
     text = PAGE.read_text()
     rows = re.findall(r"^\| `(\w+)` \| (\d+) \| (\d+) \| (\d+) \|$", text, re.M)
-    names = re.findall(r"^- `(\w+)`: ((?:.|\n(?=  ))+)$", text, re.M)
-    return {crate: [int(it) for it in counts] for crate, *counts in rows}, {(crate, name) for crate, list in names for name in re.findall(r"`(\w+)`", list)}
+    names = set()
+    for crate, told in re.findall(r"^- `(gx\w*)`: ((?:.|\n(?=  ))+)$", text, re.M):
+        names |= {(crate, name) for name in re.findall(r"`(\w+)`", told)}
+    return {crate: [int(it) for it in counts] for crate, *counts in rows}, names
+
+
+def disagreements():
+    """What isn't as it has to be, of the edits, of the table and of the page."""
+    edits = {(it.crate, it.name) for it in edits_below("crates/*/wrong/*.edit")}
+    lines, (counts, names) = read_lines(), told_by_page()
+    for edit in edits_below("crates/*/*/*.edit"):
+        why = edit.misfit(TOP / "crates" / edit.crate)
+        if why:
+            yield f"{edit.path.relative_to(TOP)}: {why}"
+    for key, line in lines.items():
+        if key not in edits:
+            yield f"docs/tried.tsv has {'/'.join(key)}, which isn't there"
+        if line.verdict not in (REFUSED, LIMIT):
+            yield f"docs/tried.tsv: {'/'.join(key)} came to {line.verdict}"
+        if (line.named == "named") != (key in names):
+            yield f"docs/tried.tsv and the page differ on whether {'/'.join(key)} is named"
+    for key in sorted(names - edits):
+        yield f"docs/WRONG_BODIES.md names {'/'.join(key)}, which isn't there"
+    for crate, stand in standing().items():
+        if counts.get(crate) != stand:
+            yield f"{crate}: docs/WRONG_BODIES.md tells {counts.get(crate)}, and {stand} stand"
 
 
 def check():
-    wrong = [f"{path.relative_to(TOP)}: {why}" for path in sorted(TOP.glob("crates/*/*/*.edit")) if (why := Edit(path).misfit(path.parents[1]))]
-    lines, (counts, names) = read_lines(), told_by_page()
-    edits = {(path.parts[-3], path.stem) for path in TOP.glob("crates/*/wrong/*.edit")}
-    wrong += [f"docs/tried.tsv has a line of {'/'.join(key)}, which isn't there" for key in sorted(lines.keys() - edits)]
-    wrong += [f"docs/tried.tsv: {'/'.join(key)} was {line.verdict}" for key, line in lines.items() if line.verdict not in (REFUSED, LIMIT)]
-    wrong += [f"docs/WRONG_BODIES.md names {'/'.join(key)}, which isn't there" for key in sorted(names - edits)]
-    named = {key for key, line in lines.items() if line.named == "named"}
-    wrong += [f"docs/WRONG_BODIES.md and docs/tried.tsv differ on whether {'/'.join(key)} is named" for key in sorted(named ^ names & lines.keys())]
-    for crate, stand in standing().items():
-        if counts.get(crate) != stand:
-            wrong.append(f"{crate}: docs/WRONG_BODIES.md tells {counts.get(crate)}, and {stand} stand")
-    for it in wrong:
-        print(it, file=sys.stderr)
-    return 1 if wrong else 0
+    found = list(disagreements())
+    for it in found:
+        say(it)
+    return 1 if found else 0
+
+
+def tell(tree, is_asked_for_stale):
+    stale = tree.stale()
+    by_crate = Counter(crate for crate, _ in stale)
+    if is_asked_for_stale:
+        for key, changed in sorted(stale.items()):
+            print(f"{'/'.join(key)}: {', '.join(changed)}")
+    else:
+        for crate, counts in standing().items():
+            print(crate, *counts, by_crate[crate])
+    figures(tree, stale)
+    return 0
 
 
 def main():
-    parser = argparse.ArgumentParser(description=__doc__, formatter_class=argparse.RawDescriptionHelpFormatter)
+    form = argparse.RawDescriptionHelpFormatter
+    parser = argparse.ArgumentParser(description=__doc__, formatter_class=form)
     which = parser.add_mutually_exclusive_group()
     for flag in ("--check", "--stale", "--gate"):
         which.add_argument(flag, action="store_true")
@@ -252,18 +312,7 @@ def main():
     tree = Tree()
     if given.at_once:
         return try_them(tree, given.at_once, given.words)
-    if given.gate:
-        return gate(tree)
-    stale = tree.stale()
-    if given.stale:
-        for key, changed in sorted(stale.items()):
-            print(f"{'/'.join(key)}: {', '.join(changed)}")
-    else:
-        by_crate = Counter(crate for crate, _ in stale)
-        for crate, (gate_alone, named, others) in standing().items():
-            print(crate, gate_alone, named, others, by_crate[crate])
-    figures(tree, stale)
-    return 0
+    return gate(tree) if given.gate else tell(tree, given.stale)
 
 
 if __name__ == "__main__":

@@ -1,9 +1,9 @@
 """Wrong bodies and their trials. For wrong_bodies.py.
 
-A wrong body stands in a file: the source, a text that stands there once, and the text in its place. It is tried in a copy of its
-crate, over the libraries that stand built in `out/`, by a check of the functions that it changes, with those that they call.
-Several are tried in one check where no two change one function. One that changes more than functions is tried by a check of the
-whole crate.
+A wrong body stands in a file: the source, a text that stands there once, and the text in its place.
+It is tried in a copy of its crate, over the libraries that stand built in `out/`, by a check of the
+functions that it changes, with those that they call. Several are tried in one check where no two
+change one function. One that changes more than functions is tried by a check of the whole crate.
 """
 
 import re
@@ -19,7 +19,9 @@ LINE = re.compile(r"^(file|old|new): ?(.*)$", re.M)
 SAID = re.compile(r"^fn (?P<symbol>\S+): (?P<words>.*)$", re.M)
 CALLS = re.compile(r"it calls `(?P<symbol>\S+)`, which is not proved")
 # what the prover says of a text that it can't read, where no contract was tried
-UNREAD = re.compile(r"is not in scope|has no field|is no name|operand is missing|expected the end|cannot continue")
+UNREAD = re.compile(
+    r"is not in scope|has no field|is no name|operand is missing|expected the end|cannot continue"
+)
 
 REFUSED, PROVED, LIMIT, BAD = "refused", "proved", "limit", "bad"
 
@@ -49,7 +51,7 @@ class Edit:
         return None if self.pairs else "it changes nothing"
 
     def symbols(self, folder):
-        """The functions that it changes, as the prover names them, or none where it changes something else."""
+        """The functions that it changes, as the prover names them; none where it changes more."""
         found = [symbol_at(folder, file, old) for file, old, _ in self.pairs]
         return [] if None in found else sorted(set(found))
 
@@ -70,17 +72,19 @@ def symbol_at(folder, file, old):
 
 
 def module_of(file):
-    return [part for part in Path(file).with_suffix("").parts[1:] if part not in ("lib", "main", "mod")]
+    parts = Path(file).with_suffix("").parts[1:]
+    return [part for part in parts if part not in ("lib", "main", "mod")]
 
 
 def owner_of(folder, file, function):
-    """How the prover names what a function belongs to: the module of a type and the type, or the type and a trait of it."""
+    """How the prover names what a function belongs to: its module, or a type, or a type's trait."""
     trait, apart, kind = function.owner.removeprefix("trait ").rpartition(" for ")
     name = re.sub(r"<.*", "", kind).split("::")[-1].strip("& ")
     if not apart:
         return [*home_of(folder, file, name), name] if name else module_of(file)
     given = re.match(r"(?:\w+::)*From<(?:\w+::)*(\w+)", trait)
-    return [*module_of(file), name + re.sub(r"<.*", "", trait).split("::")[-1] + (given[1] if given else "")]
+    short = re.sub(r"<.*", "", trait).split("::")[-1] + (given[1] if given else "")
+    return [*module_of(file), name + short]
 
 
 def home_of(folder, file, name):
@@ -117,22 +121,23 @@ class Graph:
         """The words of a check, over the libraries as they stand built."""
         kit = Path(shutil.which("rattle")).resolve().parent.parent
         is_program = (self.top / "crates" / crate / "src" / "main.rt").exists()
-        words = ["--crate-name", crate, "src/main.rt" if is_program else "src/lib.rt", "-L", f"dependency={kit}/rlibs"]
+        words = ["--crate-name", crate, "src/main.rt" if is_program else "src/lib.rt"]
+        words += ["-L", f"dependency={kit}/rlibs"]
         for name in ["std", *self.named[crate]]:
             library = self.library(name) if name in self.named else kit / "rlibs" / f"{name}.rlib"
             words += ["--extern", f"{name}={library}"]
         for name in self.below(crate):
             words += ["-L", f"dependency={self.library(name).parent}"]
         words += ["--crate-type", "staticlib"] if crate in self.static else []
-        logic = ["--antt-project", f"{kit}/rattle/logic/antt-project.json", "--logic-built", f"{kit}/logic_built"]
-        return ["rattle", "check", *words, *logic, "--jobs", "1"]
+        words += ["--antt-project", f"{kit}/rattle/logic/antt-project.json"]
+        return ["rattle", "check", *words, "--logic-built", f"{kit}/logic_built", "--jobs", "1"]
 
     def unbuilt(self, crate):
         return [name for name in self.below(crate) if not self.library(name).is_dir()]
 
 
 class Room:
-    """A copy of a crate, in which edits are tried. What its checks prove is kept for the next one."""
+    """A copy of a crate, in which edits are tried. What a check proves is kept for the next one."""
 
     def __init__(self, graph, crate, folder):
         self.folder, self.crate = Path(folder), crate
@@ -150,39 +155,53 @@ class Room:
 
     def check(self, edits):
         """Checks the copy with all of these edits, and what it said."""
-        texts = {file: (self.folder / file).read_text() for edit in edits for file, _, _ in edit.pairs}
+        pairs = [pair for edit in edits for pair in edit.pairs]
+        texts = {file: (self.folder / file).read_text() for file, _, _ in pairs}
         changed = dict(texts)
-        for file, old, new in (pair for edit in edits for pair in edit.pairs):
+        for file, old, new in pairs:
             changed[file] = changed[file].replace(old, new, 1)
         only = [word for edit in edits for name in self.names(edit) for word in ("--only", name)]
         try:
-            for file, text in changed.items():
-                (self.folder / file).write_text(text)
-            how = {"cwd": self.folder, "stdin": subprocess.DEVNULL, "stdout": subprocess.PIPE, "stderr": subprocess.STDOUT}
-            return subprocess.run([*self.words, *only], **how, text=True, errors="replace")
+            self.write(changed)
+            how = {"stdin": subprocess.DEVNULL, "stdout": subprocess.PIPE, "stderr": subprocess.STDOUT}
+            how |= {"cwd": self.folder, "text": True, "errors": "replace"}
+            return subprocess.run([*self.words, *only], **how)
         finally:
-            for file, text in texts.items():
-                (self.folder / file).write_text(text)
+            self.write(texts)
+
+    def write(self, texts):
+        for file, text in texts.items():
+            (self.folder / file).write_text(text)
 
     def judge(self, edits):
-        """The verdict on each edit by its name, but on those that another one hides, and what was said of it."""
+        """The verdict on each edit, and why, by its name, but on those that another one hides."""
         ran = self.check(edits)
         if not self.names(edits[0]):
             return {edits[0].name: verdict_on_all(ran, edits[0])}
         said = {match["symbol"]: match["words"] for match in SAID.finditer(ran.stdout)}
-        tried = {f"{self.crate}::{name}" for edit in edits for name in self.names(edit)}
-        if not tried <= said.keys():
-            half = len(edits) // 2
-            bad = (BAD, next(iter(re.findall(r"^.*error.*$", ran.stdout, re.M)), f"status {ran.returncode}"))
-            return self.judge(edits[:half]) | self.judge(edits[half:]) if half else {edits[0].name: bad}
+        symbols = {edit.name: self.symbols_of(edit) for edit in edits}
+        if not set().union(*symbols.values()) <= said.keys():
+            return self.judge_apart(edits, ran)
         found = {}
         for edit in edits:
-            words = [said[f"{self.crate}::{name}"] for name in self.names(edit)]
-            kind, why = verdict_by(words)
+            words = [said[symbol] for symbol in symbols[edit.name]]
+            others = set().union(*(symbols[it.name] for it in edits if it != edit))
             calls = {match["symbol"] for match in map(CALLS.search, words) if match}
-            if len(edits) == 1 or kind != LIMIT and not calls & (tried - {f"{self.crate}::{name}" for name in self.names(edit)}):
-                found[edit.name] = (kind, why)
+            verdict = verdict_by(words)
+            if len(edits) == 1 or verdict[0] != LIMIT and not calls & others:
+                found[edit.name] = verdict
         return found
+
+    def judge_apart(self, edits, ran):
+        """The verdicts where a check of all said nothing of some, as where one isn't read."""
+        if len(edits) > 1:
+            half = len(edits) // 2
+            return self.judge(edits[:half]) | self.judge(edits[half:])
+        errors = re.findall(r"^.*error.*$", ran.stdout, re.M)
+        return {edits[0].name: (BAD, errors[0] if errors else f"status {ran.returncode}")}
+
+    def symbols_of(self, edit):
+        return {f"{self.crate}::{name}" for name in self.names(edit)}
 
 
 def verdict_by(words):
@@ -200,7 +219,8 @@ def verdict_on_all(ran, edit):
     last = ran.stdout.rstrip().rpartition("\n")[2]
     errors = re.findall(r"^(\S+?):\d+:\d+: error: (.*)$", ran.stdout, re.M)
     changed = {file for file, _, _ in edit.pairs}
-    unread = [text for file, text in errors if file.removeprefix("./") in changed and UNREAD.search(text)]
+    ours = [text for file, text in errors if file.removeprefix("./") in changed]
+    unread = [text for text in ours if UNREAD.search(text)]
     if ran.returncode == 0:
         return PROVED, "the crate is still proved"
     if ran.returncode == 1 and last.startswith("logic=not-proved") and not unread:
@@ -209,7 +229,7 @@ def verdict_on_all(ran, edit):
 
 
 def side_by_side(room, edits):
-    """As many edits as one check can try: no two change one function, and one that changes more than functions is alone."""
+    """As many edits as one check can try: no two of one function, or one of more than functions."""
     now, taken = [], set()
     for edit in edits:
         names = set(room.names(edit))

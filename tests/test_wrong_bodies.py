@@ -13,6 +13,8 @@ TOP = Path(__file__).resolve().parent.parent
 TRIED = "gx_where"
 BELOW = ("gx_model", "gx_text", "gx_stream", "gx_command")
 CRATES = (*BELOW, TRIED)
+PLACES = "crates/gx_where/specs/Places.antt"
+NOUGHT = "crates/gx_where/wrong/lines_are_counted_from_nought.edit"
 
 
 class Copy:
@@ -27,9 +29,11 @@ class Copy:
         for name in ("scripts", "docs"):
             shutil.copytree(TOP / name, top / name, ignore=shutil.ignore_patterns("__pycache__"))
         lines = (TOP / "crates.txt").read_text().splitlines(keepends=True)
-        (top / "crates.txt").write_text("".join(line for line in lines if line.split(":")[0] in CRATES))
+        kept = [line for line in lines if line.split(":")[0] in CRATES]
+        (top / "crates.txt").write_text("".join(kept))
+        git = ["git", "-c", "user.name=A", "-c", "user.email=a@x"]
         for words in (["init", "-q"], ["add", "crates.txt"], ["commit", "-q", "-m", "A"]):
-            subprocess.run(["git", "-c", "user.name=A", "-c", "user.email=a@x", *words], cwd=top, check=True)
+            subprocess.run([*git, *words], cwd=top, check=True)
 
     def hold_all(self) -> None:
         """Has the table say that each was refused over the text as it stands."""
@@ -44,14 +48,16 @@ class Copy:
         path.write_text(text.replace(old, new))
 
     def run(self, *words: str) -> subprocess.CompletedProcess[str]:
-        return subprocess.run([self.top / "scripts" / "wrong_bodies.py", *words], capture_output=True, text=True)
+        script = self.top / "scripts" / "wrong_bodies.py"
+        return subprocess.run([script, *words], capture_output=True, text=True)
 
     def stale(self) -> dict[str, str]:
         """What is stale beside what is so without a change, and why."""
         return dict(line.split(": ") for line in self.run("--stale").stdout.splitlines())
 
     def edits(self, crate: str) -> set[str]:
-        return {f"{crate}/{path.stem}" for path in (self.top / "crates" / crate / "wrong").glob("*.edit")}
+        folder = self.top / "crates" / crate / "wrong"
+        return {f"{crate}/{path.stem}" for path in folder.glob("*.edit")}
 
 
 @pytest.fixture
@@ -68,13 +74,13 @@ def fresh(copy: Copy) -> Copy:
 
 
 def test_without_a_clause_all_of_the_crate_are_stale(fresh: Copy) -> None:
-    clause = "    ensures line { IfOk result (λ place. place.line ≡ line_at text.now place.byte) }\n"
-    fresh.change("crates/gx_where/src/place.rt", clause, "")
+    clause = "ensures line { IfOk result (λ place. place.line ≡ line_at text.now place.byte) }"
+    fresh.change("crates/gx_where/src/place.rt", f"    {clause}\n", "")
     assert fresh.stale() == dict.fromkeys(fresh.edits(TRIED), "contracts")
 
 
 def test_a_definition_makes_stale_what_reaches_it(fresh: Copy) -> None:
-    fresh.change("crates/gx_where/specs/Places.antt", "line_at text byte = 1 + ", "line_at text byte = 2 + ")
+    fresh.change(PLACES, "line_at text byte = 1 + ", "line_at text byte = 2 + ")
     assert fresh.stale() == dict.fromkeys(fresh.edits(TRIED), "definitions")
 
 
@@ -84,12 +90,14 @@ def test_a_definition_below_is_told_apart(fresh: Copy) -> None:
     stale = fresh.stale()
     assert fresh.edits(TRIED) <= stale.keys()
     assert {stale[key] for key in fresh.edits(TRIED)} == {"below"}
-    assert f"{sum(why == 'below' for why in stale.values())} of them by a definition below alone" in fresh.run().stderr
+    below = sum(why == "below" for why in stale.values())
+    assert f"{below} of them by a definition below alone" in fresh.run().stderr
 
 
 def test_comments_layout_and_proofs_change_nothing(fresh: Copy) -> None:
-    fresh.change("crates/gx_where/src/lines.rt", "/// How many LFs stand in a text.", "/// The LFs of a text, counted.")
-    fresh.change("crates/gx_where/specs/Places.antt", "line_at text byte = 1 + ", "line_at text byte =  1  + ")
+    file = "crates/gx_where/src/lines.rt"
+    fresh.change(file, "/// How many LFs stand in a text.", "/// The LFs of a text, counted.")
+    fresh.change(PLACES, "line_at text byte = 1 + ", "line_at text byte =  1  + ")
     for path in (fresh.top / "crates/gx_where/proofs").rglob("*.antt"):
         path.write_text("-- a proof\n" + path.read_text())
     assert fresh.stale() == {}
@@ -103,7 +111,7 @@ def test_an_edit_and_one_without_a_line_are_told(fresh: Copy) -> None:
 
 
 def test_a_text_that_does_not_stand_once_is_told(fresh: Copy) -> None:
-    fresh.change("crates/gx_where/wrong/lines_are_counted_from_nought.edit", "old: line: 1 + count_lines(&text[..byte]),", "old: byte")
+    fresh.change(NOUGHT, "old: line: 1 + count_lines(&text[..byte]),", "old: byte")
     done = fresh.run("--check")
     assert done.returncode == 1
     assert "lines_are_counted_from_nought.edit: its text stands in src/place.rt" in done.stderr
@@ -115,7 +123,7 @@ def is_built() -> bool:
 
 @pytest.fixture
 def planted(copy: Copy) -> Copy:
-    """A copy with one wrong body, whose code changed since its line, over the libraries that stand built here."""
+    """A copy with one wrong body, over the libraries that stand built here."""
     if not is_built():
         pytest.skip("the libraries below gx_where aren't built")
     for crate in BELOW:
@@ -134,13 +142,15 @@ def test_the_gate_refuses_a_wrong_body_again_and_one_without_a_line(planted: Cop
     shutil.copy(folder / "lines_are_counted_from_nought.edit", folder / "new.edit")
     done = planted.run("--gate")
     assert done.returncode == 1
-    assert "gx_where/new: its line in docs/tried.tsv isn't of today's text (no line)" in done.stderr
-    assert "1 held, 1 stale, 0 of them by a definition below alone; 1 tried again, 0 otherwise" in done.stderr
+    assert "gx_where/new: docs/tried.tsv has no line of today's text (no line)" in done.stderr
+    assert "wrong bodies: 1 held, 1 stale, 0 of them" in done.stderr
+    assert "; 1 tried again, 0 otherwise; " in done.stderr
 
 
 def test_the_gate_tells_a_body_that_is_proved(planted: Copy) -> None:
-    planted.change("crates/gx_where/wrong/lines_are_counted_from_nought.edit", "new: line: count", "new: line: 1 + 0 + count")
+    planted.change(NOUGHT, "new: line: count", "new: line: 1 + 0 + count")
     planted.hold_all()
     done = planted.run("--gate")
     assert done.returncode == 1
-    assert "gx_where/lines_are_counted_from_nought: proved, where its line has refused" in done.stderr
+    name = "gx_where/lines_are_counted_from_nought"
+    assert f"{name}: proved, where its line has refused" in done.stderr

@@ -6,7 +6,7 @@ import os
 from pathlib import Path
 
 import pytest
-from conftest import SCRIPTS, TOP, Done, run_program
+from programs import SCRIPTS, TOP, Done, run_program
 
 NAMES = ("PREFIX", "BINDIR", "MANDIR", "BASHCOMPLETIONDIR", "ZSHCOMPLETIONDIR", "COMMIT")
 COMMIT = "0123456789abcdef0123456789abcdef01234567"

@@ -14,7 +14,7 @@ from collections.abc import Iterable
 from pathlib import Path
 
 import pytest
-from conftest import SCRIPTS, Done, Program, run_program
+from programs import SCRIPTS, Done, Program, run_program
 from hypothesis import given
 from hypothesis import strategies as st
 

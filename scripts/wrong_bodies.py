@@ -189,11 +189,13 @@ def try_them(tree, at_once, words):
     keys = asked(tree, words) if words else set(tree.stale())
     kinds = Counter()
     for told in tried(tree, keys, at_once):
+        new = {key: tree.today(key, kind, commit_of(key[0])) for key, (kind, _) in told.items()}
         for key, (kind, why) in sorted(told.items()):
             print(f"{kind} {'/'.join(key)}: {why[:200]}", flush=True)
             kinds[kind] += 1
-            tree.lines[key] = tree.today(key, kind, commit_of(key[0]))
-        write_lines(tree.lines)
+        # another run may have written lines meanwhile
+        tree.lines = read_lines() | new
+        write_lines({key: line for key, line in tree.lines.items() if key in tree.edits})
     write_counts()
     figures(tree, tree.stale(), f"; {sum(kinds.values())} tried, {minutes()}")
     return 0 if kinds.keys() <= {REFUSED, LIMIT} else 1

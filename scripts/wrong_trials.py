@@ -17,7 +17,8 @@ from sources import TOP, parts_of
 PARTS = ("src", "specs", "proofs")
 LINE = re.compile(r"^(file|old|new): ?(.*)$", re.M)
 SAID = re.compile(r"^fn (?P<symbol>\S+): (?P<words>.*)$", re.M)
-CALLS = re.compile(r"it calls `(?P<symbol>\S+)`, which is not proved")
+# said of a function because of others
+HIDDEN = re.compile(r"it calls .*, which (?:is|are) not proved")
 # what the prover says of a text that it can't read, where no contract was tried
 UNREAD = re.compile(
     r"is not in scope|has no field|is no name|operand is missing|expected the end|cannot continue"
@@ -185,11 +186,10 @@ class Room:
         found = {}
         for edit in edits:
             words = [said[symbol] for symbol in symbols[edit.name]]
-            others = set().union(*(symbols[it.name] for it in edits if it != edit))
-            calls = {match["symbol"] for match in map(CALLS.search, words) if match}
-            verdict = verdict_by(words)
-            if len(edits) == 1 or verdict[0] != LIMIT and not calls & others:
-                found[edit.name] = verdict
+            own = words if len(edits) == 1 else [it for it in words if not HIDDEN.search(it)]
+            kind, why = verdict_by(own)
+            if len(edits) == 1 or kind == REFUSED or kind == PROVED and own == words:
+                found[edit.name] = kind, why
         return found
 
     def judge_apart(self, edits, ran):

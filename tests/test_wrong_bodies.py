@@ -154,3 +154,13 @@ def test_the_gate_tells_a_body_that_is_proved(planted: Copy) -> None:
     assert done.returncode == 1
     name = "gx_where/lines_are_counted_from_nought"
     assert f"{name}: proved, where its line has refused" in done.stderr
+
+
+def test_one_that_another_hides_is_tried_apart(planted: Copy) -> None:
+    edit = "file: src/place.rt\nold:     if command == 0 {\nnew:     if 0 == command {\n"
+    (planted.top / NOUGHT).with_name("means_the_same.edit").write_text(edit)
+    planted.hold_all()
+    done = planted.run("--gate")
+    assert done.returncode == 1
+    assert "gx_where/lines_are_counted_from_nought: refused\n" in done.stderr
+    assert "gx_where/means_the_same: proved, where its line has refused" in done.stderr

@@ -13,7 +13,8 @@ line whose checksums aren't today's is stale.
                                      tells something else
     scripts/wrong_bodies.py --stale  prints those that are stale, and what changed
     scripts/wrong_bodies.py --try N [WORD..]
-                                     tries those that are stale, or those of the crates or of the
+                                     tries those that are stale, and those that a request names of
+                                     a crate whose code changed, or those of the crates or of the
                                      CRATE/NAMEs that are given, N crates at once; writes their
                                      lines, and how many stand
     scripts/wrong_bodies.py --gate   tries again, over the libraries that `rt ci` left, those that
@@ -113,6 +114,12 @@ class Tree:
         found = {key: self.changed(key) for key in self.edits}
         return {key: changed for key, changed in found.items() if changed}
 
+    def moved(self):
+        """Those that a request names whose crate's code, or what it reaches, is another now."""
+        named = self.named & self.lines.keys() & self.edits.keys()
+        columns = (*RESTS_ON, "code")
+        return {key for key in named if self.today(key).differs(self.lines[key], columns)}
+
 
 def say(text):
     print(text, file=sys.stderr, flush=True)
@@ -186,7 +193,7 @@ def asked(tree, words):
 
 
 def try_them(tree, at_once, words):
-    keys = asked(tree, words) if words else set(tree.stale())
+    keys = asked(tree, words) if words else tree.stale().keys() | tree.moved()
     kinds = Counter()
     for told in tried(tree, keys, at_once):
         new = {key: tree.today(key, kind, commit_of(key[0])) for key, (kind, _) in told.items()}
@@ -202,16 +209,9 @@ def try_them(tree, at_once, words):
 
 
 def picks(tree, commit):
-    """The wrong bodies that the gate tries again.
-
-    Those that a request names whose crate's code or what it reaches changed, and some others that a
-    commit's name picks.
-    """
-    now = {key: tree.today(key) for key in tree.edits if key in tree.lines}
-    named = now.keys() & tree.named
-    moved = {key for key in named if now[key].differs(tree.lines[key], (*RESTS_ON, "code"))}
-    others = sorted(now.keys() - moved)
-    return moved | set(random.Random(commit).sample(others, min(PICKED, len(others))))
+    """Those that the gate tries again: where more than a proof changed, and by a commit's name."""
+    others = sorted((tree.edits.keys() & tree.lines.keys()) - tree.moved())
+    return tree.moved() | set(random.Random(commit).sample(others, min(PICKED, len(others))))
 
 
 def gate(tree):

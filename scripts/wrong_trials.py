@@ -164,9 +164,15 @@ class Room:
         only = [word for edit in edits for name in self.names(edit) for word in ("--only", name)]
         try:
             self.write(changed)
-            how = {"stdin": subprocess.DEVNULL, "stdout": subprocess.PIPE, "stderr": subprocess.STDOUT}
-            how |= {"cwd": self.folder, "text": True, "errors": "replace"}
-            return subprocess.run([*self.words, *only], **how)
+            return subprocess.run(
+                [*self.words, *only],
+                cwd=self.folder,
+                stdin=subprocess.DEVNULL,
+                stdout=subprocess.PIPE,
+                stderr=subprocess.STDOUT,
+                text=True,
+                errors="replace",
+            )
         finally:
             self.write(texts)
 

@@ -4,6 +4,7 @@ from __future__ import annotations
 
 import os
 import random
+import shutil
 import tempfile
 from collections import Counter
 from collections.abc import Callable, Iterator
@@ -13,6 +14,7 @@ import pytest
 from hypothesis import HealthCheck, settings
 
 from programs import SCRIPTS, TOP, Program, Word, counted, printed, run_program
+from store_files import StoreFile
 
 # where the program may stand, the first one that does: proved, and made without proofs
 BUILT = (TOP / "crates/gx/out/gx", TOP / "out/try/gx")
@@ -154,3 +156,20 @@ def seed(request: pytest.FixtureRequest) -> int:
 @pytest.fixture
 def randoms(seed: int) -> random.Random:
     return random.Random(seed)
+
+
+@pytest.fixture(scope="session")
+def gx_of_all(gx_path: Path) -> Iterator[Path]:
+    """A copy of the program that other users may run, too."""
+    with tempfile.TemporaryDirectory(prefix="gx-of-all-") as name:
+        folder = Path(name)
+        folder.chmod(0o755)
+        shutil.copy(gx_path, folder / "gx")
+        (folder / "gx").chmod(0o755)
+        yield folder / "gx"
+
+
+@pytest.fixture
+def store(gx_of_all: Path, tmp_path: Path) -> StoreFile:
+    """A store of version 1 with one commit, in a folder of its own."""
+    return StoreFile(gx_of_all, tmp_path / "folder")

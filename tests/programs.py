@@ -6,6 +6,7 @@ import subprocess
 from collections import Counter
 from dataclasses import dataclass
 from pathlib import Path
+from typing import IO
 
 TOP = Path(__file__).resolve().parent.parent
 SCRIPTS = TOP / "scripts"
@@ -25,14 +26,13 @@ class Done:
     err: bytes
 
 
-def run_program(words: list[Word], stdin: bytes = b"", timeout: float = 60, **more) -> Done:
-    """Runs a program to its end; `more` is subprocess.run's."""
+def run_program(words: list[Word], stdin: bytes | int | IO = b"", timeout: float = 60, **more) -> Done:
+    """Runs a program to its end. Standard input is given as bytes, or as a file; `more` is subprocess.run's."""
     counted["programs run"] += 1
-    how = {"capture_output": True, "timeout": timeout, **more}
-    if "stdin" not in how:
-        how.setdefault("input", stdin)
+    given = {"input": stdin} if isinstance(stdin, bytes) else {"stdin": stdin}
+    how = {"stdout": subprocess.PIPE, "stderr": subprocess.PIPE, "timeout": timeout, **given, **more}
     done = subprocess.run(words, **how)
-    return Done(done.returncode, done.stdout, done.stderr)
+    return Done(done.returncode, done.stdout or b"", done.stderr or b"")
 
 
 def printed(done: Done, words: list[Word]) -> bytes:

@@ -4,9 +4,11 @@ from __future__ import annotations
 
 import itertools
 import os
+import random
 import re
 import shutil
 import signal
+import struct
 import sys
 import threading
 import time
@@ -461,6 +463,20 @@ def test_rights(world: World) -> None:
     assert rights == {"s.gx": 0o640, "s.gx.HEAD": 0o640, "s.gx.dropped": 0o600}
 
 
+def test_rights_by_a_list(world: World) -> None:
+    """Where an access list gives a user rights, the mode shows its mask, and nobody gets more by it."""
+    rows = [(1, 6, -1), (2, 4, 12345), (4, 0, -1), (16, 4, -1), (32, 0, -1)]
+    text = struct.pack("<I", 2) + b"".join(struct.pack("<HHi", *row) for row in rows)
+    try:
+        os.setxattr(world.store.path, "system.posix_acl_access", text)
+    except OSError as fault:
+        pytest.skip(str(fault))
+    world.repository.git("symbolic-ref", "HEAD", "refs/heads/side")
+    world.follows()
+    assert world.store.path.stat().st_mode & 0o777 == 0o640
+    assert world.store.beside(".HEAD").stat().st_mode & 0o777 == 0o600
+
+
 @pytest.mark.parametrize("ending", [".dropped", ".HEAD"])
 @pytest.mark.parametrize("kind", ["link", "fifo", "folder"])
 def test_file_of_another_kind(world: World, ending: str, kind: str) -> None:
@@ -534,32 +550,38 @@ def test_ref_that_became_symbolic(world: World) -> None:
 
 
 # a step is a program that begins, a lock, or a file of the store's that is opened, renamed or removed
-KILLER = """
-import os, signal, sys
+ENDING = """
+import errno, os, signal, sys
 
-steps = int(os.environ["STEPS"])
+steps, end, file, reached = int(os.environ["STEPS"]), *map(os.environ.get, ("END", "FILE", "REACHED"))
 
 def look(event, words):
     global steps
-    is_step = event in ("os.rename", "os.remove", "subprocess.Popen", "fcntl.flock")
-    if is_step or event == "open" and str(words[0]).startswith(os.environ["FILE"]):
+    is_of_files = event in ("open", "os.rename", "os.remove") and str(words[0]).startswith(file)
+    if is_of_files or event in ("subprocess.Popen", "fcntl.flock"):
         steps -= 1
-        if not steps:
-            os.killpg(0, signal.SIGKILL)
+        if steps == 0:
+            open(reached, "w").close()
+            if end == "killed":
+                os.killpg(0, signal.SIGKILL)
+            raise OSError(errno.EIO, "made to fail")
 
 if os.path.basename(sys.argv[0]) == "gx-mirror":
     sys.addaudithook(look)
 """
 
 
-def kill_at(world: World, step: int) -> bool:
-    """Runs the mirror up to a step, and answers whether it came to an end before."""
-    (world.folder / "sitecustomize.py").write_text(KILLER)
-    folder = str(world.folder)
-    more = {"PYTHONPATH": folder, "TMPDIR": folder, "STEPS": str(step), "FILE": str(world.store.path)}
-    done = world.mirror("--keep-days=1", env={**world.environment, **more}, start_new_session=True)
-    assert done.status in (0, -signal.SIGKILL), done
-    return done.status == 0
+def ends_at(world: World, step: int, end: str) -> bool:
+    """Runs the mirror up to a step that kills it or fails. Answers whether there was such a step."""
+    reached = world.folder / "reached"
+    reached.unlink(missing_ok=True)
+    (world.folder / "sitecustomize.py").write_text(ENDING)
+    more = {"STEPS": str(step), "END": end, "FILE": str(world.store.path), "REACHED": str(reached)}
+    env = {**world.environment, **more, "PYTHONPATH": str(world.folder), "TMPDIR": str(world.folder)}
+    done = world.mirror("--keep-days=1", env=env, start_new_session=True)
+    wanted = {"killed": -signal.SIGKILL, "failed": FAILED}[end] if reached.exists() else 0
+    assert done.status == wanted, done
+    return reached.exists()
 
 
 def change_all(world: World, number: int) -> None:
@@ -575,19 +597,21 @@ def change_all(world: World, number: int) -> None:
 
 
 def reached(world: World, digits: Iterable[bytes]) -> set[bytes]:
-    """The names of all objects that these reach in git."""
+    """The names of all objects that these reach in git, or reached before it forgot some."""
     words = ["rev-list", "--objects", "--no-object-names", "--stdin"]
-    return set(world.repository.git(*words, stdin=b"".join(name + b"\n" for name in digits)).split())
+    env = {**world.environment, "GIT_ALTERNATE_OBJECT_DIRECTORIES": str(world.folder / "forgotten")}
+    return set(world.repository.git(*words, stdin=b"".join(name + b"\n" for name in digits), env=env).split())
 
 
-def test_killed(world: World) -> None:
+@pytest.mark.parametrize("end", ["killed", pytest.param("failed", marks=pytest.mark.long)])
+def test_step_that_ends_a_run(world: World, end: str) -> None:
     """Whatever the step, the store has what its refs reached before, and the next run makes it good."""
-    step, is_done = 0, False
-    while not is_done:
+    step, is_ended = 0, True
+    while is_ended:
         change_all(world, step)
         kept = reached(world, world.store.refs().values())
         step += 1
-        is_done = kill_at(world, step)
+        is_ended = ends_at(world, step, end)
         assert kept <= world.store.names()
         world.follows("--keep-days=1")
         noted = [digits for digits, _ in world.store.notes()]
@@ -632,15 +656,24 @@ def test_import_meanwhile(world: World, counted: Counted) -> None:
 # histories at random
 
 
-def follow(world: World, history: History, steps: int) -> None:
-    marks = world.folder / "marks"
-    for _ in range(steps):
-        gone, text = history.step()
-        lines = b"".join(b"delete %s\n" % ref for ref in gone)
-        world.repository.git("update-ref", "--stdin", stdin=lines)
-        kept = [f"--import-marks-if-exists={marks}", f"--export-marks={marks}"]
-        world.repository.git("fast-import", "--quiet", "--force", *kept, stdin=text)
-        check_step(world)
+def take_step(world: World, history: History) -> None:
+    marks, repository = world.folder / "marks", world.repository
+    gone, text = history.step()
+    repository.git("update-ref", "--stdin", stdin=b"".join(b"delete %s\n" % ref for ref in gone))
+    kept = [f"--import-marks-if-exists={marks}", f"--export-marks={marks}"]
+    repository.git("fast-import", "--quiet", "--force", *kept, stdin=text)
+
+
+def forget(world: World, history: History) -> None:
+    """Git loses what no ref reaches, and the history goes on from what is left."""
+    marks, repository = world.folder / "marks", world.repository
+    shutil.copytree(repository.folder() / "objects", world.folder / "forgotten", dirs_exist_ok=True)
+    repository.git("gc", "-q", "--prune=now")
+    rows = [line.split() for line in marks.read_bytes().splitlines()]
+    told = repository.git("cat-file", "--batch-check", stdin=b"".join(row[1] + b"\n" for row in rows))
+    rows = [row for row, line in zip(rows, told.splitlines()) if not line.endswith(b" missing")]
+    marks.write_bytes(b"".join(b"%s %s\n" % tuple(row) for row in rows))
+    history.keep({int(mark[1:]) for mark, _ in rows})
 
 
 def check_step(world: World) -> None:
@@ -659,15 +692,26 @@ def check_step(world: World) -> None:
     assert world.store.names() == reached(world, [*noted, *after.values()])
 
 
-@given(randoms=st.randoms(use_true_random=False), steps=st.integers(4, 8))
-def test_random_history(randoms, steps: int, tmp_path_factory, gx: Program, environment: dict[str, str]) -> None:
+@given(randoms=st.randoms(use_true_random=False), forgets=st.lists(st.booleans(), min_size=4, max_size=8))
+def test_random_history(
+    randoms: random.Random, forgets: list[bool], tmp_path_factory, gx: Program, environment: dict[str, str]
+) -> None:
     """Commits, merges, roots, tags, moved and deleted refs: each step is followed, and nothing gets lost
-    until it is old. Then the store has just what git has."""
+    until it is old. Then the store has just what git has, and git takes what it exports."""
     world = World(tmp_path_factory.mktemp("history"), gx, environment)
-    follow(world, History(randoms), steps)
+    history = History(randoms)
+    for is_forgetting in forgets:
+        take_step(world, history)
+        if is_forgetting:
+            forget(world, history)
+        check_step(world)
     if world.store.beside(".dropped").exists():
         world.store.age(15)
     world.follows("--allow-empty")
     assert world.store.records() == world.repository.objects()
-    assert run_program([sys.executable, SCRIPTS / "check_store.py", world.store.path]).status == 0
+    check = [sys.executable, SCRIPTS / "check_store.py", world.store.path]
+    assert run_program(check).status == 0
+    copy = Repository(world.folder / "copy", environment)
+    copy.git("fast-import", "--quiet", "--done", stdin=gx.prints("export", world.store.path))
+    assert copy.refs() == world.repository.refs()
     shutil.rmtree(world.folder)

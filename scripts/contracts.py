@@ -73,9 +73,12 @@ class Declared:
 
 def definitions_of(text):
     """The definitions of a file of specs by name: their lines, and the heads of their sections."""
-    sections, found, name = [], {}, None
+    sections, ahead, found, name = [], [], {}, None
     for line in text.splitlines():
-        if not line.strip() or re.match(r" *(--|use |pub mod |infix)", line):
+        if not line.strip() or re.match(r" *(--|use |pub mod )", line):
+            continue
+        if line.lstrip().startswith("infix"):
+            ahead.append(line)
             continue
         indent = len(line) - len(line.lstrip())
         sections = [given for given in sections if given[0] < indent]
@@ -85,7 +88,8 @@ def definitions_of(text):
         is_outside = indent <= (sections[-1][0] + 2 if sections else 0)
         if is_outside and (MODIFIER.match(line.strip()) or " : " in line.partition(" = ")[0]):
             name = HEAD.match(line.strip())["name"]
-            found.setdefault(name, [head for _, head in sections])
+            found.setdefault(name, [head for _, head in sections] + ahead)
+            ahead = []
         if name:
             found[name].append(line)
     return found
@@ -112,12 +116,17 @@ class Contracts:
 
     def __init__(self, top):
         self.top = top
-        self.declared, self.constructors, self.crates_with = {}, {}, defaultdict(list)
-        self.clauses = defaultdict(list)
+        self.declared, self.constructors, self.roots = {}, {}, {}
+        self.types, self.clauses = defaultdict(set), defaultdict(list)
         for path in files(top, "specs/**/*.antt"):
             self.read_specs(path)
-        for path in files(top, "src/**/*.rt"):
-            self.read_code(path)
+        scopes = {path: self.read_code(path) for path in files(top, "src/**/*.rt")}
+        for path, scope in scopes.items():
+            crate = crate_of(top, path)
+            if path.name == "lib.rt":
+                self.roots[crate] = scope
+            for name in self.types[crate]:
+                scope.words[name].add((crate, name))
 
     def read_specs(self, path):
         text, crate = path.read_text(), crate_of(self.top, path)
@@ -149,25 +158,32 @@ class Contracts:
             # a ghost field has no owner here, and stands in its type's own text
             for name in re.findall(r"\w+", owner)[-1:]:
                 self.add_type(crate, name, Declared(crate, " ".join([owner, *texts]), scope))
+        return scope
 
     def add_type(self, crate, name, declared):
         """A type and the members that stand for proofs are one, wherever they stand."""
-        if (crate, name) not in self.declared:
-            self.crates_with[name].append(crate)
+        self.types[crate].add(name)
         self.declared.setdefault((crate, name), []).append(declared)
 
     def resolved(self, module, name):
         """The key of what a module has under a name, if a crate here declares it."""
         parts = module.split(".")
-        if len(parts) > 2 and parts[2] in ("declared", "contracts"):
+        if len(parts) == 1:
+            return self.resolved_type(module, name)
+        if parts[2:] and parts[2] in ("declared", "contracts"):
+            # `declared.entry.Entry.TheVariants` is the type `Entry`
             keys = [(parts[0], [part for part in parts if not part.startswith("The")][-1])]
-        elif len(parts) == 1:
-            # a crate may hand on the type of another
-            keys = [(module, name), *((crate, name) for crate in self.crates_with.get(name, ()))]
         else:
             made_by = self.constructors.get((module, name))
             keys = [(module, name), made_by, (".".join(parts[:-1]), parts[-1])]
         return next((key for key in keys if key in self.declared), None)
+
+    def resolved_type(self, crate, name):
+        """The key of a type that a crate declares, or hands on from another one."""
+        if (crate, name) in self.declared:
+            return (crate, name)
+        given = self.roots[crate].words.get(name, ()) if crate in self.roots else ()
+        return next((key for key in sorted(given) if key in self.declared), None)
 
     def reached(self, crate):
         """The keys of all definitions and types that the contracts of a crate reach."""

@@ -241,6 +241,20 @@ def test_import_between(world: World, words: list[str]) -> None:
     assert named["refs/heads/side"] == world.git("rev-parse", "side")
 
 
+def test_replaced(world: World) -> None:
+    """gx itself looks whether a ref loses commits, where git takes a commit for another."""
+    world.started()
+    old = world.git("rev-parse", "main")
+    other = world.git("commit-tree", "-p", "main~1", "-m", "Beside", "main^{tree}")
+    world.git("replace", "--graft", other, "main")
+    done = world.run("push", "--porcelain", "origin", f"{other}:refs/heads/main", "main:new")
+    assert done.status == 1 and b"(non-fast-forward)" in done.out, done.out
+    named = world.named()
+    assert (named["refs/heads/main"], named["refs/heads/new"]) == (old, old)
+    world.git("push", "-q", "origin", f"+{other}:main")
+    assert world.named()["refs/heads/main"] == other
+
+
 def test_atomic(world: World) -> None:
     """With --atomic all refs are set or none is, whatever refuses one of them, by one run of gx."""
     world.started()

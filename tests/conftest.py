@@ -1,4 +1,6 @@
-"""What the tests share: options, the program, git without settings, and stores in folders of their own."""
+"""What the tests share: options, the program, git without settings, and stores in folders of their
+own.
+"""
 
 from __future__ import annotations
 
@@ -27,14 +29,22 @@ settings.register_profile("long", max_examples=100, print_blob=True, **everythin
 
 def pytest_addoption(parser: pytest.Parser) -> None:
     group = parser.getgroup("ginlarch")
-    group.addoption("--gx", metavar="PROGRAM", help="the program to try, in place of GX or the built one")
+    group.addoption(
+        "--gx", metavar="PROGRAM", help="the program to try, in place of GX or the built one"
+    )
     group.addoption("--seed", type=int, help="begin random histories here, in place of 1")
-    group.addoption("--session", metavar="FILE", action="append", default=[], help="a file of sessions to run")
-    group.addoption("--long", action="store_true", help="run what is marked long, and longer histories")
+    group.addoption(
+        "--session", metavar="FILE", action="append", default=[], help="a file of sessions to run"
+    )
+    group.addoption(
+        "--long", action="store_true", help="run what is marked long, and longer histories"
+    )
 
 
 def pytest_configure(config: pytest.Config) -> None:
-    config.addinivalue_line("markers", "quick: run by `make test` and by the gate, as all that isn't long")
+    config.addinivalue_line(
+        "markers", "quick: run by `make test` and by the gate, as all that isn't long"
+    )
     config.addinivalue_line("markers", "long: run only with --long")
     if config.getoption("hypothesis_profile", None) is None:
         settings.load_profile("long" if config.getoption("long") else "quick")
@@ -66,7 +76,13 @@ def pytest_terminal_summary(terminalreporter) -> None:
     for reports in terminalreporter.stats.values():
         for report in reports:
             if getattr(report, "when", None) == "call":
-                sums.update({name: count for name, count in report.user_properties if isinstance(count, int)})
+                sums.update(
+                    {
+                        name: count
+                        for name, count in report.user_properties
+                        if isinstance(count, int)
+                    }
+                )
     for name, count in sorted(sums.items()):
         terminalreporter.write_line(f"{name}: {count}")
 
@@ -96,7 +112,11 @@ def environment(gx_path: Path, tmp_path_factory: pytest.TempPathFactory) -> dict
     commands.mkdir()
     (commands / "gx").symlink_to(gx_path)
     (commands / "git-remote-gx").symlink_to(SCRIPTS / "git-remote-gx")
-    who = {f"GIT_{side}_{what}": value for side in ("AUTHOR", "COMMITTER") for what, value in WHO.items()}
+    who = {
+        f"GIT_{side}_{what}": value
+        for side in ("AUTHOR", "COMMITTER")
+        for what, value in WHO.items()
+    }
     return {
         **who,
         "GIT_CONFIG_NOSYSTEM": "1",
@@ -115,7 +135,7 @@ def gx(gx_path: Path, environment: dict[str, str]) -> Program:
 
 @pytest.fixture(scope="session")
 def git(environment: dict[str, str]) -> Callable[..., bytes]:
-    """What a command of git prints, which has to end with 0: git(WORD.., cwd=FOLDER, stdin=BYTES)."""
+    """What a command of git prints that has to end with 0: git(WORD.., cwd=PATH, stdin=BYTES)."""
 
     def run(*words: Word, stdin: bytes = b"", **more) -> bytes:
         done = run_program(["git", *words], stdin, **{"env": environment, **more})
@@ -126,7 +146,10 @@ def git(environment: dict[str, str]) -> Callable[..., bytes]:
 
 @pytest.fixture
 def tmp_path() -> Iterator[Path]:
-    """A folder of the test's own, which goes with it, since stores may be large. Other users may pass through it."""
+    """A folder of the test's own, which goes with it, since stores may be large.
+
+    Other users may pass through it.
+    """
     with tempfile.TemporaryDirectory(prefix="gx-test-", ignore_cleanup_errors=True) as name:
         folder = Path(name)
         folder.chmod(0o755)

@@ -1,9 +1,11 @@
-"""Examples of the pages: blocks of lines that are indented by four spaces, or the manual's lines between .nf and .fi.
+"""Examples of the pages: blocks of lines that are indented by four spaces, or the manual's lines
+between .nf and .fi.
 
-A line `$ COMMAND` is run by bash, in a folder and a shell of its page; a line `> MORE` goes on with it. What stands below has to
-be what it prints; a line `...` is any lines, and where nothing stands there, anything may be printed. A command that is refused
-with a line `gx: ..` may end with any status, and every other one has to end with 0. In Markdown a comment above a block says more
-of it, and the manual has such comments, too:
+A line `$ COMMAND` is run by bash, in a folder and a shell of its page; a line `> MORE` goes on with
+it. What stands below has to be what it prints; a line `...` is any lines, and where nothing stands
+there, anything may be printed. A command that is refused with a line `gx: ..` may end with any
+status, and every other one has to end with 0. In Markdown a comment above a block says more of it,
+and the manual has such comments, too:
 
     <!-- file: NAME -->     the block is put into a file of this name
     <!-- needs: PROGRAM --> it is run only where this program is installed
@@ -82,14 +84,18 @@ def blocks_of_manual(text: str) -> Iterator[Block]:
         shown = re.sub(r"\\f[BIR]|\\&", "", found.group(2)).replace("\\-", "-")
         for mark, sign in (("\\(ha", "^"), ("\\(ti", "~"), ("\\(aq", "'"), ("\\e", "\\")):
             shown = shown.replace(mark, sign)
-        yield Block(text.count("\n", 0, found.start(2)) + 1, found.group(1) or "", shown.splitlines())
+        yield Block(
+            text.count("\n", 0, found.start(2)) + 1, found.group(1) or "", shown.splitlines()
+        )
 
 
 def is_shown(lines: list[str], printed: str) -> bool:
     """Whether lines are what was printed, a line `...` standing for any lines."""
     parts = [re.escape(line.rstrip()) for line in lines]
     pattern = "\n".join(r"(?:.*\n)*?.*" if part == re.escape("...") else part for part in parts)
-    return bool(re.fullmatch(pattern, printed.replace("\t", "    ")) or re.fullmatch(pattern, printed))
+    return bool(
+        re.fullmatch(pattern, printed.replace("\t", "    ")) or re.fullmatch(pattern, printed)
+    )
 
 
 @dataclass
@@ -133,9 +139,14 @@ class Shell:
         done = subprocess.run(["bash", ".script"], cwd=folder, env=environment, timeout=600, **how)
         answers = done.stdout.decode(errors="backslashreplace").split(END)
         found = []
-        for (first, command, shown), printed, status in zip(self.steps, answers[::2], answers[1::2]):
+        for (first, command, shown), printed, status in zip(
+            self.steps, answers[::2], answers[1::2]
+        ):
             if not holds(shown, printed.strip("\n"), status):
-                found.append(f"{self.page}:{first}: {command}\n  status {status.strip()}, printed:\n{printed}")
+                found.append(
+                    f"{self.page}:{first}: {command}\n"
+                    f"  status {status.strip()}, printed:\n{printed}"
+                )
         missing = len(self.steps) - len(answers) // 2
         return found + [f"{self.page}: the shell ended before {missing} commands"] * (missing > 0)
 

@@ -26,11 +26,22 @@ class Done:
     err: bytes
 
 
-def run_program(words: list[Word], stdin: bytes | int | IO = b"", timeout: float = 60, **more) -> Done:
-    """Runs a program to its end. Standard input is given as bytes, or as a file; `more` is subprocess.run's."""
+def run_program(
+    words: list[Word], stdin: bytes | int | IO = b"", timeout: float = 60, **more
+) -> Done:
+    """Runs a program to its end.
+
+    Standard input is given as bytes, or as a file; `more` is subprocess.run's.
+    """
     counted["programs run"] += 1
     given = {"input": stdin} if isinstance(stdin, bytes) else {"stdin": stdin}
-    how = {"stdout": subprocess.PIPE, "stderr": subprocess.PIPE, "timeout": timeout, **given, **more}
+    how = {
+        "stdout": subprocess.PIPE,
+        "stderr": subprocess.PIPE,
+        "timeout": timeout,
+        **given,
+        **more,
+    }
     done = subprocess.run(words, **how)
     return Done(done.returncode, done.stdout or b"", done.stderr or b"")
 

@@ -1,4 +1,6 @@
-"""Sessions in the notation of docs/TESTING.md: what a file of them says, and how one is run over the program gx and real files."""
+"""Sessions in the notation of docs/TESTING.md: what a file of them says, and how one is run over
+the program gx and real files.
+"""
 
 from __future__ import annotations
 
@@ -138,7 +140,9 @@ def command_of(text: str) -> tuple[list[str], str | None, str | None]:
 
 
 def failing(data: bytes) -> tuple[int, mmap.mmap]:
-    """A descriptor that gives these bytes, and then fails: this process's own memory, up to a page that no file is behind."""
+    """A descriptor that gives these bytes, and then fails: this process's own memory, up to a page
+    that no file is behind.
+    """
     page = mmap.PAGESIZE
     size = (len(data) + page - 1) // page * page
     with open(os.memfd_create("page"), "r+b") as file:
@@ -165,9 +169,16 @@ def counts(text: bytes) -> str:
 
 
 def is_refusal(told: bytes) -> bool:
-    """Whether lines on standard error end with a refusal. Those of a report end with a number, or with how a stream ended."""
+    """Whether lines on standard error end with a refusal.
+
+    Those of a report end with a number, or with how a stream ended.
+    """
     last = told[:-1].rpartition(b"\n")[2]
-    return told != b"" and not last[-1:].isdigit() and not last.startswith(b"gx: adapt: the stream ended ")
+    return (
+        told != b""
+        and not last[-1:].isdigit()
+        and not last.startswith(b"gx: adapt: the stream ended ")
+    )
 
 
 class Runner:
@@ -177,11 +188,21 @@ class Runner:
         self.gx, self.folder = gx, folder
 
     def spawn(self, words: list[str], source: int, err: int) -> tuple[int, bytes, bytes]:
-        done = subprocess.run([self.gx, *words], cwd=self.folder, stdin=source, stdout=subprocess.PIPE, stderr=err, timeout=60)
+        done = subprocess.run(
+            [self.gx, *words],
+            cwd=self.folder,
+            stdin=source,
+            stdout=subprocess.PIPE,
+            stderr=err,
+            timeout=60,
+        )
         return done.returncode, done.stdout, done.stderr or b""
 
     def spawn_at_terminal(self, words: list[str], source: int) -> tuple[int, bytes, bytes]:
-        """The same with standard error at a terminal, where an import tells what it did. The line of its progress goes."""
+        """The same with standard error at a terminal, where an import tells what it did.
+
+        The line of its progress goes.
+        """
         ours, theirs = pty.openpty()
         status, out, _ = self.spawn(words, source, theirs)
         os.close(theirs)
@@ -206,7 +227,9 @@ class Runner:
                 file.write(step.input)
             os.lseek(descriptor, 0, os.SEEK_SET)
         try:
-            if "--report" not in words and step.told.startswith((b"gx: commands: ", b"gx: pruned objects: ")):
+            if "--report" not in words and step.told.startswith(
+                (b"gx: commands: ", b"gx: pruned objects: ")
+            ):
                 return self.spawn_at_terminal(words, descriptor)
             return self.spawn(words, descriptor, subprocess.PIPE)
         finally:
@@ -214,7 +237,9 @@ class Runner:
             del area
 
     def store_of(self, words: list[str]) -> Path | None:
-        """The file of a command that is a store: the one of its words that is a file, or was to be made."""
+        """The file of a command that is a store: the one of its words that is a file, or was to be
+        made.
+        """
         files = os.listdir(self.folder)
         return next((self.folder / word for word in words[1:] if word in files), None)
 
@@ -225,7 +250,9 @@ class Runner:
         status, out, told = self.run_gx(step, words, source)
         refused = is_refusal(step.told)
         if status != refused:
-            raise Wrong(f"the status {int(refused)}\n", f"the status {status}\n{shown(out)}{shown(told)}")
+            raise Wrong(
+                f"the status {int(refused)}\n", f"the status {status}\n{shown(out)}{shown(told)}"
+            )
         if told != step.told and (step.told or words[0] != "adapt" or is_refusal(told)):
             raise Wrong(shown(step.told), shown(told))
         store = self.store_of(words)

@@ -81,7 +81,10 @@ def as_other() -> dict:
 def can_inject() -> bool:
     """Whether strace can change system calls here."""
     words = ["strace", "-qq", "-o", os.devnull, "-e", "inject=flock:error=EINTR:when=1", "true"]
-    return shutil.which("strace") is not None and subprocess.run(words, capture_output=True).returncode == 0
+    return (
+        shutil.which("strace") is not None
+        and subprocess.run(words, capture_output=True).returncode == 0
+    )
 
 
 needs_strace = pytest.mark.skipif(not can_inject(), reason="strace can't change system calls here")
@@ -116,7 +119,12 @@ class StoreFile:
     def start(self, *words: Word, **streams) -> subprocess.Popen:
         """Runs gx behind the test."""
         counted["programs run"] += 1
-        how = {"stdin": subprocess.DEVNULL, "stdout": subprocess.PIPE, "stderr": subprocess.PIPE, **streams}
+        how = {
+            "stdin": subprocess.DEVNULL,
+            "stdout": subprocess.PIPE,
+            "stderr": subprocess.PIPE,
+            **streams,
+        }
         return subprocess.Popen([self.gx, *words], **how)
 
     def start_waiting(self, **how) -> subprocess.Popen:
@@ -124,7 +132,9 @@ class StoreFile:
         child = self.start("import", self.path, stdin=subprocess.PIPE, **how)
         child.stdin.write(STREAM + b"progress half\n")
         child.stdin.flush()
-        assert child.stdout.readline() == b"progress half\n", "progress goes out while the stream is open"
+        assert (
+            child.stdout.readline() == b"progress half\n"
+        ), "progress goes out while the stream is open"
         return child
 
     def holds(self, *texts: bytes) -> bool:
@@ -166,4 +176,3 @@ def ended(child: subprocess.Popen, timeout: float = 60) -> Done:
     """What came of a run behind the test, whose input ends now."""
     out, err = child.communicate(timeout=timeout)
     return Done(child.returncode, out or b"", err or b"")
-

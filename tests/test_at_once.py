@@ -90,7 +90,9 @@ def read_meanwhile(store: StoreFile) -> Iterator[None]:
 
 @pytest.mark.parametrize("turn", range(1, ROUNDS + 1))
 def test_imports_at_once(store: StoreFile, branches: list[Path], turn: int) -> None:
-    """Twenty imports, of which some are killed: what has ended is there, and the store stands alone."""
+    """Twenty imports, of which some are killed: what has ended is there, and the store stands
+    alone.
+    """
     randoms = random.Random(turn)
     with read_meanwhile(store):
         runs = [start_branch(store, branch) for branch in branches[:RUNS]]
@@ -136,7 +138,9 @@ def touch(path: Path) -> None:
     os.utime(path, (978307200, 978307200))
 
 
-@pytest.mark.parametrize("change", [replace, rewrite, touch, Path.unlink], ids=lambda change: change.__name__)
+@pytest.mark.parametrize(
+    "change", [replace, rewrite, touch, Path.unlink], ids=lambda change: change.__name__
+)
 def test_changed_meanwhile(store: StoreFile, change: Callable[[Path], None]) -> None:
     """The import is refused, what stands there stays, and the new text is kept beside it."""
     child = store.start_waiting()

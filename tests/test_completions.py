@@ -1,4 +1,5 @@
-"""What bash completes: each line is cut into words as bash does it, and the answers are compared."""
+"""What bash completes: each line is cut into words as bash does it, and the answers are compared.
+"""
 
 from __future__ import annotations
 
@@ -43,7 +44,10 @@ _gx
 
 # a line up to the cursor, and what may stand there
 LINES = [
-    ("gx ", "blobs try check adapt where init import drop gc export show ls archive batch refs log rev-parse help --help"),
+    (
+        "gx ",
+        "blobs try check adapt where init import drop gc export show ls archive batch refs log rev-parse help --help",
+    ),
     ("gx -", "--help --explain --version"),
     ("gx --explain im", "import"),
     ("gx --explain import st", "store"),
@@ -113,7 +117,10 @@ LINES = [
     ("gx init store ", ""),
     ("gx show store m", "main"),
     ("gx show store refs/h", "refs/heads/main refs/heads/topic"),
-    ("gx show store ", "HEAD main topic origin/main v1 \\$\\(\\>ran\\) refs/tags/\\$\\(\\>ran\\) refs/heads/main refs/heads/topic refs/remotes/origin/main refs/tags/v1"),
+    (
+        "gx show store ",
+        "HEAD main topic origin/main v1 \\$\\(\\>ran\\) refs/tags/\\$\\(\\>ran\\) refs/heads/main refs/heads/topic refs/remotes/origin/main refs/tags/v1",
+    ),
     ("gx show store main ", ""),
     ("gx show store main:", ""),
     ("gx show nowhere m", ""),

@@ -1,4 +1,6 @@
-"""What the manual, the completions and README.md say of commands is compared with the program's own help."""
+"""What the manual, the completions and README.md say of commands is compared with the program's own
+help.
+"""
 
 from __future__ import annotations
 

@@ -1,9 +1,12 @@
-"""Runs the examples of the pages as they stand, in order, and compares what they print; tests/examples.py has their form.
+"""Runs the examples of the pages as they stand, in order, and compares what they print;
+tests/examples.py has their form.
 
-The folder `project` is there: a git repository with four commits on main, of README.md and other files, and a tag v1.0. `scripts`
-are those of this repository. Of docs/FAULTS.md the streams and store texts below its headings are given to the command of their
-part, into an empty store or one with a commit on main, and have to be refused by the line above. Its examples of each heading are
-run with this text as `stream`, and with FILE, a store with a commit on main; one below a refused revision has to be refused so.
+The folder `project` is there: a git repository with four commits on main, of README.md and other
+files, and a tag v1.0. `scripts` are those of this repository. Of docs/FAULTS.md the streams and
+store texts below its headings are given to the command of their part, into an empty store or one
+with a commit on main, and have to be refused by the line above. Its examples of each heading are
+run with this text as `stream`, and with FILE, a store with a commit on main; one below a refused
+revision has to be refused so.
 """
 
 from __future__ import annotations
@@ -86,7 +89,10 @@ def name_of(heading: Heading) -> str:
 @pytest.fixture(scope="session")
 def reader(environment: dict[str, str]) -> dict[str, str]:
     """The environment of a page's reader, who hasn't set GX."""
-    return {**{name: value for name, value in environment.items() if name != "GX"}, "GINLARCH": str(TOP)}
+    return {
+        **{name: value for name, value in environment.items() if name != "GX"},
+        "GINLARCH": str(TOP),
+    }
 
 
 @pytest.mark.parametrize("page", PAGES)
@@ -108,7 +114,10 @@ def test_refused(heading: Heading, gx: Program, new_store) -> None:
     if command in ("blobs", "adapt"):
         answers = [gx(command, stdin=text).err]
     elif command == "import":
-        answers = [gx("import", new_store(before, name), stdin=text).err for name, before in (("empty", b""), ("main", MAIN))]
+        answers = [
+            gx("import", new_store(before, name), stdin=text).err
+            for name, before in (("empty", b""), ("main", MAIN))
+        ]
     else:
         store = new_store()
         store.write_bytes(text)
@@ -117,7 +126,9 @@ def test_refused(heading: Heading, gx: Program, new_store) -> None:
 
 
 @pytest.mark.parametrize("heading", SHOWN, ids=name_of)
-def test_examples_of_fault(heading: Heading, reader: dict[str, str], new_store, tmp_path: Path) -> None:
+def test_examples_of_fault(
+    heading: Heading, reader: dict[str, str], new_store, tmp_path: Path
+) -> None:
     new_store(MAIN, "FILE")
     (tmp_path / "stream").write_bytes(heading.text() or MAIN)
     shell = Shell(f"docs/FAULTS.md, {heading.name}")

@@ -1,4 +1,5 @@
-"""What `gx import --explain`, `gx try --explain` and `gx where --fault` tell of refused streams that come through pipes in pieces.
+"""What `gx import --explain`, `gx try --explain` and `gx where --fault` tell of refused streams
+that come through pipes in pieces.
 
 In each stream `@@` stands before the faulty item, so that its line and byte are known.
 """
@@ -17,17 +18,31 @@ import pytest
 from programs import EMPTY_STORE, Done, Program, counted
 
 WHO = b"committer A <a@x> 1 +0000\n"
-# what stands before each faulty command: blocks whose bytes look like commands, comments, and items that end in each way
+# what stands before each faulty command: blocks whose bytes look like commands, comments, and items
+# that end in each way
 FRONT = (
-    b"# a comment\nblob\nmark :1\ndata 13\nblob\ncommit x\n\nblob\n# between\nmark :2\ndata <<END\ncommit refs/heads/y\nENDED\n\nEND\n\n"
-    b"blob\nmark :3\ndata 0\nprogress p\ncommit refs/heads/main\nmark :4\n" + WHO + b"data 2\nm\nM 100644 :1 a\n"
+    b"# a comment\nblob\nmark :1\ndata 13\nblob\ncommit x\n\nblob\n# between\nmark :2\ndata <<END\n"
+    b"commit refs/heads/y\nENDED\n\nEND\n\n"
+    b"blob\nmark :3\ndata 0\nprogress p\ncommit refs/heads/main\nmark :4\n"
+    + WHO
+    + b"data 2\nm\nM 100644 :1 a\n"
     b"M 100644 inline b\ndata 4\nD a\n# no change\nC a c\n\n"
 )
 COMMIT = b"commit refs/heads/main\n" + WHO + b"data 1\nx"
 DIGITS = b"0123456789" * 4
 # a message behind a long delimiter, with a line that has its front and its length
 END = b"E" * 250
-LONG = b"commit refs/heads/main\n" + WHO + b"data <<" + END + b"a\n" + END + b"b\nM 100644 :1 c\n" + END + b"a\n"
+LONG = (
+    b"commit refs/heads/main\n"
+    + WHO
+    + b"data <<"
+    + END
+    + b"a\n"
+    + END
+    + b"b\nM 100644 :1 c\n"
+    + END
+    + b"a\n"
+)
 
 # A fault, the stream behind FRONT, and the lines behind that of the place.
 CASES = [
@@ -54,19 +69,51 @@ CASES = [
     ("MissingDone", b"blob\ndata 1\nx\n@@", b""),
     ("MissingDone", b"blob\ndata 1\nx@@", b""),
     ("MissingDone", b"reset refs/heads/y@@", b""),
-    ("UnknownMark", COMMIT + b"D a\n@@M 100644 :77 x/y\nM 100644 :78 z\nblob\n", b"gx: change 2: x/y\ngx: asked for :77\n"),
-    ("UnknownMark", COMMIT + b"\nM 100644 inline d\ndata 4\nD\nD\nR a e\n@@M 100644 :77 x/y", b"gx: change 3: x/y\ngx: asked for :77\n"),
-    ("UnknownObject", COMMIT + b"@@M 100644 " + DIGITS + b' "\\303\\244"\n', b'gx: change 1: "\\303\\244"\ngx: asked for ' + DIGITS + b"\n"),
-    ("NoSuchPath", COMMIT + b"deleteall\nM 100644 :1 g\n@@R nothing d\n\nblob\ndata 0\n", b"gx: change 3: nothing\n"),
-    ("PathTooLong", COMMIT + b"M 100644 :1 p/q\n@@C p " + b"r/" * 2047 + b"s\n", b"gx: change 2: p\n"),
+    (
+        "UnknownMark",
+        COMMIT + b"D a\n@@M 100644 :77 x/y\nM 100644 :78 z\nblob\n",
+        b"gx: change 2: x/y\ngx: asked for :77\n",
+    ),
+    (
+        "UnknownMark",
+        COMMIT + b"\nM 100644 inline d\ndata 4\nD\nD\nR a e\n@@M 100644 :77 x/y",
+        b"gx: change 3: x/y\ngx: asked for :77\n",
+    ),
+    (
+        "UnknownObject",
+        COMMIT + b"@@M 100644 " + DIGITS + b' "\\303\\244"\n',
+        b'gx: change 1: "\\303\\244"\ngx: asked for ' + DIGITS + b"\n",
+    ),
+    (
+        "NoSuchPath",
+        COMMIT + b"deleteall\nM 100644 :1 g\n@@R nothing d\n\nblob\ndata 0\n",
+        b"gx: change 3: nothing\n",
+    ),
+    (
+        "PathTooLong",
+        COMMIT + b"M 100644 :1 p/q\n@@C p " + b"r/" * 2047 + b"s\n",
+        b"gx: change 2: p\n",
+    ),
     ("RootNotTree", b"blob\ndata 0\n\n" + COMMIT + b'@@C a ""\n\n', b"gx: change 1: a\n"),
     ("WrongKind", COMMIT + b"@@M 100644 :4 a\n", b"gx: change 1: a\ngx: asked for :4\n"),
     ("UnknownMark", b"@@" + COMMIT + b"from :4\nmerge :4\nmerge :77\n", b"gx: asked for :77\n"),
-    ("UnknownRef", b"@@reset refs/heads/new\nfrom n\303\266~2\n", b'gx: asked for "n\\303\\266~2"\n'),
-    ("UnknownObject", b"@@reset refs/heads/new\nfrom " + DIGITS + b"\n", b"gx: asked for " + DIGITS + b"\n"),
+    (
+        "UnknownRef",
+        b"@@reset refs/heads/new\nfrom n\303\266~2\n",
+        b'gx: asked for "n\\303\\266~2"\n',
+    ),
+    (
+        "UnknownObject",
+        b"@@reset refs/heads/new\nfrom " + DIGITS + b"\n",
+        b"gx: asked for " + DIGITS + b"\n",
+    ),
     ("BadPath", b"@@reset refs/heads/q\nfrom q:a//b\nblob\ndata 0\n", b"gx: asked for q:a//b\n"),
     ("BadPath", b"@@reset refs/heads/q\nfrom q:a//b\n", b"gx: asked for q:a//b\n"),
-    ("UnknownMark", b"blob\ndata " + b"0" * 300 + b"7\nreset x@@reset refs/heads/z\nfrom :77\n", b"gx: asked for :77\n"),
+    (
+        "UnknownMark",
+        b"blob\ndata " + b"0" * 300 + b"7\nreset x@@reset refs/heads/z\nfrom :77\n",
+        b"gx: asked for :77\n",
+    ),
     ("UnknownMark", LONG + b"@@M 100644 :77 bad\n", b"gx: change 1: bad\ngx: asked for :77\n"),
     ("WrongKind", b"@@tag v1\nfrom :1\ntagger A <a@x> 1 +0000\ndata 0\n", b"gx: asked for :1\n"),
 ]
@@ -128,7 +175,12 @@ class Explainer:
     def run(self, words: list[str], stream: bytes, most: int = 1000) -> Done:
         """Runs gx over a stream in pieces of at most so many bytes."""
         counted["programs run"] += 1
-        how = {"cwd": self.folder, "stdin": subprocess.PIPE, "stdout": subprocess.DEVNULL, "stderr": subprocess.PIPE}
+        how = {
+            "cwd": self.folder,
+            "stdin": subprocess.PIPE,
+            "stdout": subprocess.DEVNULL,
+            "stderr": subprocess.PIPE,
+        }
         with subprocess.Popen([self.gx.path, *words], **how) as child:
             feeder = threading.Thread(target=self.feed, args=(child.stdin, stream, most))
             feeder.start()
@@ -157,7 +209,9 @@ def words_of(kind: str) -> list[str]:
 
 @pytest.mark.parametrize("way", WAYS)
 @pytest.mark.parametrize("kind, text, further", CASES, ids=NAMES)
-def test_refused_stream(explainer: Explainer, way: str, kind: str, text: bytes, further: bytes) -> None:
+def test_refused_stream(
+    explainer: Explainer, way: str, kind: str, text: bytes, further: bytes
+) -> None:
     """Behind the line of the fault stands where it is, and what it asked for."""
     front, back, most = WAYS[way]
     stream, told = place(FRONT, text)
@@ -193,7 +247,9 @@ def loss(explainer: Explainer) -> tuple[bytes, bytes]:
 def test_loss_at_the_end(explainer: Explainer) -> None:
     text, line = loss(explainer)
     explainer.fresh(text)
-    assert explainer.run(["import", "--explain", "store"], OTHER, 7) == Done(1, b"", b"gx: command 2: NotFastForward\n" + line)
+    assert explainer.run(["import", "--explain", "store"], OTHER, 7) == Done(
+        1, b"", b"gx: command 2: NotFastForward\n" + line
+    )
 
 
 def test_loss_at_a_checkpoint(explainer: Explainer) -> None:
@@ -207,7 +263,13 @@ def test_loss_at_a_checkpoint(explainer: Explainer) -> None:
 @pytest.mark.parametrize(
     "words, store, stream, wanted",
     [
-        pytest.param(["import", "--explain", "store"], EMPTY_STORE, FRONT, Done(0, b"", b""), id="an accepted import"),
+        pytest.param(
+            ["import", "--explain", "store"],
+            EMPTY_STORE,
+            FRONT,
+            Done(0, b"", b""),
+            id="an accepted import",
+        ),
         pytest.param(
             ["import", "--explain", "store"],
             b"no store",
@@ -215,9 +277,15 @@ def test_loss_at_a_checkpoint(explainer: Explainer) -> None:
             Done(1, b"", b"gx: store: Truncated\n"),
             id="a store that isn't read",
         ),
-        pytest.param(["where", "--fault"], EMPTY_STORE, FRONT, Done(0, b"", b""), id="an accepted stream"),
         pytest.param(
-            ["where", "--fault"], EMPTY_STORE, b"progress 1\nprogress 2\n", Done(0, b"", b""), id="progress, not printed"
+            ["where", "--fault"], EMPTY_STORE, FRONT, Done(0, b"", b""), id="an accepted stream"
+        ),
+        pytest.param(
+            ["where", "--fault"],
+            EMPTY_STORE,
+            b"progress 1\nprogress 2\n",
+            Done(0, b"", b""),
+            id="progress, not printed",
         ),
         pytest.param(
             ["try", "--explain", "nothing"],
@@ -228,7 +296,9 @@ def test_loss_at_a_checkpoint(explainer: Explainer) -> None:
         ),
     ],
 )
-def test_nothing_explained(explainer: Explainer, words: list[str], store: bytes, stream: bytes, wanted: Done) -> None:
+def test_nothing_explained(
+    explainer: Explainer, words: list[str], store: bytes, stream: bytes, wanted: Done
+) -> None:
     explainer.fresh(store)
     assert explainer.run(words, stream) == wanted
 
@@ -238,7 +308,9 @@ def memory_of(gx: Program, folder: Path, words: list[str], stream: bytes) -> tup
     counted["programs run"] += 1
     (folder / "stream").write_bytes(stream)
     with (folder / "stream").open("rb") as source, (folder / "err").open("wb") as err:
-        child = subprocess.Popen([gx.path, *words], cwd=folder, stdin=source, stdout=subprocess.DEVNULL, stderr=err)
+        child = subprocess.Popen(
+            [gx.path, *words], cwd=folder, stdin=source, stdout=subprocess.DEVNULL, stderr=err
+        )
         _, status, used = os.wait4(child.pid, 0)
         child.returncode = os.waitstatus_to_exitcode(status)
     assert child.returncode == 1

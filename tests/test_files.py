@@ -1,4 +1,7 @@
-"""Files that are missing, unreadable, in the way, no files, or on a full disk: FILE holds its old text or the whole new one."""
+"""Files that are missing, unreadable, in the way, no files, or on a full disk:
+
+FILE holds its old text or the whole new one.
+"""
 
 from __future__ import annotations
 
@@ -11,14 +14,13 @@ from pathlib import Path
 
 import pytest
 
-from programs import EMPTY_STORE, SCRIPTS, Done, counted, run_program
+from programs import EMPTY_STORE, Done, counted, run_program
 from store_files import (
     LARGE,
     NEW,
     OLD,
     STREAM,
     UNKNOWN,
-    WIDE,
     StoreFile,
     as_other,
     no_command_line,
@@ -94,7 +96,9 @@ def test_input_that_is_a_folder(store: StoreFile) -> None:
 def test_no_file(store: StoreFile, kind: str, command: str) -> None:
     """What is no file isn't waited for."""
     os.mkfifo(store.folder / "pipe")
-    place = {"pipe": store.folder / "pipe", "device": Path("/dev/zero"), "folder": store.folder}[kind]
+    place = {"pipe": store.folder / "pipe", "device": Path("/dev/zero"), "folder": store.folder}[
+        kind
+    ]
     words = ["main"] if command == "show" else []
     refused(store.run(command, place, *words, stdin=STREAM, timeout=5), "read failed")
 
@@ -257,7 +261,8 @@ def test_words_that_are_no_text(store: StoreFile) -> None:
 
 # ---- a full disk, and the size that a file may have
 
-# a disk of sixteen pages, which only this run sees: an import of what doesn't fit, and an init where no page is left
+# a disk of sixteen pages, which only this run sees: an import of what doesn't fit, and an init
+# where no page is left
 SMALL_DISK = """
 mount -t tmpfs -o size=64k tmpfs "$2" || exit 77
 cp "$3" "$2/store" || exit 77
@@ -312,7 +317,15 @@ def test_size_of_a_file(store: StoreFile) -> None:
 
 @pytest.mark.parametrize(
     "words",
-    [["refs"], ["show", "main"], ["show", "main:test.txt"], ["rev-parse", "main"], ["log", "main"], ["ls", "main"], ["archive", "main"]],
+    [
+        ["refs"],
+        ["show", "main"],
+        ["show", "main:test.txt"],
+        ["rev-parse", "main"],
+        ["log", "main"],
+        ["ls", "main"],
+        ["archive", "main"],
+    ],
     ids=" ".join,
 )
 def test_full_output(store: StoreFile, words: list[str]) -> None:
@@ -337,11 +350,17 @@ def test_closed_output_of_an_import(store: StoreFile) -> None:
 def test_closed_pipe(store: StoreFile, words: list[str], tmp_path: Path) -> None:
     """A reader that goes after a byte ends a run quietly, with status 1."""
     body = b"x" * 16000000
-    stream = b"commit refs/heads/wide\ncommitter A <a@x> 1 +0000\ndata 0\nM 100644 inline a\ndata %d\n" % len(body) + body
+    stream = (
+        b"commit refs/heads/wide\ncommitter A <a@x> 1 +0000\ndata 0\nM 100644 inline a\ndata %d\n"
+        % len(body)
+        + body
+    )
     assert store.take(stream).status == 0
     (tmp_path / "stream").write_bytes(stream)
     with (tmp_path / "stream").open("rb") as given:
-        child = store.start(*(store.path if word == "FILE" else word for word in words), stdin=given)
+        child = store.start(
+            *(store.path if word == "FILE" else word for word in words), stdin=given
+        )
     child.stdout.read(1)
     child.stdout.close()
     assert child.stderr.read() == b""
@@ -374,42 +393,10 @@ def test_help_that_is_not_taken(store: StoreFile) -> None:
 
 def test_version(store: StoreFile) -> None:
     told = store.run("--version").out.decode()
-    assert re.fullmatch(r"gx [0-9.]+ \(rattle-kit-[0-9a-z]+, commit (unknown|[0-9a-f]{40})\)\n", told)
+    assert re.fullmatch(
+        r"gx [0-9.]+ \(rattle-kit-[0-9a-z]+, commit (unknown|[0-9a-f]{40})\)\n", told
+    )
     if shutil.which("rt"):
         # a kit that proves another program proves it anew
         kit = subprocess.run(["rt", "version"], capture_output=True, text=True).stdout.split(" ")[0]
         assert f"({kit}, " in told
-
-
-# ---- stores, by the checker that knows nothing of gx
-
-
-def is_taken(folder: Path, text: bytes) -> bool:
-    path = folder / "checked"
-    path.write_bytes(text)
-    return run_program(["python3", SCRIPTS / "check_store.py", path]).status == 0
-
-
-@pytest.mark.parametrize("text", [EMPTY_STORE, NEW, WIDE], ids=["empty", "new", "wide"])
-def test_checker_takes(tmp_path: Path, text: bytes) -> None:
-    assert is_taken(tmp_path, text)
-
-
-@pytest.mark.parametrize(
-    "old, new",
-    [
-        (b" 83ba", b" 83bb"),
-        (b"\nversion 1", b"\nversion 2"),
-        (b"\nobjects 4", b"\nobjects 5"),
-        (b"\n02d6", b"\n12d6"),
-        (b"\nrefs 1", b"\nrefs 2"),
-        (b"\nend", b"\nEnd"),
-    ],
-)
-def test_checker_refuses(tmp_path: Path, old: bytes, new: bytes) -> None:
-    assert NEW.count(old) == 1
-    assert not is_taken(tmp_path, NEW.replace(old, new))
-
-
-def test_checker_refuses_version_1(tmp_path: Path) -> None:
-    assert not is_taken(tmp_path, OLD)

@@ -1,4 +1,7 @@
-"""Imports that are killed, or whose system calls fail: FILE has its old text or the whole new one, and the next run is done."""
+"""Imports that are killed, or whose system calls fail:
+
+FILE has its old text or the whole new one, and the next run is done.
+"""
 
 from __future__ import annotations
 
@@ -52,7 +55,9 @@ def left_whole(store: StoreFile) -> None:
     assert store.holds(OLD, WIDE)
     counted["imports killed"] += 1
     counted["imports killed that had put their text in place"] += store.holds(WIDE)
-    counted["imports killed that left a part of it"] += store.next.exists() and store.next.stat().st_size > 0
+    counted["imports killed that left a part of it"] += (
+        store.next.exists() and store.next.stat().st_size > 0
+    )
     store.path.write_bytes(OLD)
 
 
@@ -95,7 +100,8 @@ def injected(store: StoreFile, change: str, trace: Path) -> Done:
 
 @needs_strace
 @pytest.mark.parametrize(
-    "change, fault", [("flock:error=ENOLCK", "lock failed"), ("rename:error=EACCES", "write failed")]
+    "change, fault",
+    [("flock:error=ENOLCK", "lock failed"), ("rename:error=EACCES", "write failed")],
 )
 def test_refusing_system(store: StoreFile, change: str, fault: str, tmp_path: Path) -> None:
     """A file system without locks, and a new text that isn't put into its place."""
@@ -103,16 +109,24 @@ def test_refusing_system(store: StoreFile, change: str, fault: str, tmp_path: Pa
 
 
 @needs_strace
-@pytest.mark.parametrize("call", ["flock", "fchmod", "write", "fsync:when=1", "rename", "fsync:when=2"])
+@pytest.mark.parametrize(
+    "call", ["flock", "fchmod", "write", "fsync:when=1", "rename", "fsync:when=2"]
+)
 def test_killed_at_a_call(store: StoreFile, call: str, tmp_path: Path) -> None:
-    assert injected(store, f"{call}:signal=KILL", tmp_path / "trace").status in (KILLED, 128 - KILLED)
+    assert injected(store, f"{call}:signal=KILL", tmp_path / "trace").status in (
+        KILLED,
+        128 - KILLED,
+    )
     assert store.holds(OLD, NEW)
     done = store.take(branch_stream(1))
     assert (done.status, done.err) == (0, b"")
     assert store.names() == {"store"}
 
 
-CALLS = "openat statx fstat readlink flock fchmod fchown read write fsync rename unlink prlimit64 getrandom".split()
+CALLS = (
+    "openat statx fstat readlink flock fchmod fchown read write fsync rename unlink prlimit64"
+    " getrandom"
+).split()
 
 
 def is_sound(store: StoreFile, status: int) -> bool:

@@ -10,7 +10,18 @@ from pathlib import Path
 import pytest
 
 from programs import Done, run_program
-from store_files import NEW, OLD, STREAM, StoreFile, as_other, ended, is_root, mode_of, needs_strace, needs_users
+from store_files import (
+    NEW,
+    OLD,
+    STREAM,
+    StoreFile,
+    as_other,
+    ended,
+    is_root,
+    mode_of,
+    needs_strace,
+    needs_users,
+)
 
 UMASKS = [0o000, 0o002, 0o022, 0o077]
 
@@ -65,7 +76,9 @@ def test_set_user_and_group_bits_go(store: StoreFile) -> None:
     ],
 )
 def test_group_bits(store: StoreFile, mode: int, umask: int, left: int) -> None:
-    """The group of new files, which nobody chose: its bits may be the mask of an access control list."""
+    """The group of new files, which nobody chose: its bits may be the mask of an access control
+    list.
+    """
     store.path.chmod(mode)
     done = store.take(umask=umask)
     assert mode_of(store.path) == left
@@ -111,7 +124,9 @@ def test_member_of_the_group(store: StoreFile) -> None:
 
 
 @needs_users
-@pytest.mark.parametrize("mode, left", [(0o664, 0o644), (0o604, 0o600), (0o646, 0o644), (0o644, 0o644)])
+@pytest.mark.parametrize(
+    "mode, left", [(0o664, 0o644), (0o604, 0o600), (0o646, 0o644), (0o644, 0o644)]
+)
 def test_another_user(store: StoreFile, mode: int, left: int) -> None:
     """A user who may read a store puts one of their own in its place, and opens it to nobody."""
     own(store, mode)
@@ -130,8 +145,12 @@ def test_what_is_written_meanwhile(store: StoreFile, umask: int) -> None:
     child = store.start_waiting(umask=umask)
     assert mode_of(store.next) == 0o600
     if is_root():
-        assert run_program(["cat", store.next], **as_other()).status != 0, "another user can't read it"
-        assert run_program(["flock", "-n", store.next, "true"], **as_other()).status != 0, "nor lock it"
+        assert (
+            run_program(["cat", store.next], **as_other()).status != 0
+        ), "another user can't read it"
+        assert (
+            run_program(["flock", "-n", store.next, "true"], **as_other()).status != 0
+        ), "nor lock it"
     store.made(ended(child), NEW)
 
 
@@ -151,10 +170,20 @@ def test_stranger_holds_up_no_run(store: StoreFile) -> None:
     """Somebody who may not read a store has made the next text's file, and locks it."""
     own(store, 0o600)
     store.folder.chmod(0o1777)
-    words = ["sh", "-c", ': > "$1" && exec flock "$1" sh -c "echo locked && exec sleep 20"', "sh", store.next]
-    with subprocess.Popen(words, stdout=subprocess.PIPE, start_new_session=True, **as_user(1002, 3000, 3000)) as holder:
+    words = [
+        "sh",
+        "-c",
+        ': > "$1" && exec flock "$1" sh -c "echo locked && exec sleep 20"',
+        "sh",
+        store.next,
+    ]
+    with subprocess.Popen(
+        words, stdout=subprocess.PIPE, start_new_session=True, **as_user(1002, 3000, 3000)
+    ) as holder:
         assert holder.stdout.readline() == b"locked\n"
-        done = store.run("--explain", "import", store.path, stdin=STREAM, timeout=10, **as_user(1001, 2001, 2001))
+        done = store.run(
+            "--explain", "import", store.path, stdin=STREAM, timeout=10, **as_user(1001, 2001, 2001)
+        )
         os.killpg(holder.pid, 9)
     cause = f"gx: {store.next}: made by a user who has no rights on the store\n"
     assert done == Done(1, b"", b"gx: lock failed\n" + cause.encode())

@@ -1,5 +1,7 @@
-"""What gx tells at a terminal: the line that says how far an import, a try or an export is, and what import, gc and adapt tell at
-their end. A file gets none of it, and standard output stays the same."""
+"""What gx tells at a terminal: the line that says how far an import, a try or an export is, and
+what import, gc and adapt tell at their end. A file gets none of it, and standard output stays
+the same.
+"""
 
 from __future__ import annotations
 
@@ -21,16 +23,28 @@ from programs import EMPTY_STORE, Done, Program, counted
 CLEAR = b"\r\x1b[K"
 LINE = re.compile(rb"\rgx: (\d+)\.(\d) MB\x1b\[K")
 
-# A stream in pieces. Of a short one, which is read at once, it is told what its line shows: the tenths of megabytes up to its end.
+# A stream in pieces. Of a short one, which is read at once, it is told what its line shows: the
+# tenths of megabytes up to its end.
 Pieces = list[tuple[bytes, int | None]]
 PIECES: Pieces = [
     (b"feature done\nprogress a\nblob\nmark :1\ndata 500000\n", 0),
     (b"blob\n" * 60000, None),
     (b"blob\n" * 39000, None),
     (b"blob\n" * 800, 4),
-    (b"blob\n" * 200 + b"\nblob\ndata <<END\ncheckpoint\nENDING\n\nreset refs/x\nEND\n# tag t\n", 5),
-    (b"commit refs/heads/main\nmark :2\ncommitter A <a@x> 1 +0000\ndata 4\ntag M 100644 :1 checkpoint\n\nche", None),
-    (b"ckpoint\n\nreset refs/heads/b\nfrom :2\n\ntag t\nfrom :2\ntagger A <a@x> 2 +0000\ndata 2\nt\n\nprogress b\ndone\n", None),
+    (
+        b"blob\n" * 200 + b"\nblob\ndata <<END\ncheckpoint\nENDING\n\nreset refs/x\nEND\n# tag t\n",
+        5,
+    ),
+    (
+        b"commit refs/heads/main\nmark :2\ncommitter A <a@x> 1 +0000\ndata 4\ntag "
+        b"M 100644 :1 checkpoint\n\nche",
+        None,
+    ),
+    (
+        b"ckpoint\n\nreset refs/heads/b\nfrom :2\n\ntag t\nfrom :2\ntagger A <a@x> 2 +0000\ndata 2\n"
+        b"t\n\nprogress b\ndone\n",
+        None,
+    ),
 ]
 STREAM = b"".join(piece for piece, _ in PIECES)
 REPORT = b"gx: commands: 10, objects: 5, refs: 3\r\n"
@@ -44,7 +58,9 @@ def tenths(seen: bytes) -> list[int]:
 def are_of_pieces(shown: list[int]) -> bool:
     """Whether the lines of all short pieces come in their order, and those between count up."""
     rest = iter(shown)
-    return shown == sorted(shown) and all(wanted in rest for _, wanted in PIECES if wanted is not None)
+    return shown == sorted(shown) and all(
+        wanted in rest for _, wanted in PIECES if wanted is not None
+    )
 
 
 def without_line(seen: bytes) -> bytes:
@@ -57,7 +73,12 @@ class Terminal:
     def __init__(self, words: list[str | Path], folder: Path, **streams):
         counted["programs run"] += 1
         ours, theirs = pty.openpty()
-        places = {"stdin": subprocess.DEVNULL, "stdout": subprocess.DEVNULL, "stderr": "terminal", **streams}
+        places = {
+            "stdin": subprocess.DEVNULL,
+            "stdout": subprocess.DEVNULL,
+            "stderr": "terminal",
+            **streams,
+        }
         given = {name: theirs if place == "terminal" else place for name, place in places.items()}
         self.child = subprocess.Popen(words, cwd=folder, **given)
         os.close(theirs)
@@ -95,7 +116,9 @@ class Terminal:
 
 @pytest.fixture
 def at_terminal(gx: Program, tmp_path: Path) -> Iterator[Callable[..., Terminal]]:
-    """Runs gx in the test's folder, with standard error at a terminal: at_terminal(WORD.., stdin=.., stdout=..)."""
+    """Runs gx in the test's folder, with standard error at a terminal: at_terminal(WORD..,
+    stdin=.., stdout=..).
+    """
     running: list[Terminal] = []
 
     def run(*words: str, **streams) -> Terminal:
@@ -168,7 +191,9 @@ def test_one_terminal(at_terminal, store: Path) -> None:
     kept = without_line(terminal.seen())
     # the line may stand before the first one, too
     assert kept.endswith(b"progress a\r\n" + CLEAR + b"progress b\r\n" + REPORT)
-    assert kept.replace(CLEAR, b"") == b"progress a\r\nprogress b\r\n" + REPORT, "each line is whole"
+    assert (
+        kept.replace(CLEAR, b"") == b"progress a\r\nprogress b\r\n" + REPORT
+    ), "each line is whole"
 
 
 def test_short_import(at_terminal, store: Path, tmp_path: Path) -> None:
@@ -177,7 +202,10 @@ def test_short_import(at_terminal, store: Path, tmp_path: Path) -> None:
         terminal = at_terminal("import", "store", stdin=stream)
     assert terminal.end() == 0
     # a slow run shows the line
-    assert without_line(terminal.seen()).replace(CLEAR, b"") == b"gx: commands: 1, objects: 1, refs: 0\r\n"
+    assert (
+        without_line(terminal.seen()).replace(CLEAR, b"")
+        == b"gx: commands: 1, objects: 1, refs: 0\r\n"
+    )
 
 
 def test_typed_import(at_terminal, store: Path) -> None:
@@ -226,7 +254,8 @@ TAGS = b"blob\nmark :1\ndata 1\nx\ntag a\nmark :2\nfrom :1\ndata 1\na\ntag b\nfr
 
 def test_adapt(run) -> None:
     """Adapt tells what it did in a file, too, and prints the stream alone."""
-    stream = b'commit refs/heads/m\ncommitter <a@b> -1 +0000\ndata 0\nM 100644 :1 "a\nN :1 :2\nfeature import-marks=m\nget-mark :1\n'
+    front = b"commit refs/heads/m\ncommitter <a@b> -1 +0000\ndata 0\n"
+    stream = front + b'M 100644 :1 "a\nN :1 :2\nfeature import-marks=m\nget-mark :1\n'
     done = run("adapt", stdin=stream)
     assert done.status == 0
     assert done.err.splitlines() == [
@@ -237,22 +266,31 @@ def test_adapt(run) -> None:
         b"gx: dates before 1970 that an import refuses: 1",
         b"gx: adapt: the stream ended without done",
     ]
-    assert done.out == b'commit refs/heads/m\ncommitter  <a@b> -1 +0000\ndata 0\n\nM 100644 :1 "\\"a"\nN :1 :2\n'
+    assert (
+        done.out == b"commit refs/heads/m\ncommitter  <a@b> -1 +0000\ndata 0\n\n"
+        b'M 100644 :1 "\\"a"\nN :1 :2\n'
+    )
 
 
 @pytest.mark.parametrize(
     "stream, wanted",
     [
         pytest.param(
-            TAGS, Done(0, TAGS, b"gx: tags of blobs and tags that an import refuses: 2\n" + OPEN_END), id="tags of blobs and tags"
+            TAGS,
+            Done(0, TAGS, b"gx: tags of blobs and tags that an import refuses: 2\n" + OPEN_END),
+            id="tags of blobs and tags",
         ),
-        pytest.param(b"blob\ndata 1\nx\n", Done(0, b"blob\ndata 1\nx\n", OPEN_END), id="an adapted stream"),
+        pytest.param(
+            b"blob\ndata 1\nx\n", Done(0, b"blob\ndata 1\nx\n", OPEN_END), id="an adapted stream"
+        ),
         pytest.param(
             b"blob\ndata 1\nx\ndone\n",
             Done(0, b"blob\ndata 1\nx\ndone\n", b"gx: adapt: the stream ended with done\n"),
             id="a stream that is ended",
         ),
-        pytest.param(b"blob\ndata 9\nx", Done(1, b"blob\n", b"gx: adapt: TruncatedData\n"), id="a cut stream"),
+        pytest.param(
+            b"blob\ndata 9\nx", Done(1, b"blob\n", b"gx: adapt: TruncatedData\n"), id="a cut stream"
+        ),
     ],
 )
 def test_adapt_tells(run, stream: bytes, wanted: Done) -> None:
@@ -262,8 +300,15 @@ def test_adapt_tells(run, stream: bytes, wanted: Done) -> None:
 def test_batch(gx: Program, filled: Path, tmp_path: Path) -> None:
     """An answer comes before the next line is given."""
     words = [gx.path, "batch", "--check", "store"]
-    with subprocess.Popen(words, cwd=tmp_path, stdin=subprocess.PIPE, stdout=subprocess.PIPE) as child:
-        for line, kind in ((b"main\n", b" commit "), (b"t\n", b" tag "), (b"nope\n", b"nope missing"), (b"main:\n", b" tree ")):
+    with subprocess.Popen(
+        words, cwd=tmp_path, stdin=subprocess.PIPE, stdout=subprocess.PIPE
+    ) as child:
+        for line, kind in (
+            (b"main\n", b" commit "),
+            (b"t\n", b" tag "),
+            (b"nope\n", b"nope missing"),
+            (b"main:\n", b" tree "),
+        ):
             child.stdin.write(line)
             child.stdin.flush()
             assert kind in child.stdout.readline()
@@ -287,7 +332,9 @@ def test_export(at_terminal, run, filled: Path) -> None:
     assert without_line(terminal.seen()) == CLEAR
     terminal = at_terminal("export", "store", stdout="terminal")
     assert terminal.end() == 0
-    assert terminal.seen() == plain.out.replace(b"\n", b"\r\n"), "a terminal that gets the stream shows no line"
+    assert terminal.seen() == plain.out.replace(
+        b"\n", b"\r\n"
+    ), "a terminal that gets the stream shows no line"
 
 
 def test_cause(at_terminal, run, tmp_path: Path) -> None:
@@ -302,12 +349,16 @@ def test_cause(at_terminal, run, tmp_path: Path) -> None:
 def test_waiting(gx: Program, at_terminal, store: Path, tmp_path: Path) -> None:
     """A run says after a second that it waits for another one, and ends after it."""
     words = [gx.path, "import", "store"]
-    with subprocess.Popen(words, cwd=tmp_path, stdin=subprocess.PIPE, stdout=subprocess.PIPE) as first:
+    with subprocess.Popen(
+        words, cwd=tmp_path, stdin=subprocess.PIPE, stdout=subprocess.PIPE
+    ) as first:
         first.stdin.write(b"progress a\n")
         first.stdin.flush()
         first.stdout.readline()
         second = at_terminal("import", "store")
-        assert second.screen.expect_exact([b"gx: ", pexpect.TIMEOUT], timeout=0.5) == 1, "nothing is told of a short wait"
+        assert (
+            second.screen.expect_exact([b"gx: ", pexpect.TIMEOUT], timeout=0.5) == 1
+        ), "nothing is told of a short wait"
         second.wait_for(b"gx: waiting for another run on store\r\n")
         assert second.seen() == b"gx: waiting for another run on store\r\n"
         first.stdin.close()

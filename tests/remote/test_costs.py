@@ -4,9 +4,10 @@ from __future__ import annotations
 
 import shutil
 from collections.abc import Iterator
-from io import BytesIO
+from contextlib import ExitStack
 from itertools import repeat
 from pathlib import Path
+from subprocess import PIPE
 
 import pytest
 from remote_world import World, helper
@@ -61,21 +62,25 @@ def test_fetch_beside_many_refs(request: pytest.FixtureRequest, tmp_path: Path, 
     assert of_store <= most * of_git, f"{of_store:.2f} s, and git's {of_git:.2f} s"
 
 
-def test_fetch_sets_no_refs(world: World) -> None:
-    """What `git fast-import` is given of a fetch sets no ref but those of tags that are new, for which
-    it has no other way."""
+def test_fetch_sets_no_refs(world: World, monkeypatch: pytest.MonkeyPatch) -> None:
+    """The empty repository of a fetch has no refs behind it, and the real one has all objects."""
     refs = (b"refs/heads/" + (b"topic%d" % row if row else b"main") for row in range(50))
     stream = line_of_commits(50, refs) + b"".join(TAG % (row, row) for row in range(1, 20))
     world.store("init")
     world.store("import", stdin=stream)
-    export = world.store("export", "--changes")
-    known = {b"refs/tags/v%d" % row for row in range(1, 19)}
-    given = b"".join(helper().objects_of(BytesIO(export), known))
-    world.git("fast-import", "--quiet", "--done", stdin=given)
-    assert world.git("for-each-ref", "--format=%(refname)") == "refs/tags/v19"
-    here = [name for name in world.named() if "tags" not in name]
-    assert len(here) == 50
-    world.git("rev-list", "--objects", *(world.named()[name] for name in here))
+    for name, text in {**world.environment, "GIT_DIR": str(world.folder / "work/.git")}.items():
+        monkeypatch.setenv(name, text)
+    script = helper()
+    with ExitStack() as ends:
+        repository = script.Repository(ends)
+        words = [world.gx, "export", "--changes", world.remote]
+        repository.take(script.Program(words, stdout=PIPE), set(), None)
+        folder = Path(repository.there["GIT_DIR"])
+        found = [path for path in folder.glob("refs/**/*") if path.is_file() and path.stat().st_size]
+        assert found == [] and not (folder / "packed-refs").exists()
+    digits = world.named().values()
+    assert len(digits) == 69
+    world.git("rev-list", "--objects", *digits)
 
 
 def test_refusal_of_many_branches(world: World) -> None:

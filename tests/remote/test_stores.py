@@ -74,6 +74,19 @@ def test_odd_forms(world: World) -> None:
     assert world.git("rev-list", "--objects", "--all", where="mirror")
 
 
+def test_tags_alone(world: World) -> None:
+    """A tag that gx refuses, of which no stream of git's tells, keeps no commit back."""
+    world.started()
+    world.commit({"file": "4\n"})
+    early = world.written("tag", lambda text: text.replace("<a@x> 1", "<a@x> -1").replace("tag v1", "tag early"))
+    sent = [f"{early}:refs/tags/early", "main", "main~1:refs/tags/other", ":side"]
+    done = world.run("push", "--porcelain", "origin", *sent)
+    assert b"refs/tags/early\t[remote rejected] (gx: command " in done.out, done.out
+    wanted = {name: world.git("rev-parse", name) for name in ("main", "v1", "light")}
+    found = {name.rpartition("/")[2]: digits for name, digits in world.named().items()}
+    assert found == {**wanted, "other": world.git("rev-parse", "main~1")}
+
+
 def test_missing(world: World) -> None:
     """A store that isn't there, or is none; and what else is missing."""
     world.refused("clone", world.url, "clone", told=f"git-remote-gx: no such store: {world.remote}")

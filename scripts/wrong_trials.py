@@ -6,6 +6,7 @@ functions that it changes, with those that they call. Several are tried in one c
 change one function. One that changes more than functions is tried by a check of the whole crate.
 """
 
+import os
 import re
 import shutil
 import subprocess
@@ -137,6 +138,16 @@ class Graph:
         return [name for name in self.below(crate) if not self.library(name).is_dir()]
 
 
+def linked(one, other):
+    """Copies what a check kept, modules by links: a check replaces them, and changes none."""
+    if one.endswith(".oantt"):
+        try:
+            return os.link(one, other)
+        except OSError:
+            pass
+    return shutil.copy2(one, other)
+
+
 class Room:
     """A copy of a crate, in which edits are tried. What a check proves is kept for the next one."""
 
@@ -147,6 +158,10 @@ class Room:
             source = graph.top / "crates" / crate / part
             if source.is_dir():
                 shutil.copytree(source, self.folder / part)
+        kept = graph.top / "crates" / crate / "out" / "incremental"
+        if kept.is_dir():
+            # what a check of the crate proved, which spares the proofs of what edits call
+            shutil.copytree(kept, self.folder / "kept", copy_function=linked, dirs_exist_ok=True)
         self.symbols = {}
 
     def names(self, edit):

@@ -653,6 +653,16 @@ def test_import_meanwhile(world: World, counted: Counted) -> None:
     assert world.store.notes() == [(mine, b"refs/heads/main")]
 
 
+def test_ref_that_comes_meanwhile(world: World, counted: Counted) -> None:
+    """One that git lists after the look at its refs is none of which something is left."""
+    folder = world.repository.folder()
+    world.repository.git("update-ref", "-d", "refs/heads/side")
+    once = f'case "$*" in *git-common-dir*) cp {folder}/refs/heads/main {folder}/refs/heads/side;; esac'
+    counted.write("git", once, Path(shutil.which("git")))
+    done = world.mirror(env=counted.environment)
+    assert (done.status, world.store.refs()) == (0, world.repository.refs()), done
+
+
 # histories at random
 
 

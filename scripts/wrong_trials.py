@@ -121,7 +121,7 @@ class Graph:
 
     def words(self, crate):
         """The words of a check, over the libraries as they stand built."""
-        kit = Path(shutil.which("rattle")).resolve().parent.parent
+        kit = Path(shutil.which("rt")).resolve().parent.parent
         is_program = (self.top / "crates" / crate / "src" / "main.rt").exists()
         words = ["--crate-name", crate, "src/main.rt" if is_program else "src/lib.rt"]
         words += ["-L", f"dependency={kit}/rlibs"]
@@ -132,7 +132,8 @@ class Graph:
             words += ["-L", f"dependency={self.library(name).parent}"]
         words += ["--crate-type", "staticlib"] if crate in self.static else []
         words += ["--antt-project", f"{kit}/rattle/logic/antt-project.json"]
-        return ["rattle", "check", *words, "--logic-built", f"{kit}/logic_built", "--jobs", "1"]
+        words += ["--logic-built", f"{kit}/logic_built", "--jobs", "1"]
+        return [f"{kit}/bin/rattle", "check", *words]
 
     def unbuilt(self, crate):
         return [name for name in self.below(crate) if not self.library(name).is_dir()]
@@ -179,17 +180,22 @@ class Room:
         only = [word for edit in edits for name in self.names(edit) for word in ("--only", name)]
         try:
             self.write(changed)
-            return subprocess.run(
-                [*self.words, *only],
-                cwd=self.folder,
-                stdin=subprocess.DEVNULL,
-                stdout=subprocess.PIPE,
-                stderr=subprocess.STDOUT,
-                text=True,
-                errors="replace",
-            )
+            ran = self.run(only)
+            # killed most likely for memory, which others may have given back
+            return self.run(only) if ran.returncode < 0 else ran
         finally:
             self.write(texts)
+
+    def run(self, only):
+        return subprocess.run(
+            [*self.words, *only],
+            cwd=self.folder,
+            stdin=subprocess.DEVNULL,
+            stdout=subprocess.PIPE,
+            stderr=subprocess.STDOUT,
+            text=True,
+            errors="replace",
+        )
 
     def write(self, texts):
         for file, text in texts.items():

@@ -10,6 +10,7 @@ import shutil
 import tempfile
 from collections import Counter
 from collections.abc import Callable, Iterator
+from contextlib import contextmanager
 from pathlib import Path
 
 import pytest
@@ -63,26 +64,34 @@ def pytest_collection_modifyitems(config: pytest.Config, items: list[pytest.Item
             item.add_marker(pytest.mark.skip(reason="long: run with --long"))
 
 
-@pytest.hookimpl(hookwrapper=True)
-def pytest_runtest_call(item: pytest.Item) -> Iterator[None]:
+@contextmanager
+def noted(item: pytest.Item) -> Iterator[None]:
+    """Notes what a test does meanwhile."""
     before = counted.copy()
     yield
     item.user_properties += (counted - before).items()
 
 
+@pytest.hookimpl(hookwrapper=True)
+def pytest_runtest_setup(item: pytest.Item) -> Iterator[None]:
+    with noted(item):
+        yield
+
+
+@pytest.hookimpl(hookwrapper=True)
+def pytest_runtest_call(item: pytest.Item) -> Iterator[None]:
+    with noted(item):
+        yield
+
+
 def pytest_terminal_summary(terminalreporter) -> None:
     """Tells how much the tests did."""
+    reports = [report for some in terminalreporter.stats.values() for report in some]
     sums: Counter[str] = Counter()
-    for reports in terminalreporter.stats.values():
-        for report in reports:
-            if getattr(report, "when", None) == "call":
-                sums.update(
-                    {
-                        name: count
-                        for name, count in report.user_properties
-                        if isinstance(count, int)
-                    }
-                )
+    for report in reports:
+        if getattr(report, "when", None) == "call":
+            for name, count in report.user_properties:
+                sums[name] += count
     for name, count in sorted(sums.items()):
         terminalreporter.write_line(f"{name}: {count}")
 

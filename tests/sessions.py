@@ -13,6 +13,8 @@ import subprocess
 from dataclasses import dataclass, field
 from pathlib import Path
 
+from programs import counted
+
 NO_END = "\\ No newline at end of file"
 READ_FAILS = "\\ The next read fails"
 SHORT_NAMES = "\\ Objects have short names"
@@ -188,6 +190,7 @@ class Runner:
         self.gx, self.folder = gx, folder
 
     def spawn(self, words: list[str], source: int, err: int) -> tuple[int, bytes, bytes]:
+        counted["programs run"] += 1
         done = subprocess.run(
             [self.gx, *words],
             cwd=self.folder,

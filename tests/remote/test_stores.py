@@ -78,13 +78,13 @@ def test_tags_alone(world: World) -> None:
     """A tag that gx refuses, of which no stream of git's tells, keeps no commit back."""
     world.started()
     world.commit({"file": "4\n"})
-    early = world.written("tag", lambda text: text.replace("<a@x> 1", "<a@x> -1").replace("tag v1", "tag early"))
-    sent = [f"{early}:refs/tags/early", "main", "main~1:refs/tags/other", ":side"]
-    done = world.run("push", "--porcelain", "origin", *sent)
+    world.git("tag", "-m", "Early", "early")
+    early = world.written("tag", lambda text: text.replace("<a@x> 1", "<a@x> -1"), "early")
+    done = world.run("push", "--porcelain", "origin", f"{early}:refs/tags/early", "main", ":side")
     assert b"refs/tags/early\t[remote rejected] (gx: command " in done.out, done.out
     wanted = {name: world.git("rev-parse", name) for name in ("main", "v1", "light")}
     found = {name.rpartition("/")[2]: digits for name, digits in world.named().items()}
-    assert found == {**wanted, "other": world.git("rev-parse", "main~1")}
+    assert found == wanted
 
 
 def test_missing(world: World) -> None:
@@ -131,6 +131,24 @@ def test_named(world: World) -> None:
     world.git("push", "-q", "origin", "HEAD:refs/heads/new", where="odd")
     world.git("clone", "-q", "--bare", url, "odd.git", where=".")
     world.git("fetch", "-q", "origin", where="odd.git")
+
+
+def test_let_go(world: World) -> None:
+    """What was fetched before may be gone from the store: a fetch and a push go all the same."""
+    world.started()
+    world.git("push", "-q", "origin", f"{world.commit({'file': 'gone'})}:refs/heads/gone")
+    world.git("fetch", "-q", where="clone")
+    world.git("push", "-q", "origin", ":gone")
+    world.store("gc")
+    world.git("reset", "-q", "--hard", "main~1")
+    world.git("push", "-q", "origin", f"{world.commit({'file': '5'})}:refs/heads/main")
+    above = world.git("commit-tree", "-p", "origin/gone", "-m", "Above", "HEAD^{tree}", where="clone")
+    world.git("push", "-q", "origin", f"{above}:refs/heads/above", where="clone")
+    assert world.named()["refs/heads/above"] == above
+    world.git("push", "-q", "origin", ":above")
+    world.store("gc")
+    world.git("fetch", "-q", where="clone")
+    assert world.git("rev-parse", "origin/main", where="clone") == world.git("rev-parse", "main")
 
 
 def test_partial(world: World) -> None:

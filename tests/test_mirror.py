@@ -326,8 +326,9 @@ def test_what_no_store_holds(world: World) -> None:
     assert world.store.refs() == {ref: held for ref, held in repository.refs().items() if ref not in left}
 
 
-def test_tree_that_no_stream_has(world: World) -> None:
-    """A mode that git writes otherwise: the commit would come with another name."""
+def test_tree_that_no_stream_has(world: World, counted: Counted) -> None:
+    """A mode that git writes otherwise: the commit would come with another name. It is found once, and
+    what comes from it stays without another export."""
     repository = world.repository
     blob = repository.git("hash-object", "-w", "--stdin", stdin=b"text").strip()
     text = b"100664 file\0" + bytes.fromhex(blob.decode())
@@ -336,9 +337,17 @@ def test_tree_that_no_stream_has(world: World) -> None:
     repository.git("update-ref", "refs/heads/odd", odd)
     repository.commit("main")
     done = world.mirror()
-    assert done.status == STAYS and b"gx-mirror: refs/heads/odd stays as it is: " in done.err, done
-    assert world.store.refs() == {ref: held for ref, held in repository.refs().items() if held != odd}
+    told = b" stays as it is: Unsupported: the form of commit " + odd
+    assert done.status == STAYS and b"gx-mirror: refs/heads/odd" + told in done.err, done
+    wanted = {ref: held for ref, held in repository.refs().items() if held != odd}
+    assert world.store.refs() == wanted
     assert set(world.store.records()) <= set(repository.objects())
+    repository.commit("odd")
+    repository.commit("above", odd)
+    done = world.mirror(env=counted.environment)
+    assert done.status == STAYS and b"gx-mirror: refs/heads/above" + told in done.err, done
+    assert (world.store.refs(), counted.runs("gx")) == (wanted, ["refs"])
+    assert "fast-export" not in counted.runs("git")
 
 
 # what is let go
@@ -450,6 +459,16 @@ def test_head(world: World) -> None:
     repository.git("update-ref", "--no-deref", "HEAD", "main")
     world.follows()
     assert head.read_bytes() == b""
+
+
+def test_clone(world: World) -> None:
+    """It checks out the branch of the repository that the store follows."""
+    world.repository.git("branch", "first", "main")
+    world.repository.git("symbolic-ref", "HEAD", "refs/heads/side")
+    world.follows()
+    world.repository.git("clone", "-q", f"gx::{world.store.path}", "../clone")
+    told = world.repository.git("symbolic-ref", "HEAD", cwd=world.folder / "clone")
+    assert told == b"refs/heads/side\n"
 
 
 def test_rights(world: World) -> None:

@@ -1,1 +1,2 @@
 mod HandingOn
+mod Outcomes

@@ -1,3 +1,6 @@
+pub mod Calls
 pub mod Modes
-pub mod Permissions
 pub mod Narrowing
+pub mod Permissions
+pub mod Putting
+pub mod Turns

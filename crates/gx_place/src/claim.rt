@@ -1,5 +1,9 @@
 //! How a run gets the file of a next text: it makes and locks it, and waits for a run that holds it.
 
+ghost use Rattle.std.specs.Prelude.{IfOk, OnOk, IsTrue};
+ghost use Rattle.gx_place.specs.Calls.{IsNamed};
+ghost use Rattle.gx_place.specs.Turns.{IsOwnTurn};
+
 use crate::fault::{PlaceFault, Subject};
 use crate::look::{FileKind, Look};
 use crate::place::Place;
@@ -54,7 +58,9 @@ pub(crate) struct Claim<'a, S: System> {
 
 impl<S: System> Claim<'_, S> {
     /// Makes and locks the file, in as many turns as that takes. What bars the way for a second is refused.
-    pub(crate) fn make_held(&mut self) -> Result<S::File, PlaceFault> {
+    pub(crate) fn make_held(&mut self) -> Result<S::File, PlaceFault>
+        ensures { IfOk result (λ held. IsTrue (S.is_own held)) }
+    {
         let mut barred = 0;
         for _ in 0..u64::MAX {
             match self.turn() {
@@ -74,7 +80,9 @@ impl<S: System> Claim<'_, S> {
     }
 
     /// One turn: makes and locks the file where there is none, or waits for whoever holds it.
-    fn turn(&mut self) -> io::Result<Turn<S::File>> {
+    fn turn(&mut self) -> io::Result<Turn<S::File>>
+        ensures { IfOk result (IsOwnTurn S.is_own) }
+    {
         match self.system.look_at_name(self.place.next()) {
             Ok(found) if found.kind == FileKind::File => self.remove_left_over(&found),
             Ok(_) => Err(io::Error::other("not a regular file")),
@@ -84,7 +92,9 @@ impl<S: System> Claim<'_, S> {
     }
 
     /// Another run may get the new file's lock first, and remove it as a left-over: then this one asks for another turn.
-    fn make_locked(&mut self) -> io::Result<Turn<S::File>> {
+    fn make_locked(&mut self) -> io::Result<Turn<S::File>>
+        ensures { IfOk result (IsOwnTurn S.is_own) }
+    {
         match self.system.make(self.place.next(), self.mode) {
             Ok(made) => self.lock_made(made),
             Err(error) if error.kind() == ErrorKind::AlreadyExists => Ok(Turn::Again),
@@ -93,7 +103,10 @@ impl<S: System> Claim<'_, S> {
     }
 
     /// Locks a new file, and looks whether it has its name still.
-    fn lock_made(&mut self, made: S::File) -> io::Result<Turn<S::File>> {
+    fn lock_made(&mut self, made: S::File) -> io::Result<Turn<S::File>>
+        requires { IsTrue (S.is_own made) }
+        ensures { IfOk result (IsOwnTurn S.is_own) }
+    {
         let locked = self.lock(&made);
         if !names(self.system, self.place.next(), &made) {
             return Ok(Turn::Again);
@@ -101,14 +114,16 @@ impl<S: System> Claim<'_, S> {
         match locked {
             Ok(()) => Ok(Turn::Held(made)),
             Err(error) => {
-                let _ = self.system.remove(self.place.next());
+                let _ = self.system.remove(self.place.next(), &made);
                 Ok(Turn::Unlocked(error))
             }
         }
     }
 
     /// Waits for the lock. A file that has its name still was left by a run that is gone.
-    fn remove_left_over(&mut self, found: &Look) -> io::Result<Turn<S::File>> {
+    fn remove_left_over(&mut self, found: &Look) -> io::Result<Turn<S::File>>
+        ensures { IfOk result (IsOwnTurn S.is_own) }
+    {
         if !self.may_be_a_runs(found) {
             let error = io::Error::other("made by a user who has no rights on the store");
             return Ok(Turn::Barred(error));
@@ -121,12 +136,14 @@ impl<S: System> Claim<'_, S> {
     }
 
     /// The same of the open file.
-    fn remove_opened(&mut self, found: &S::File) -> io::Result<Turn<S::File>> {
+    fn remove_opened(&mut self, found: &S::File) -> io::Result<Turn<S::File>>
+        ensures { IfOk result (IsOwnTurn S.is_own) }
+    {
         if let Err(error) = self.lock(found) {
             return Ok(Turn::Unlocked(error));
         }
         if names(self.system, self.place.next(), found) {
-            self.system.remove(self.place.next())?;
+            self.system.remove(self.place.next(), found)?;
         }
         Ok(Turn::Again)
     }
@@ -148,7 +165,9 @@ impl<S: System> Claim<'_, S> {
     }
 
     /// Locks a file, and tells after a second that it waits.
-    fn lock(&mut self, file: &S::File) -> io::Result<()> {
+    fn lock(&mut self, file: &S::File) -> io::Result<()>
+        ensures { OnOk result (IsTrue (S.is_own file.now)) }
+    {
         for _ in 0..u64::MAX {
             if self.system.try_lock(file)? {
                 return Ok(());
@@ -187,9 +206,14 @@ fn is_trusted(found: &Look, store: &Look, own_user: Option<u32>) -> bool {
 }
 
 /// Whether a path, with no link followed, names an open file.
-pub(crate) fn names<S: System>(system: &mut S, path: &str, opened: &S::File) -> bool {
-    match (system.look_at_name(path), system.look_at(opened)) {
-        (Ok(named), Ok(opened)) => named.stamp.identity == opened.stamp.identity,
-        _ => false,
+pub(crate) fn names<S: System>(system: &mut S, path: &str, opened: &S::File) -> bool
+    ensures { IsTrue result → IsNamed (S.calls system.new) path.now (S.number opened.now) }
+{
+    match system.look_at_name(path) {
+        Ok(named) => match system.look_at(opened) {
+            Ok(opened) => named.stamp.identity == opened.stamp.identity,
+            Err(_) => false,
+        },
+        Err(_) => false,
     }
 }

@@ -4,20 +4,20 @@
 
 mod claim;
 mod fault;
-mod limited;
 mod look;
 mod next_text;
 mod place;
+mod putting;
 mod reading;
 mod rights;
 mod system;
 
 pub use claim::Patience;
 pub use fault::{PlaceFault, Subject};
-pub use limited::Limited;
 pub use look::{FileKind, Identity, Look, Stamp};
 pub use next_text::NextText;
 pub use place::Place;
+pub use putting::Expected;
 pub use reading::read_file;
 pub use rights::{Access, Mode, Rights, handed_on};
 pub use system::System;

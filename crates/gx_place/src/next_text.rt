@@ -7,19 +7,21 @@
 //! Until it has FILE's owner, group and permissions, it is its maker's alone. So who may not read FILE can't open it, and can't hold
 //! its lock.
 
+ghost use Rattle.std.specs.Prelude.{IsTrue};
+
 use crate::claim::{Claim, Patience, names};
 use crate::fault::{PlaceFault, Subject};
-use crate::limited::Limited;
 use crate::look::{Look, Stamp};
 use crate::place::Place;
+use crate::putting::{Expected, put};
 use crate::reading::{read_file, want_file, want_regular};
 use crate::rights::{Access, Mode, handed_on};
 use crate::system::System;
 use std::alloc::Global;
-use std::io::{self, ErrorKind};
+use std::io::{self, ErrorKind, Write};
 
-/// The number of the error of a name that nothing has. Source: errno(3), on Linux.
-const NO_SUCH_FILE: i32 = 2;
+/// The number of the error of a file that gets too large. Source: errno(3), on Linux.
+const FILE_TOO_LARGE: i32 = 27;
 
 const NOTHING: Access = Access {
     reads: false,
@@ -54,18 +56,13 @@ pub struct NextText<S: System> {
     place: Place,
     folder: S::File,
     held: S::File,
-    replaced: Option<Replaced>,
+    expected: Expected,
+    new_files: Option<NewFiles>,
     is_narrowed: bool,
     is_copied: bool,
     stays: bool,
-}
-
-/// What is known of the store file that is replaced: whether its group's bits are meant for its group, and which file was read, once
-/// it was.
-#[derive(Clone, Copy, Drop)]
-struct Replaced {
-    new_files: NewFiles,
-    read: Option<Stamp>,
+    left: u64,
+    ghost is_own: { IsTrue (S.is_own held) },
 }
 
 /// What is known of the group that new files get.
@@ -101,12 +98,12 @@ impl<S: System> NextText<S> {
     ) -> Result<NextText<S>, PlaceFault> {
         want_file(&mut system, path).map_err(PlaceFault::unread)?;
         let mut next = NextText::claim(alloc, system, path, PRIVATE, patience)?;
-        let new_files = next.new_files();
-        next.replaced = Some(Replaced {
-            new_files: new_files.map_err(|error| PlaceFault::Unwritten(Subject::NextText, error))?,
-            read: None,
-        });
+        match next.look_at_new_files() {
+            Ok(new_files) => next.new_files = Some(new_files),
+            Err(error) => return Err(PlaceFault::Unwritten(Subject::NextText, error)),
+        }
         let found = next.look_at_store().map_err(PlaceFault::unread)?;
+        next.expected = Expected::Stamped(found.stamp);
         next.take_rights_of(&found)?;
         Ok(next)
     }
@@ -124,7 +121,7 @@ impl<S: System> NextText<S> {
         // another run may have replaced the store while this one waited
         next.want_known(known)?;
         next.is_copied = true;
-        next.expect(known);
+        next.expected = Expected::Stamped(known);
         Ok(next)
     }
 
@@ -155,10 +152,12 @@ impl<S: System> NextText<S> {
             place,
             folder,
             held,
-            replaced: None,
+            expected: Expected::Nothing,
+            new_files: None,
             is_narrowed: false,
             is_copied: false,
             stays: false,
+            left: 0,
         })
     }
 
@@ -170,7 +169,7 @@ impl<S: System> NextText<S> {
         want_known(&mut self.system, self.place.store(), known)
     }
 
-    fn new_files(&mut self) -> io::Result<NewFiles> {
+    fn look_at_new_files(&mut self) -> io::Result<NewFiles> {
         let made = self.system.look_at(&self.held)?;
         Ok(NewFiles {
             group: made.rights.group,
@@ -182,16 +181,10 @@ impl<S: System> NextText<S> {
     pub fn read_store(&mut self, alloc: Global) -> Result<Vec<u8>, PlaceFault> {
         match read_file(alloc, &mut self.system, self.place.store()) {
             Ok((bytes, stamp)) => {
-                self.expect(stamp);
+                self.expected = Expected::Stamped(stamp);
                 Ok(bytes)
             }
             Err(error) => Err(PlaceFault::unread(error)),
-        }
-    }
-
-    fn expect(&mut self, stamp: Stamp) {
-        if let Some(replaced) = &mut self.replaced {
-            replaced.read = Some(stamp);
         }
     }
 
@@ -205,16 +198,17 @@ impl<S: System> NextText<S> {
         &self.place
     }
 
-    /// The empty file, for the next text. It has the rights of the file that it replaces before it has a byte: they may be others than
-    /// when it was made. A file that is gone is refused once the text is written, which stays its owner's alone.
-    pub fn file(&mut self) -> Result<Limited<'_, S::File>, PlaceFault> {
+    /// Lets the next text be written. The file has the rights of the one that it replaces before it has a byte: they may be others than
+    /// when it was made. Where that one is gone, which is refused once the text is written, it stays its owner's alone. It takes as many
+    /// bytes as the system lets a file have.
+    pub fn begin(&mut self) -> Result<(), PlaceFault> {
         self.renew_rights()?;
-        let most = self.system.most_bytes_of_a_file();
-        Ok(Limited::new(&mut self.held, most))
+        self.left = self.system.most_bytes_of_a_file();
+        Ok(())
     }
 
     fn renew_rights(&mut self) -> Result<(), PlaceFault> {
-        if self.replaced.is_none() {
+        if self.expected == Expected::Nothing {
             return Ok(());
         }
         if let Ok(found) = self.look_at_store() {
@@ -240,14 +234,13 @@ impl<S: System> NextText<S> {
     /// Gives the file the owner, the group and the permissions of the one that it replaces, as far as this user may. Answers whether
     /// permissions were left out.
     fn given_rights_of(&mut self, found: &Look) -> io::Result<bool> {
-        let Some(replaced) = self.replaced else {
+        let Some(new_files) = self.new_files else {
             return Ok(false);
         };
         self.give_away(found)?;
         let given = self.system.look_at(&self.held)?.rights;
         // somebody gave it to this group, or new files are the group's, too
-        let is_meant = replaced.new_files.is_shared
-            || found.rights.group != replaced.new_files.group;
+        let is_meant = new_files.is_shared || found.rights.group != new_files.group;
         let mode = handed_on(found.rights, given.owner, given.group, is_meant);
         self.system.set_mode(&self.held, mode)?;
         Ok(mode != found.rights.mode)
@@ -271,7 +264,7 @@ impl<S: System> NextText<S> {
     fn give_up(&mut self) {
         if !self.stays && names(&mut self.system, self.place.next(), &self.held) {
             // there is nothing that could be done further
-            let _ = self.system.remove(self.place.next());
+            let _ = self.system.remove(self.place.next(), &self.held);
         }
     }
 
@@ -282,45 +275,43 @@ impl<S: System> NextText<S> {
         Ok(found)
     }
 
-    /// Makes what was written durable, puts it into the store file's place, and makes that durable, too. It doesn't go on where
-    /// either file is another one by now. A text that would replace a file that wasn't read stays beside it.
+    /// Makes what was written durable, puts it into the store file's place, and makes that durable, too. Answers the stamp of what stands
+    /// there then. It doesn't go on where either file is another one by now: a text that would replace a file that wasn't read stays
+    /// beside it.
     pub fn put_in_place(&mut self) -> Result<Stamp, PlaceFault> {
-        let stamp = match self.durable() {
-            Ok(stamp) => stamp,
-            Err(error) => return Err(PlaceFault::Unwritten(Subject::NextText, error)),
-        };
-        let unchanged = self.want_unchanged();
-        self.stays = matches!(unchanged, Err(PlaceFault::Overtaken));
-        unchanged?;
-        if let Err(error) = self.system.rename(self.place.next(), self.place.store()) {
-            return Err(PlaceFault::Unwritten(Subject::Store, error));
-        }
-        match sync_folder(&mut self.system, &self.folder) {
-            Ok(()) => Ok(stamp),
-            Err(error) => Err(PlaceFault::Unwritten(Subject::Folder, error)),
-        }
-    }
-
-    fn durable(&mut self) -> io::Result<Stamp> {
-        self.system.sync(&self.held)?;
-        if names(&mut self.system, self.place.next(), &self.held) {
-            Ok(self.system.look_at(&self.held)?.stamp)
-        } else {
-            // somebody took the file away by hand
-            Err(io::Error::from_raw_os_error(NO_SUCH_FILE))
+        let (store, next) = (self.place.store(), self.place.next());
+        let expected = self.expected;
+        match put(
+            &mut self.system,
+            store,
+            next,
+            &self.held,
+            &self.folder,
+            expected,
+        ) {
+            Err(PlaceFault::Changed) if !self.is_copied => {
+                self.stays = true;
+                Err(PlaceFault::Overtaken)
+            }
+            answer => answer,
         }
     }
+}
 
-    /// Refuses to replace another file than the one that was read.
-    fn want_unchanged(&mut self) -> Result<(), PlaceFault> {
-        match (self.replaced, self.system.look(self.place.store())) {
-            (None, Err(error)) if error.kind() == ErrorKind::NotFound => Ok(()),
-            (None, Ok(_)) => Err(PlaceFault::Exists),
-            (Some(replaced), Ok(found)) if replaced.read == Some(found.stamp) => Ok(()),
-            (Some(_), Ok(_)) if self.is_copied => Err(PlaceFault::Changed),
-            (Some(_), Ok(_)) => Err(PlaceFault::Overtaken),
-            (_, Err(error)) => Err(PlaceFault::Unwritten(Subject::Store, error)),
+/// A write beyond what the system lets a file have would end the program by a signal.
+impl<S: System> Write for NextText<S> {
+    fn write(&mut self, buf: &[u8]) -> io::Result<usize> {
+        let room = buf.len().min(self.left as usize);
+        if room == 0 && !buf.is_empty() {
+            return Err(io::Error::from_raw_os_error(FILE_TOO_LARGE));
         }
+        let count = self.system.write(&self.held, &buf[..room])?;
+        self.left = self.left.saturating_sub(count as u64);
+        Ok(count)
+    }
+
+    fn flush(&mut self) -> io::Result<()> {
+        Ok(())
     }
 }
 
@@ -332,10 +323,12 @@ impl<S: System> Drop for NextText<S> {
             place: _,
             folder: _,
             held: _,
-            replaced: _,
+            expected: _,
+            new_files: _,
             is_narrowed: _,
             is_copied: _,
             stays: _,
+            left: _,
         } = self;
     }
 }
@@ -356,13 +349,5 @@ fn want_known<S: System>(system: &mut S, path: &str, known: Stamp) -> Result<(),
         Ok(_) => Err(PlaceFault::Changed),
         Err(error) if error.kind() == ErrorKind::NotFound => Err(PlaceFault::Changed),
         Err(error) => Err(PlaceFault::unread(error)),
-    }
-}
-
-/// A file system that has no sync of folders says that this is no valid request.
-fn sync_folder<S: System>(system: &mut S, folder: &S::File) -> io::Result<()> {
-    match system.sync(folder) {
-        Err(error) if error.kind() == ErrorKind::InvalidInput => Ok(()),
-        answer => answer,
     }
 }

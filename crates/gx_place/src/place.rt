@@ -1,5 +1,7 @@
 //! The names of a store file, of its next text and of their folder.
 
+ghost use Rattle.std.specs.Prelude.{◌≡◌, string_bytes};
+
 use crate::fault::PlaceFault;
 use crate::system::System;
 use std::alloc::Global;
@@ -39,12 +41,16 @@ impl Place {
     }
 
     /// The store file's path.
-    pub fn store(&self) -> &str {
+    pub fn store(&self) -> &str
+        ensures { result.now ≡ string_bytes self.now.store }
+    {
         self.store.as_str()
     }
 
     /// The path of its next text.
-    pub fn next(&self) -> &str {
+    pub fn next(&self) -> &str
+        ensures { result.now ≡ string_bytes self.now.next }
+    {
         self.next.as_str()
     }
 

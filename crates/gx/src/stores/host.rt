@@ -1,10 +1,12 @@
 //! The system's files, as the standard library has them.
 
+ghost use Rattle.std.specs.Prelude.{None, true};
+
 use super::process::{leaves_group_bits, most_bytes_of_a_file, own_user};
 use crate::run::Run;
 use gx_place::{FileKind, Identity, Look, Mode, Rights, Stamp, System};
 use std::fs::{self, File, Metadata, Permissions, TryLockError};
-use std::io::{self, ErrorKind};
+use std::io::{self, ErrorKind, Write};
 use std::os::unix::fs::{MetadataExt, OpenOptionsExt, PermissionsExt, fchown};
 use std::path::PathBuf;
 use std::thread;
@@ -25,6 +27,12 @@ pub(crate) struct Host<'a> {
 
 impl System for Host<'_> {
     type File = File;
+
+    ghost calls = { λ _. None };
+
+    ghost number = { λ _. 0 };
+
+    ghost is_own = { λ _. true };
 
     fn look(&mut self, path: &str) -> io::Result<Look> {
         Ok(look(&fs::metadata(self.run.rt, path)?))
@@ -81,6 +89,11 @@ impl System for Host<'_> {
         file.set_permissions(Permissions::from_mode(mode.bits()))
     }
 
+    fn write(&mut self, file: &File, bytes: &[u8]) -> io::Result<usize> {
+        let mut writer = file;
+        writer.write(bytes)
+    }
+
     fn sync(&mut self, file: &File) -> io::Result<()> {
         file.sync_all()
     }
@@ -89,7 +102,7 @@ impl System for Host<'_> {
         fs::rename(self.run.rt, from, to)
     }
 
-    fn remove(&mut self, path: &str) -> io::Result<()> {
+    fn remove(&mut self, path: &str, _file: &File) -> io::Result<()> {
         fs::remove_file(self.run.rt, path)
     }
 

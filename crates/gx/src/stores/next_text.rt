@@ -6,10 +6,9 @@ use crate::run::{Run, Subject};
 use crate::streams::devices::{Noted, flushed};
 use gx_cli::{CliFault, Repo, send_store};
 use gx_object::Sha1Namer;
-use gx_place::{Limited, Stamp};
+use gx_place::Stamp;
 use gx_text::IntoWrite;
 use std::alloc::Global;
-use std::fs::File;
 use std::io::{BufWriter, Write};
 
 /// So many bytes are written at once.
@@ -66,10 +65,9 @@ impl<'a> NextText<'a> {
     /// Writes the next text, makes it durable, and puts it into the store file's place. Answers the stamp of what is there then. After a
     /// failure the store file is as it was, unless it was the folder's sync that failed.
     pub(crate) fn publish(&mut self, text: &[u8]) -> Result<Stamp, RunFault> {
-        let run = self.run;
-        let mut file = run.placed(self.text.file())?;
-        let written = file.write_all(text);
-        run.want_written(Subject::NextText, written)?;
+        self.run.placed(self.text.begin())?;
+        let written = self.text.write_all(text);
+        self.run.want_written(Subject::NextText, written)?;
         self.put_in_place()
     }
 
@@ -78,8 +76,8 @@ impl<'a> NextText<'a> {
         &mut self,
         repo: &Repo<Sha1Namer, Global>,
     ) -> Result<Stamp, RunFault> {
-        let run = self.run;
-        write_store(run, run.placed(self.text.file())?, repo)?;
+        self.run.placed(self.text.begin())?;
+        write_store(self.run, &mut self.text, repo)?;
         self.put_in_place()
     }
 
@@ -96,10 +94,10 @@ impl<'a> NextText<'a> {
 /// A repository's text goes out through a buffer.
 fn write_store(
     run: &Run<'_>,
-    file: Limited<'_, File>,
+    text: &mut gx_place::NextText<Host<'_>>,
     repo: &Repo<Sha1Namer, Global>,
 ) -> Result<(), CliFault> {
-    let noted = Noted::new(run, Subject::NextText, file);
+    let noted = Noted::new(run, Subject::NextText, text);
     match BufWriter::with_capacity(run.rt.alloc(), BUFFER, noted) {
         Ok(mut out) => {
             let sent = send_store(repo, &mut IntoWrite::new(&mut out));

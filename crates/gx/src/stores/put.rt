@@ -1,13 +1,14 @@
 //! The command that puts a text into a store file's place that another program made, as by the library.
 
 use super::next_text::NextText;
-use super::stamp::{Expected, stamp_text};
+use super::stamp::{read_expected, stamp_text};
 use crate::fault::RunFault;
 use crate::run::{Run, Subject};
 use crate::streams::devices::Noted;
 use gx_cli::{CliFault, Repo};
 use gx_file::{Text, read_text};
 use gx_object::Sha1Namer;
+use gx_place::Expected;
 use std::alloc::Global;
 use std::hash::RandomState;
 use std::io::{ErrorKind, Read};
@@ -20,7 +21,7 @@ pub(crate) fn put(
     stamp: &str,
     state: RandomState,
 ) -> Result<(), RunFault> {
-    let Some(expected) = Expected::read(stamp) else {
+    let Some(expected) = read_expected(stamp) else {
         return Err(RunFault::BadStamp);
     };
     let repo = read_repo(run, state)?;

@@ -64,7 +64,7 @@ def test_refused_at_once(store: StoreFile) -> None:
     store.path.chmod(0o444)
     store.folder.chmod(0o555)
     child = store.start("import", store.path, stdin=subprocess.PIPE, **as_other())
-    status = child.wait(timeout=10)
+    status = child.wait(timeout=30)
     store.kept(Done(status, child.stdout.read(), child.stderr.read()), "write failed")
     child.communicate()
 

@@ -100,7 +100,7 @@ def test_no_file(store: StoreFile, kind: str, command: str) -> None:
         kind
     ]
     words = ["main"] if command == "show" else []
-    refused(store.run(command, place, *words, stdin=STREAM, timeout=5), "read failed")
+    refused(store.run(command, place, *words, stdin=STREAM, timeout=30), "read failed")
 
 
 # ---- files that can't be written
@@ -160,7 +160,7 @@ def test_planted_link_to_nothing(store: StoreFile) -> None:
 
 def test_planted_pipe(store: StoreFile) -> None:
     os.mkfifo(store.next)
-    refused(store.take(timeout=5), "write failed")
+    refused(store.take(timeout=30), "write failed")
 
 
 def test_planted_name(store: StoreFile) -> None:

@@ -173,7 +173,7 @@ def test_stranger_holds_up_no_run(store: StoreFile) -> None:
     words = [
         "sh",
         "-c",
-        ': > "$1" && exec flock "$1" sh -c "echo locked && exec sleep 20"',
+        ': > "$1" && exec flock "$1" sh -c "echo locked && exec sleep 60"',
         "sh",
         store.next,
     ]
@@ -182,7 +182,7 @@ def test_stranger_holds_up_no_run(store: StoreFile) -> None:
     ) as holder:
         assert holder.stdout.readline() == b"locked\n"
         done = store.run(
-            "--explain", "import", store.path, stdin=STREAM, timeout=10, **as_user(1001, 2001, 2001)
+            "--explain", "import", store.path, stdin=STREAM, timeout=30, **as_user(1001, 2001, 2001)
         )
         os.killpg(holder.pid, 9)
     cause = f"gx: {store.next}: made by a user who has no rights on the store\n"

@@ -4,6 +4,7 @@ from __future__ import annotations
 
 import os
 import resource
+import subprocess
 import sys
 from collections.abc import Callable
 from importlib.machinery import SourceFileLoader
@@ -11,18 +12,19 @@ from importlib.util import module_from_spec, spec_from_loader
 from pathlib import Path
 from types import ModuleType
 
-from programs import SCRIPTS, Done, printed, run_program
+from programs import SCRIPTS, Done, Word, printed, run_program
 
 REFS = ["for-each-ref", "--format=%(objectname) %(refname)"]
 SETTINGS = "[init]\ndefaultBranch = main\n[advice]\nnestedTag = false\n"
 SIDES = ("AUTHOR", "COMMITTER")
-WHO = {f"GIT_{side}_{what}": text for side in SIDES for what, text in (("NAME", "A"), ("EMAIL", "a@x"))}
+WHO = {f"GIT_{side}_NAME": "A" for side in SIDES} | {f"GIT_{side}_EMAIL": "a@x" for side in SIDES}
 # a line of a commit that no stream keeps
 SIGNATURE = "\ngpgsig -----BEGIN\n \n -----END\n\n"
 
 
 class World:
-    """A folder with a remote, a repository `work` whose remote it is, and what came of each command."""
+    """A folder with a remote, and a repository `work` whose remote it is. `seen` is what came of
+    commands."""
 
     def __init__(self, folder: Path, name: str, gx_path: Path):
         self.folder, self.gx, self.seen = folder, gx_path, []
@@ -43,17 +45,18 @@ class World:
         self.git("remote", "add", "origin", self.url)
         self.time = 1600000000
 
-    def run(self, *words: str | bytes | Path, where: str = "work", more: dict | None = None, **given) -> Done:
+    def run(self, *words: Word, where: str = "work", more: dict | None = None, **given) -> Done:
+        """How a command of git ends, in a repository beside the remote. `more` are variables."""
         self.time += 1
         dates = {f"GIT_{side}_DATE": f"@{self.time} +0000" for side in SIDES}
-        environment = {**self.environment, **dates, **(more or {})}
-        return run_program(["git", *words], timeout=300, cwd=self.folder / where, env=environment, **given)
+        given.update(cwd=self.folder / where, env={**self.environment, **dates, **(more or {})})
+        return run_program(["git", *words], timeout=300, **given)
 
-    def git(self, *words: str | bytes | Path, **more) -> str:
+    def git(self, *words: Word, **more) -> str:
         """What a command of git prints, which has to succeed."""
-        return printed(self.run(*words, **more), ["git", *words]).decode(errors="surrogateescape").strip()
+        return os.fsdecode(printed(self.run(*words, **more), ["git", *words])).strip()
 
-    def store(self, command: str, *words: str | bytes | Path, stdin: bytes = b"") -> bytes:
+    def store(self, command: str, *words: Word, stdin: bytes = b"") -> bytes:
         """What a command of gx prints of the store, which has to succeed."""
         words = [self.gx, command, *words, self.remote]
         return printed(run_program(words, stdin, env=self.environment), words)
@@ -82,13 +85,17 @@ class World:
         rows = [line.split(" ", 1) for line in os.fsdecode(self.refs()).splitlines()]
         return {name: digits for digits, name in rows}
 
+    def short_named(self) -> dict[str, str]:
+        """The same by the last part of the name."""
+        return {name.rpartition("/")[2]: digits for name, digits in self.named().items()}
+
     def clones(self) -> list[Path]:
         """The repositories beside the remote."""
-        found = {path.parent for name in (".git", "objects") for path in self.folder.glob(f"*/{name}")}
-        return sorted(found - {self.remote})
+        found = [*self.folder.glob("*/.git"), *self.folder.glob("*/objects")]
+        return sorted({path.parent for path in found} - {self.remote})
 
-    def see(self, *words: str | bytes | Path, where: str = "work", **more) -> str:
-        """Runs a command, and keeps whether it succeeds, what it tells of refs, and all refs then."""
+    def see(self, *words: Word, where: str = "work", **more) -> str:
+        """Runs a command, and keeps whether it succeeds, what it tells of refs, and all refs."""
         done = self.run(*words, where=where, **more)
         # of a deletion that is refused, git tells a reason of its own as `(delete):REF`
         rows = [line.replace(b"\t(delete):", b"\t:").split(b"\t") for line in done.out.splitlines()]
@@ -108,7 +115,7 @@ class World:
         self.see("push", "--porcelain", "origin", "main", "side", "v1", "light")
         self.see("clone", self.url, "clone", where=".")
 
-    def refused(self, *words: str | bytes | Path, told: str, where: str = "work", **more) -> None:
+    def refused(self, *words: Word, told: str, where: str = "work", **more) -> None:
         """Runs a command that has to fail with these words, and to leave the bytes of the store."""
         before = self.remote.read_bytes() if self.remote.exists() else None
         done = self.run(*words, where=where, **more)
@@ -118,8 +125,8 @@ class World:
         assert after == before, f"git {words} changed the bytes of the store"
 
     def written(self, kind: str, change: Callable[[str], str], of: str | None = None) -> str:
-        """A commit or a tag with its text changed, as an object that no ref holds; the last if none is
-        named."""
+        """A commit or a tag with its text changed, as an object that no ref holds: HEAD or v1, if
+        no other is named."""
         text = self.git("cat-file", kind, of or ("HEAD" if kind == "commit" else "v1")) + "\n"
         path = self.folder / "object"
         path.write_text(change(text))
@@ -130,7 +137,8 @@ class World:
 
     def early(self) -> str:
         """The last commit as of a second before 1970, which gx refuses."""
-        return self.written("commit", lambda text: text.replace("committer A <a@x> 1", "committer A <a@x> -1"))
+        line = "committer A <a@x> "
+        return self.written("commit", lambda text: text.replace(f"{line}1", f"{line}-1"))
 
     def wrapped(self, script: str) -> dict[str, str]:
         """A program that runs gx in another way."""
@@ -139,13 +147,27 @@ class World:
         path.chmod(0o755)
         return {"GX": str(path)}
 
+    def before_import(self, command: str) -> dict[str, str]:
+        """A program that runs a command before its first import."""
+        begun = self.folder / "begun"
+        return self.wrapped(f'if [ "$2" = import ] && mkdir {begun}; then {command}; fi')
+
+    def pushed_at_once(self, pushes: list[tuple[str, str]]) -> list[int]:
+        """The status of each push, of a repository and what it sends, all at the same time."""
+
+        def begun(where: str, sent: str) -> subprocess.Popen:
+            words = ["git", "-C", self.folder / where, "push", "-q", self.url, sent]
+            return subprocess.Popen(words, env=self.environment, stderr=subprocess.DEVNULL)
+
+        return [push.wait() for push in [begun(*push) for push in pushes]]
+
     def counted(self) -> tuple[dict[str, str], Callable[[], list[str]]]:
         """A program that notes the commands of gx, and what it noted."""
         log = self.folder / "log"
         log.write_text("")
         return self.wrapped(f'echo "$2" >> {log}'), lambda: log.read_text().split()
 
-    def seconds(self, *words: str | bytes | Path, **more) -> tuple[Done, float]:
+    def seconds(self, *words: Word, **more) -> tuple[Done, float]:
         """How a command of git ended, and the processor time of it and of all that it ran."""
         before = resource.getrusage(resource.RUSAGE_CHILDREN)
         done = self.run(*words, **more)

@@ -1,5 +1,5 @@
-"""Has git use stores as remotes beside remotes of its own: what each push tells of each ref, and the refs
-of the remote and of each clone, have to be the same behind each command."""
+"""Has git use stores as remotes beside remotes of its own. What each push tells of each ref, and
+the refs of the remote and of each clone, have to be the same behind each command."""
 
 from __future__ import annotations
 
@@ -15,7 +15,8 @@ from remote_world import World
 def clones(world: World) -> None:
     """Clones of each kind have the same refs, and files."""
     world.started()
-    kinds = {"bare": ["--bare"], "mirror": ["--mirror"], "one": ["--single-branch", "-b", "side"], "none": ["--no-tags"]}
+    kinds = {"bare": ["--bare"], "mirror": ["--mirror"], "none": ["--no-tags"]}
+    kinds["one"] = ["--single-branch", "-b", "side"]
     for name, words in kinds.items():
         world.see("clone", *words, world.url, name, where=".")
     assert world.git("status", "--porcelain", where="clone") == ""
@@ -59,14 +60,17 @@ def pushes(world: World) -> None:
     """By each kind of name for what is sent, and to other names."""
     world.started()
     first = world.git("rev-parse", "HEAD~1")
-    refs = ["HEAD:refs/heads/from-head", f"{first}:refs/heads/from-digits", "main~1:refs/heads/from-above"]
+    sources = {"HEAD": "from-head", first: "from-digits", "main~1": "from-above"}
+    refs = [f"{source}:refs/heads/{name}" for source, name in sources.items()]
     world.see("push", "--porcelain", "origin", *refs)
     world.see("push", "--porcelain", "-u", "origin", "main:up")
-    world.see("push", "--porcelain", "origin", "main:refs/notes/commits", "main:refs/other/place", "side:refs/tags/place")
+    refs = ["main:refs/notes/commits", "main:refs/other/place", "side:refs/tags/place"]
+    world.see("push", "--porcelain", "origin", *refs)
     world.see("push", "--porcelain", world.url, "main~1:refs/heads/by-url")
     world.see("push", "--porcelain", "origin", "nothing")
     world.git("tag", "-m", "Own", "own", "main")
-    names = ["check", "export", "push/0", "push/1"]  # what git-remote-gx has refs of its own for, in a stream
+    # what git-remote-gx has refs of its own for, in a stream
+    names = ["check", "export", "fetch", "push/0", "push/1"]
     world.see("push", "--porcelain", "origin", *(f"HEAD:refs/gx/{name}" for name in names), "own")
     world.see("push", "--porcelain", "origin", *(f"HEAD~1:refs/gx/{name}/below" for name in names))
     world.commit({"file": "7\n"})
@@ -85,7 +89,8 @@ def forced(world: World) -> None:
     world.git("tag", "-f", "-m", "Moved", "v1")
     world.git("tag", "-f", "light", "side")
     lease = "--force-with-lease"
-    for refs in (["main", "v1", "light"], [f"{lease}=main:side", "main"], [lease, "+light", "main"], ["+v1"]):
+    both = [[f"{lease}=main:side", "main"], [lease, "+light", "main"]]
+    for refs in (["main", "v1", "light"], *both, ["+v1"]):
         world.see("push", "--porcelain", "origin", *refs)
     world.see("fetch", where="clone")
     world.see("fetch", "--tags", where="clone")
@@ -101,8 +106,9 @@ def forced(world: World) -> None:
         world.see("push", "--porcelain", lease, "origin", *refs)
     world.git("commit", "-q", "--amend", "-m", "By digits")
     held = world.git("rev-parse", "origin/main")
-    world.see("push", "--porcelain", f"{lease}=main:{held}", f"{lease}=fresh:", "origin", "main", "main:fresh")
-    world.see("push", "--porcelain", f"{lease}=fresh:", "origin", "main:fresh")
+    push = ["push", "--porcelain", f"{lease}=fresh:"]
+    world.see(*push, f"{lease}=main:{held}", "origin", "main", "main:fresh")
+    world.see(*push, "origin", "main:fresh")
 
 
 def deletions(world: World) -> None:
@@ -112,7 +118,8 @@ def deletions(world: World) -> None:
     world.see("push", "--porcelain", "origin", "--delete", "v1", "nothing")
     world.see("push", "--porcelain", "origin", "--delete", "v1")
     world.see("push", "--porcelain", "origin", "main:again")
-    world.see("push", "--porcelain", "origin", ":refs/heads/none", ":again", ":refs/tags/none", "main:refs/heads/more")
+    refs = [":refs/heads/none", ":again", ":refs/tags/none", "main:refs/heads/more"]
+    world.see("push", "--porcelain", "origin", *refs)
     world.see("push", "--porcelain", "origin", ":refs/heads/none")
     world.see("push", "--porcelain", "origin", "main:refs/heads/main/below")
     world.see("push", "--porcelain", "origin", "main:refs/heads/dir/below", "main:refs/heads/dir2")
@@ -142,7 +149,8 @@ def tags(world: World) -> None:
     world.started()
     world.commit({"file": "9\n"})
     world.git("tag", "-m", "Along\n\nMore of it.", "along")
-    world.git("tag", "-m", "Not reached", "apart", world.git("commit-tree", "-m", "apart", "HEAD^{tree}"))
+    apart = world.git("commit-tree", "-m", "apart", "HEAD^{tree}")
+    world.git("tag", "-m", "Not reached", "apart", apart)
     world.see("push", "--porcelain", "--follow-tags", "origin", "main")
     world.see("fetch", where="clone")
     world.see("push", "--porcelain", "--tags", "origin")
@@ -155,7 +163,8 @@ def tags(world: World) -> None:
 def contents(world: World) -> None:
     """Names of files and refs, modes, merges, encodings, and a directory in place of a file."""
     world.started()
-    world.commit({'q"uote': "1\n", "sp ace/t\tab": "2\n", "\u00e4\u00f6": "3\n", b"l\xe4tin": "4\n", "a": "5\n", "empty": ""})
+    names = ['q"uote', "sp ace/t\tab", "\u00e4\u00f6", b"l\xe4tin", "a"]
+    world.commit({**{name: f"{number}\n" for number, name in enumerate(names, 1)}, "empty": ""})
     (world.folder / "work/link").symlink_to("q\"uote")
     (world.folder / "work/a").unlink()
     world.commit({"a/b": "6\n", "a/c/d": "7\n"})
@@ -179,7 +188,8 @@ def raced(world: World) -> None:
     world.started()
     hook = world.folder / "work/.git/hooks/pre-push"
     hook.parent.mkdir(exist_ok=True)
-    for number, refs in enumerate((["main"], ["--force-with-lease", "main"], ["new"], ["-f", "v1"], [":side"])):
+    pushes = (["main"], ["--force-with-lease", "main"], ["new"], ["-f", "v1"], [":side"])
+    for number, refs in enumerate(pushes):
         world.commit({f"theirs{number}": "1\n"}, where="clone")
         world.git("tag", "-f", "-m", f"{number}", "v1", where="clone")
         world.git("branch", "-f", "new", where="clone")
@@ -203,10 +213,12 @@ def atomic(world: World) -> None:
     world.see(*push, "origin", "main", "main:new", ":side")
     world.see(*push, "origin", "main", "main:refs/heads/other")
     world.git("commit", "-q", "--amend", "-m", "Amended")
-    for refs in (["main", "main:other"], ["main:other", "main:refs/heads/other/below"], ["+main", "main:main/below"]):
+    clash = ["main:other", "main:refs/heads/other/below"]
+    for refs in (["main", "main:other"], clash, ["+main", "main:main/below"]):
         world.see(*push, "origin", *refs)
     world.see(*push, "--force", "origin", "main", "other", "main:refs/heads/third")
-    world.see(*push, "--force-with-lease", "origin", "+main", ":other", "refs/tags/light:refs/tags/third", ":refs/tags/none")
+    refs = ["+main", ":other", "refs/tags/light:refs/tags/third", ":refs/tags/none"]
+    world.see(*push, "--force-with-lease", "origin", *refs)
     world.see(*push, "--dry-run", "origin", "main:dry")
     world.see("fetch", where="clone")
 

@@ -1,4 +1,4 @@
-"""What a store as a remote of git costs: in processor time beside git's own remotes, and in programs run."""
+"""What a store as a remote of git costs: processor time beside git's own remotes, and programs."""
 
 from __future__ import annotations
 
@@ -12,21 +12,24 @@ from subprocess import PIPE
 import pytest
 from remote_world import World, helper
 
-COMMIT = b"commit %s\nmark :%d\ncommitter A <a@x> %d +0000\ndata 2\nx\n%sM 100644 inline file%d\ndata 2\n%d\n\n"
+COMMIT = b"commit %s\nmark :%d\ncommitter A <a@x> %d +0000\ndata 2\nx\n"
+CHANGE = b"M 100644 inline file%d\ndata 2\n%d\n\n"
 TAG = b"tag v%d\nfrom :%d\ntagger A <a@x> 1 +0000\ndata 2\nx\n"
 
 
 def line_of_commits(count: int, refs: Iterator[bytes]) -> bytes:
     """A stream of commits that follow each other, each on the next ref."""
-    rows = range(1, count + 1)
-    starts = (b"from :%d\n" % (row - 1) if row > 1 else b"" for row in rows)
-    numbered = zip(rows, refs, starts)
-    return b"".join(COMMIT % (ref, row, 1600000000 + row, start, row % 100, row % 10) for row, ref, start in numbered)
+
+    def commit(row: int, ref: bytes) -> bytes:
+        start = b"from :%d\n" % (row - 1) if row > 1 else b""
+        return COMMIT % (ref, row, 1600000000 + row) + start + CHANGE % (row % 100, row % 10)
+
+    return b"".join(map(commit, range(1, count + 1), refs))
 
 
 def remotes(tmp_path: Path, gx_path: Path, stream: bytes) -> list[World]:
-    """A repository of git and a store that have what a stream tells, as remotes; each with a clone that
-    lacks a commit on main."""
+    """A repository of git and a store that have what a stream tells, as remotes; each with a clone
+    that lacks a commit on main."""
     plain, by_store = (World(tmp_path / name, f"remote.{name}", gx_path) for name in ("git", "gx"))
     plain.git("fast-import", "--quiet", where=plain.remote, stdin=stream)
     plain.git("pack-refs", "--all", where=plain.remote)
@@ -48,13 +51,16 @@ def best_fetch(world: World) -> float:
         shutil.copytree(world.folder / "clone", world.folder / copy, symlinks=True)
         done, time = world.seconds("fetch", "-q", "origin", where=copy)
         times.append(time)
-        assert done.status == 0 and world.git("rev-parse", "origin/main", where=copy) == world.git("rev-parse", "main")
+        assert done.status == 0
+        assert world.git("rev-parse", "origin/main", where=copy) == world.git("rev-parse", "main")
     return min(times)
 
 
-def test_fetch_beside_many_refs(request: pytest.FixtureRequest, tmp_path: Path, gx_path: Path) -> None:
-    """A fetch of one commit beside 10,000 refs takes at most twice git's processor time. Without --long
-    it may take four times that, as programs that were built without proofs check more."""
+def test_fetch_beside_many_refs(
+    request: pytest.FixtureRequest, tmp_path: Path, gx_path: Path
+) -> None:
+    """A fetch of one commit beside 10,000 refs takes at most twice git's processor time. Without
+    --long it may take four times that, as programs that were built without proofs check more."""
     refs = (b"refs/heads/" + (b"topic%d" % row if row else b"main") for row in range(10000))
     plain, by_store = remotes(tmp_path, gx_path, line_of_commits(10000, refs))
     of_git, of_store = best_fetch(plain), best_fetch(by_store)
@@ -76,23 +82,24 @@ def test_fetch_sets_no_refs(world: World, monkeypatch: pytest.MonkeyPatch) -> No
         words = [world.gx, "export", "--changes", world.remote]
         repository.take(script.Program(words, stdout=PIPE), set(), None)
         folder = Path(repository.there["GIT_DIR"])
-        found = [path for path in folder.glob("refs/**/*") if path.is_file() and path.stat().st_size]
-        assert found == [] and not (folder / "packed-refs").exists()
+        paths = [path for path in folder.glob("refs/**/*") if path.is_file()]
+        assert [path for path in paths if path.stat().st_size] == [] and not (folder / "packed-refs").exists()
     digits = world.named().values()
     assert len(digits) == 69
     world.git("rev-list", "--objects", *digits)
 
 
 def test_refusal_of_many_branches(world: World) -> None:
-    """A signed root refuses 40 branches above it by one stream, in at most twice the time that it takes
-    for one branch; and what stands beside goes by one more."""
+    """A signed root refuses 40 branches above it by one stream, in at most twice the time that it
+    takes for one branch; and what stands beside goes by one more."""
     world.git("commit", "-q", "--allow-empty", "-m", "Root")
     root = world.signed()
     stream = line_of_commits(2000, repeat(b"refs/heads/main"))
     stream = stream.replace(b"data 2\nx\nM", b"data 2\nx\nfrom %s\nM" % root.encode(), 1)
     world.git("fast-import", "--quiet", "--force", stdin=stream)
     for number in range(40):
-        world.git("branch", f"topic{number}", world.git("commit-tree", "-p", "main", "-m", f"{number}", "main^{tree}"))
+        above = world.git("commit-tree", "-p", "main", "-m", f"{number}", "main^{tree}")
+        world.git("branch", f"topic{number}", above)
     world.git("branch", "beside", world.git("commit-tree", "-m", "Apart", "main^{tree}"))
     told = f"topic0 (Unsupported: gpgsig of commit {root})"
     more, commands = world.counted()

@@ -22,7 +22,8 @@ ALL_REFS = [["--mirror", "origin"], ["--force", "--prune", "origin", "refs/*:ref
 
 def clones_of(world: World) -> list[Repository]:
     """Two empty repositories, which share their marks."""
-    clones = [Repository(world.folder / name, world.folder / "marks") for name in ("one.git", "two.git")]
+    names = ("one.git", "two.git")
+    clones = [Repository(world.folder / name, world.folder / "marks") for name in names]
     for clone in clones:
         clone.git("remote", "add", "origin", world.url)
         clone.git("config", "remote.origin.fetch", "+refs/*:refs/*")
@@ -30,7 +31,8 @@ def clones_of(world: World) -> list[Repository]:
 
 
 def follow(chance: random.Random, steps: int, world: World, tell: Callable[[str], None]) -> None:
-    """Makes each step in one of the clones, pushes it, and fetches it into the other; tells the commands."""
+    """Makes each step in one of the clones, pushes it, and fetches it into the other. `tell` gets
+    the commands."""
     history, clones = History(chance), clones_of(world)
     for number in range(steps):
         here, there = chance.sample(clones, 2)
@@ -38,7 +40,7 @@ def follow(chance: random.Random, steps: int, world: World, tell: Callable[[str]
             history.keep(here.keep_marks())
         gone, text = history.step()
         words = chance.choice(ALL_REFS)
-        tell(f"in {here.path.name}: drop {gone}, git fast-import < {text!r}, git push {' '.join(words)}")
+        tell(f"in {here.path.name}: drop {gone}, git push {' '.join(words)} behind {text!r}")
         here.drop(gone)
         here.take(text, "--force")
         world.git("push", "-q", *words, where=here.path.name)

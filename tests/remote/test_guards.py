@@ -1,0 +1,156 @@
+"""What a push to a store never loses: faults in the middle, what comes in between, pushes at the
+same time, atomic ones, and files beside the store."""
+
+from __future__ import annotations
+
+import os
+import shutil
+
+import pytest
+from remote_world import World
+
+LEASE = "--force-with-lease"
+
+
+def test_broken(world: World) -> None:
+    """Faults in the middle: gx or git-remote-gx is killed, the disk is full, a stream is cut."""
+    world.started()
+    world.commit({"big": "x" * 200000 + "\n"})
+    world.git("branch", "other", world.commit({"more": "1\n"}))
+    killed = """if [ "$2" = import ]; then
+  exec 3<&0 4> >(exec "$gx" "$@")
+  head -c 1000 <&3 >&4; sleep 0.3; kill -9 $!; wait $!; exit 137
+fi"""
+    push = ["push", "origin", "main", "other"]
+    told = "main -> main (wrapped ended with status 137)"
+    world.refused(*push, told=told, more=world.wrapped(killed))
+    alone = 'if [ "$2" = import ]; then kill -9 $PPID; fi'
+    world.refused(*push, told="", more=world.wrapped(alone))
+    full = 'if [ "$2" = import ]; then ulimit -f 40; fi'
+    world.refused(*push, told="main -> main (gx: write failed", more=world.wrapped(full))
+    world.git(*push)
+    before = world.git("for-each-ref", where="clone")
+    cut = 'if [ "$2" = export ]; then "$gx" "$@" | head -c %s; exit %d; fi'
+    sizes = ("100000", "-1", "-5", "-100", "20")
+    for number, (size, status) in enumerate((size, status) for size in sizes for status in (9, 0)):
+        copy = f"clone{number}"
+        shutil.copytree(world.folder / "clone", world.folder / copy)
+        told = "wrapped ended with status 9" if status else ""
+        more = world.wrapped(cut % (size, status))
+        world.refused("fetch", "origin", where=copy, told=f"git-remote-gx: {told}", more=more)
+        assert world.git("for-each-ref", where=copy) == before, "refs behind a fetch that was cut"
+        world.git("fetch", "-q", "origin", where=copy)
+        world.git("fsck", where=copy)
+
+
+def test_at_once(world: World) -> None:
+    """Pushes at the same time: to other branches each comes in, and to the same branch one."""
+    world.started()
+    for number in range(4):
+        world.git("worktree", "add", "-q", "-b", f"topic{number}", f"../tree{number}")
+        world.commit({f"file{number}": "1\n"}, where=f"tree{number}")
+    for refs, wanted in (("HEAD", 4), ("HEAD:main", 1)):
+        ended = world.pushed_at_once([(f"tree{number}", refs) for number in range(4)])
+        assert ended.count(0) == wanted, refs
+    assert world.refs().count(b"refs/heads/topic") == 4
+
+
+def test_first_at_once(world: World) -> None:
+    """Pushes that all make the store: each comes in, or is told that it did not."""
+    world.commit({"file": "1\n"})
+    early = world.early()
+    refs = (("main", "topic"), (early, "early"))
+    sent = [f"{name}:refs/heads/{ref}{number}" for name, ref in refs for number in range(4)]
+    ended = world.pushed_at_once([("work", refs) for refs in sent])
+    came = {refs.partition(":")[2] for refs, status in zip(sent, ended) if status == 0}
+    assert world.named().keys() == came and all("topic" in ref for ref in came)
+    assert {path.name for path in world.folder.glob("store.gx?*")} <= {"store.gx.HEAD"}
+
+
+def test_between(world: World) -> None:
+    """What comes in between a push's look at the refs and its own import is never lost."""
+    world.started()
+    theirs = world.commit({"theirs": "1\n"}, where="clone")
+    world.git("commit", "-q", "--amend", "-m", "Amended")
+    push = f"git -C {world.folder}/clone push -q origin main"
+    slow = world.before_import(f"GX=$gx {push}")
+    done = world.run("push", "--porcelain", "origin", ":side", "+main", more=slow)
+    assert done.status == 1 and b"fetch first" in done.out, done.out
+    named = world.named()
+    assert (named["refs/heads/main"], "refs/heads/side" in named) == (theirs, False)
+    assert list(world.folder.glob("store.gx?*")) == [], "what stands beside the store"
+
+
+@pytest.mark.parametrize("words", [["main", "+side"], [LEASE, "main", "+side"], ["+main", "side"]])
+def test_import_between(world: World, words: list[str]) -> None:
+    """A forced ref or a lease takes no guard off another: a commit that an import has brought
+    meanwhile is still there, and other refs of the push are set."""
+    world.started()
+    old = world.git("rev-parse", "main")
+    stream = world.folder / "stream"
+    lines = ["commit refs/heads/main", "committer A <a@x> 1 +0000", "data 2", "x", f"from {old}^0"]
+    stream.write_text("\n".join(lines) + "\n")
+    apart = world.git("commit-tree", "-m", "Apart", "-p", "main~1", "main^{tree}")
+    world.git("branch", "-f", "side", apart)
+    amend = ["--amend"] if LEASE in words else []
+    world.git("commit", "-q", "--allow-empty", "-m", "Ours", *amend)
+    slow = world.before_import(f'"$gx" import {world.remote} < {stream}')
+    done = world.run("push", "--porcelain", "origin", *words, more=slow)
+    told = b"stale info" if LEASE in words else b"fetch first"
+    assert done.status == 1 and told in done.out, done.out
+    named = world.named()
+    assert named["refs/heads/main"] not in (old, world.git("rev-parse", "main"))
+    assert named["refs/heads/side"] == world.git("rev-parse", "side")
+
+
+def test_replaced(world: World) -> None:
+    """gx itself looks whether a ref loses commits, where git takes a commit for another."""
+    world.started()
+    old = world.git("rev-parse", "main")
+    other = world.git("commit-tree", "-p", "main~1", "-m", "Beside", "main^{tree}")
+    world.git("replace", "--graft", other, "main")
+    done = world.run("push", "--porcelain", "origin", f"{other}:refs/heads/main", "main:new")
+    assert done.status == 1 and b"(non-fast-forward)" in done.out, done.out
+    named = world.named()
+    assert (named["refs/heads/main"], named["refs/heads/new"]) == (old, old)
+    world.git("push", "-q", "origin", f"+{other}:main")
+    assert world.named()["refs/heads/main"] == other
+
+
+def test_atomic(world: World) -> None:
+    """With --atomic all refs are set or none is, whatever refuses one of them, by one run of gx."""
+    world.started()
+    world.git("branch", "other", world.commit({"file": "4\n"}))
+    atomic = ["push", "--atomic", "origin", ":side", "main"]
+    told = "main -> main (atomic push failure)"
+    for wrong in (world.signed(), world.early()):
+        world.refused(*atomic, f"{wrong}:refs/heads/wrong", told=told)
+    world.refused(*atomic, "main:refs/heads/main/below", told=told)
+    theirs = f"GX=$gx git -C {world.folder}/clone push -q -f origin main~1:light"
+    world.git("tag", "-f", "light", "main")
+    done = world.run(*atomic, "+light", more=world.before_import(theirs))
+    assert told in done.err.decode(), done.err
+    assert "refs/heads/side" in world.named()
+    assert world.named()["refs/heads/main"] != world.git("rev-parse", "main")
+    more, commands = world.counted()
+    world.git(*atomic, "other", ":refs/heads/none", more=more)
+    assert commands() == ["refs", "import"]
+    wanted = {name: world.git("rev-parse", name) for name in ("main", "other")}
+    assert {name: world.named()[f"refs/heads/{name}"] for name in wanted} == wanted
+    assert "refs/heads/side" not in world.named()
+
+
+def test_beside_the_store(world: World) -> None:
+    """A push touches nothing beside FILE but FILE.new: what is called FILE.push stays as it is."""
+    for number in range(3):
+        world.commit({"file": f"{number}\n"})
+    beside = world.folder / "store.gx.push"
+    named = world.folder / "named"
+    makes = [beside.write_bytes, lambda _: beside.symlink_to(named), lambda _: os.mkfifo(beside)]
+    for number, make in enumerate(makes):
+        make(b"data")
+        kept = beside.lstat()
+        world.git("push", "-q", "origin", f"HEAD~{number}:refs/heads/{number}", ":refs/heads/none")
+        assert beside.lstat() == kept and not named.exists()
+        beside.unlink()
+    assert sorted(path.name for path in world.folder.glob("store.gx*")) == ["store.gx"]

@@ -115,12 +115,13 @@ def gx_path(request: pytest.FixtureRequest) -> Path:
 
 @pytest.fixture(scope="session")
 def environment(gx_path: Path, tmp_path_factory: pytest.TempPathFactory) -> dict[str, str]:
-    """gx and git-remote-gx in PATH, no settings of git, and fixed identities and times."""
+    """gx and its scripts in PATH, no settings of git, and fixed identities and times."""
     home = tmp_path_factory.mktemp("home")
     commands = home / "bin"
     commands.mkdir()
     (commands / "gx").symlink_to(gx_path)
-    (commands / "git-remote-gx").symlink_to(SCRIPTS / "git-remote-gx")
+    for name in ("git-remote-gx", "gx-mirror"):
+        (commands / name).symlink_to(SCRIPTS / name)
     who = {
         f"GIT_{side}_{what}": value
         for side in ("AUTHOR", "COMMITTER")

@@ -27,6 +27,7 @@ PAGES = [
     "docs/REMOTE.md",
     "docs/STORE.md",
     "docs/git-remote-gx.1",
+    "docs/gx-mirror.1",
     "docs/gx.1",
 ]
 MAIN = b"""commit refs/heads/main

@@ -1,4 +1,6 @@
-"""scripts/install.sh, into a folder of its own and with a file in the program's place: paths, modes, bytes, and what stays."""
+"""scripts/install.sh, into a folder of its own and with a file in the program's place: paths, modes,
+bytes, and what stays.
+"""
 
 from __future__ import annotations
 
@@ -65,7 +67,8 @@ def test_refusals(place: Place) -> None:
     place.refuses("no commit: main", COMMIT="main")
     place.refuses("not a path from /: usr/bin/gx", PREFIX="usr")
     place.program.unlink()
-    place.refuses(f"{place.program} isn't there; build it: (cd crates/gx && rt run -- blobs < stdin)")
+    build = "(cd crates/gx && rt run -- blobs < stdin)"
+    place.refuses(f"{place.program} isn't there; build it: {build}")
     assert place.run("--none").status == 2
     assert list(place.to.parent.iterdir()) == []
 

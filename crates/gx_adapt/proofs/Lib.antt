@@ -3,6 +3,7 @@ pub mod Quoted
 pub mod QuotedPaths
 pub mod Marked
 pub mod Counts
+pub mod Lost
 pub mod Progress
 pub mod Readable
 pub mod Appended

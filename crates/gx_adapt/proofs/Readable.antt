@@ -25,11 +25,11 @@ use Rattle.gx_text.specs.Devices.{Coming}
 use Rattle.gx_stream.specs.Heard.{heard_upto, heard, items_from}
 use Rattle.gx_text.specs.Quoting.{after_quoted}
 use Rattle.gx_adapt.specs.Paths.{escaped, quoted, is_open, anew, source_before, source_of}
-use Rattle.gx_adapt.specs.Lines.{Lot, kept, deletion, marks, feature, signature, spaced, requoted, begins, is_ident_word, is_move_word, ident_lot, path_lot, dataref_lot, mode_lot, modify_lot, paths_lot, move_lot, word_lot, words_lot, lot_of, lines_for, items_for, is_of_marks, is_feature, is_signature_line, is_reset, is_signature, is_null_from}
-use Rattle.gx_adapt.specs.Streams.{behind_of, placed_from, items_in, items_at, adapted}
+use Rattle.gx_adapt.specs.Lines.{Lot, kept, deletion, marks, feature, signature, unfinished, spaced, requoted, begins, is_ident_word, is_move_word, ident_lot, path_lot, dataref_lot, mode_lot, modify_lot, paths_lot, move_lot, word_lot, words_lot, lot_of, lines_for, items_for, is_of_marks, is_feature, is_signature_line, is_reset, is_signature, is_null_from}
+use Rattle.gx_adapt.specs.Streams.{course_of, is_done, line_lot, start, placed_from, items_in, items_at, adapted}
 use Rattle.gx_adapt.specs.Laws.{IsReadAdapted}
 use Rattle.gx_adapt.specs.declared.lot.Behind.{Behind}
-use Rattle.gx_adapt.specs.declared.lot.Behind.TheVariants.{Other}
+use Rattle.gx_adapt.specs.declared.course.Course.{Course}
 use Rattle.gx_adapt.specs.Adapting.{IsReadAgain}
 
 -- ---- what is read can be spelled
@@ -126,6 +126,7 @@ IsSpelled deletion = Unit {0}
 IsSpelled marks = Unit {0}
 IsSpelled feature = Unit {0}
 IsSpelled signature = Unit {0}
+IsSpelled unfinished = Unit {0}
 IsSpelled (spaced new) = IsItemLine new
 IsSpelled (requoted new) = IsItemLine new
 
@@ -213,24 +214,31 @@ lot_spelled drops behind l h = by (is_of_marks l) (is_feature l) (drops && is_si
 
 -- ---- the whole stream
 
-items_spelled : (drops : Bool) (behind : Behind) (i : Item) → IsItem i → AreItems (items_in drops behind i)
-items_spelled drops behind (Data x) h = by (drops && is_signature behind) where
+line_spelled : (drops : Bool) (course : Course) (l : Bytes) → is_line l ≡ true → IsSpelled (line_lot drops course l)
+line_spelled drops course l h = by (course.lost && is_done l) where
+  by : (t : Bool) → IsSpelled (cond t unfinished (lot_of drops course.behind l))
+  by true = tt
+  by false = lot_spelled drops course.behind l h
+
+items_spelled : (drops : Bool) (course : Course) (i : Item) → IsItem i → AreItems (items_in drops course i)
+items_spelled drops course (Data x) h = by (drops && is_signature course.behind) where
   by : (t : Bool) → AreItems (items_for (Data x) (cond t signature kept))
   by true = tt
   by false = (h, tt)
-items_spelled drops behind (Line l) h = by (lot_of drops behind l) (lot_spelled drops behind l h.line) where
+items_spelled drops course (Line l) h = by (line_lot drops course l) (line_spelled drops course l h.line) where
   by : (lot : Lot) → IsSpelled lot → AreItems (lines_for l lot)
   by kept k = (h, tt)
   by deletion k = tt
   by marks k = tt
   by feature k = tt
   by signature k = tt
+  by unfinished k = tt
   by (spaced new) k = (k, tt)
   by (requoted new) k = (k, tt)
 
-all_spelled : (drops : Bool) (behind : Behind) (is : List Item) → AreItems is → AreItems (flat_map (items_at drops) (placed_from behind is))
-all_spelled drops behind [] h = tt
-all_spelled drops behind (i ∷ is) h = items_append (items_in drops behind i) (flat_map (items_at drops) (placed_from (behind_of i) is)) (items_spelled drops behind i h.0) (all_spelled drops (behind_of i) is h.1)
+all_spelled : (drops : Bool) (course : Course) (is : List Item) → AreItems is → AreItems (flat_map (items_at drops) (placed_from course is))
+all_spelled drops course [] h = tt
+all_spelled drops course (i ∷ is) h = items_append (items_in drops course i) (flat_map (items_at drops) (placed_from (course_of course i) is)) (items_spelled drops course i h.0) (all_spelled drops (course_of course i) is h.1)
 
 heard_short : (room : ℕ) (c : Coming) → length (heard_upto room c).bytes ≤ room
 unfolding heard_upto
@@ -242,7 +250,7 @@ heard_short room c = by (nat_le (length c.bytes) room) refl where
 read_again : (drops : Bool) (c : Coming) → IsReadAdapted drops c
 read_again drops c =
     let short = heard_short (2 ^ 63 - 1) c in
-    items_read (adapted drops (items_from c).items) (all_spelled drops Other (items_from c).items (all_read (heard c).fails (heard c).bytes (items_from c).items (items_from c).end (has_reading (heard c).bytes (heard c).fails) (omega (arith, short))))
+    items_read (adapted drops (items_from c).items) (all_spelled drops start (items_from c).items (all_read (heard c).fails (heard c).bytes (items_from c).items (items_from c).end (has_reading (heard c).bytes (heard c).fails) (omega (arith, short))))
 
 pub again : (drops : Bool) (o : Option Coming) → IsReadAgain drops o
 again drops None = tt

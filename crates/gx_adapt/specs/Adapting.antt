@@ -1,8 +1,9 @@
 -- What adapting a stream gives, sends and leaves.
-use Rattle.std.specs.Prelude.{◌≡◌, ℕ, ◌+◌, ◌<◌, ◌^◌, Bool, false, ◌&&◌, codes, if◌then◌else◌, List, ◌++◌, Option, Some, None, Result, Ok, Err, OnOk}
+use Rattle.std.specs.Prelude.{◌≡◌, ℕ, ◌+◌, ◌<◌, ◌^◌, Bool, true, false, ◌&&◌, codes, if◌then◌else◌, List, ◌++◌, map, Option, Some, None, Result, Ok, Err, OnOk, ⊤}
 use Rattle.std.specs.Ordering.{nat_cmp}
 use Rattle.std.specs.Option.{option_or, option_map_or}
 use Rattle.std.specs.BTreeSet.{contains}
+use Rattle.std.specs.declared.vec.Vec.{Vec}
 use Rattle.gx_model.specs.declared.faults.Fault.TheVariants as model
 use Rattle.gx_model.specs.Texts.{Bytes}
 use Rattle.gx_model.specs.Streams.Items.{Item, Line, Data, End, Finished, Failed, Stream}
@@ -13,13 +14,17 @@ use Rattle.gx_stream.specs.declared.fault.StreamFault.{StreamFault}
 use Rattle.gx_stream.specs.declared.fault.StreamFault.TheVariants as stream
 use Rattle.gx_adapt.specs.Lines as lines
 use Rattle.gx_adapt.specs.Marks.{command_begun, command_of, mark_behind, is_blob_or_tag, is_tag, sets_mark, is_of_blob_or_tag}
-use Rattle.gx_adapt.specs.Streams.{adapted, is_spaced, is_deletion, is_requoted, is_marks, is_asking, is_done, on_line, report_of}
+use Rattle.gx_adapt.specs.Lines.{is_reset_line}
+use Rattle.gx_adapt.specs.Streams.{adapted, lost_at, lost_lines, is_spaced, is_deletion, is_requoted, is_marks, is_asking, is_done, on_line, report_of}
 use Rattle.gx_model.specs.Export.{items_text}
 use Rattle.gx_adapt.specs.Laws.{IsReadAdapted}
+use Rattle.gx_adapt.specs.declared.adapting.Adapted.{Adapted}
+use Rattle.gx_adapt.specs.declared.course.Course.{Course}
 use Rattle.gx_adapt.specs.declared.fault.AdaptFault.{AdaptFault}
 use Rattle.gx_adapt.specs.declared.fault.AdaptFault.TheVariants.{OutOfMemory, ReadFailed, WriteFailed, TruncatedData, BadNumber}
+use Rattle.gx_adapt.specs.declared.losses.Losses.{Losses}
 use Rattle.gx_adapt.specs.declared.lot.Lot.{Lot}
-use Rattle.gx_adapt.specs.declared.lot.Lot.TheVariants.{Kept, Deletion, Marks, Feature, Signature, Ident, Modify, Remove, Move}
+use Rattle.gx_adapt.specs.declared.lot.Lot.TheVariants.{Kept, Deletion, Marks, Feature, Signature, Unfinished, Ident, Modify, Remove, Move}
 use Rattle.gx_adapt.specs.declared.marks.Command.{Command}
 use Rattle.gx_adapt.specs.declared.marks.Marks as held
 use Rattle.gx_adapt.specs.declared.report.Report.{Report}
@@ -39,10 +44,14 @@ text_for drops is = items_text (adapted drops is)
 abbrev pub EndsWith : Bool → Stream → End → Option Taken → Option Taken → Type 0
 EndsWith drops s end was is = (s.end ≡ end) × Took was is (text_for drops s.items)
 
--- All items went out adapted, and the report counts them. Or those went out that came before the stream's fault. For want
+-- texts that are held
+abbrev pub texts_of : {A : Type 0} → Vec (Vec ℕ A) A → List Bytes
+texts_of texts = map (λ text. text.items) texts.items
+
+-- All items went out adapted, the report counts them, and the lost lines are told. Or those went out that came before the stream's fault. For want
 -- of memory some first items went out. Where the sink failed, a front of the adapted text did.
-abbrev pub Adapts : Bool → Stream → Option Taken → Option Taken → Result Report AdaptFault → Type 0
-Adapts drops s was is (Ok report) = (report ≡ report_of drops s.items) × EndsWith drops s Finished was is
+abbrev pub Adapts : {A : Type 0} → Bool → Stream → Option Taken → Option Taken → Result (Adapted A) AdaptFault → Type 0
+Adapts drops s was is (Ok adapted) = ((adapted.report ≡ report_of drops s.items) × (texts_of adapted.lost ≡ lost_lines s.items)) × EndsWith drops s Finished was is
 Adapts drops s was is (Err ReadFailed) = EndsWith drops s (Failed model.ReadFailed) was is
 Adapts drops s was is (Err TruncatedData) = EndsWith drops s (Failed model.TruncatedData) was is
 Adapts drops s was is (Err BadNumber) = EndsWith drops s (Failed model.BadNumber) was is
@@ -50,7 +59,7 @@ Adapts drops s was is (Err OutOfMemory) = (front : List Item) × (rest : List It
 Adapts drops s was is (Err WriteFailed) = FailedWithin was is (text_for drops s.items)
 
 -- the same of a source's items; where it tells nothing, of those of some text
-abbrev pub AdaptsFrom : Bool → Option Stream → Option Taken → Option Taken → Result Report AdaptFault → Type 0
+abbrev pub AdaptsFrom : {A : Type 0} → Bool → Option Stream → Option Taken → Option Taken → Result (Adapted A) AdaptFault → Type 0
 AdaptsFrom drops None was is r = (s : Stream) × AreOfText s × Adapts drops s was is r
 AdaptsFrom drops (Some s) was is r = Adapts drops s was is r
 
@@ -94,6 +103,18 @@ pub record Passes {A : Type 0} (item : Item) (was is : held.Marks A) : Type 0 wh
   pub command : is.command ≡ command_behind item was.command
   pub numbers : SetsMark item was is
 
+-- ---- lost lines
+
+-- the line of a reset is kept
+abbrev pub KeepsReset : Item → Bytes → Type 0
+KeepsReset (Line l) reset = is_reset_line l ≡ true → reset ≡ l
+KeepsReset (Data x) reset = ⊤
+
+-- an item was passed, which is so far in its stream
+pub record Loses {A : Type 0} (course : Course) (item : Item) (was is : Losses A) : Type 0 where
+  pub lines : texts_of is.lines ≡ texts_of was.lines ++ lost_at was.reset.items course item
+  pub reset : KeepsReset item is.reset.items
+
 -- ---- one item
 
 -- what becomes of an item, as the code tells it
@@ -103,6 +124,7 @@ shown_lot Deletion = lines.deletion
 shown_lot Marks = lines.marks
 shown_lot Feature = lines.feature
 shown_lot Signature = lines.signature
+shown_lot Unfinished = lines.unfinished
 shown_lot (Ident word ident) = lines.spaced (lines.spaced_line word.now ident.now)
 shown_lot (Modify mode dataref path) = lines.requoted (lines.modified_line mode.now dataref.now path.now)
 shown_lot (Remove path) = lines.requoted (lines.quoted_line (codes "D") path.now)

@@ -10,14 +10,15 @@ use Rattle.gx_adapt.specs.Paths.{quoted, is_open, anew, source_of}
 use Rattle.gx_adapt.specs.declared.lot.Behind.{Behind}
 use Rattle.gx_adapt.specs.declared.lot.Behind.TheVariants.{Reset, Signature, Other}
 
--- An item stays, or is left out since it deletes a branch, is about marks, asks for a feature or is of a signature, or is
--- another line: one whose identity has a space before its `<`, or one with a path in quotes.
+-- An item stays, or is left out since it deletes a branch, is about marks, asks for a feature, is of a signature or ends a
+-- stream that isn't whole, or is another line: one whose identity has a space before its `<`, or one with a path in quotes.
 pub data Lot : Type 0 where
   kept : Lot
   deletion : Lot
   marks : Lot
   feature : Lot
   signature : Lot
+  unfinished : Lot
   spaced : Bytes → Lot
   requoted : Bytes → Lot
 
@@ -40,6 +41,10 @@ abbrev pub is_of_marks : Bytes → Bool
 is_of_marks l =
     begins (codes "feature import-marks=") l || begins (codes "feature import-marks-if-exists=") l || begins (codes "feature export-marks=") l
     || bytes_eq l (codes "feature relative-marks") || bytes_eq l (codes "feature no-relative-marks") || begins (codes "get-mark :") l
+
+-- those of them by which git reads or writes a file of marks
+abbrev pub changes_marks : Bytes → Bool
+changes_marks l = begins (codes "feature import-marks=") l || begins (codes "feature import-marks-if-exists=") l || begins (codes "feature export-marks=") l
 
 -- a feature that only asks whether the reader knows a command. git knows them all, so that the line does nothing there
 abbrev pub is_feature : Bytes → Bool
@@ -155,6 +160,7 @@ lines_for l deletion = []
 lines_for l marks = []
 lines_for l feature = []
 lines_for l signature = []
+lines_for l unfinished = []
 lines_for l (spaced new) = Line new ∷ []
 lines_for l (requoted new) = Line new ∷ []
 
@@ -165,6 +171,7 @@ is_dropped deletion = false
 is_dropped marks = false
 is_dropped feature = false
 is_dropped signature = true
+is_dropped unfinished = false
 is_dropped (spaced new) = false
 is_dropped (requoted new) = false
 

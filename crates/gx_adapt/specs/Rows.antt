@@ -7,7 +7,7 @@ use Rattle.gx_model.specs.Streams.Items.{Item, Line, Data}
 use Rattle.gx_adapt.specs.Paths.{quoted, is_open, source_of}
 use Rattle.gx_adapt.specs.Lines.{Lot, kept, deletion, marks, feature, signature, spaced, requoted, ident_lot, path_lot, modify_lot, move_lot, word_lot, lot_of, is_early, is_refused}
 use Rattle.gx_adapt.specs.Marks.{command_begun, mark_behind, tags_of_blobs_or_tags}
-use Rattle.gx_adapt.specs.Streams.{adapted, ends_with_done, report_of}
+use Rattle.gx_adapt.specs.Streams.{adapted, ends_with_done, lost_lines, report_of}
 use Rattle.gx_adapt.specs.declared.lot.Behind.{Behind}
 use Rattle.gx_adapt.specs.declared.lot.Behind.TheVariants.{Reset, Signature, Other}
 
@@ -150,7 +150,7 @@ abbrev after : List Item
 after =
     Line (codes "feature done") ∷ Line (codes "blob") ∷ Line (codes "mark :1") ∷ Data (codes "author <a> 1 +0000" ++ 10 ∷ [])
     ∷ Line (codes "commit refs/heads/main") ∷ Line (codes "author  <a> -1 +0000") ∷ Line (codes "committer A <a> 1 +0000") ∷ Data (codes "M 100644 :1 \"a") ∷ Line null_from
-    ∷ Line (codes "N :1 refs/heads/main") ∷ Line (codes "M 100644 :1 \"\\\"a\"") ∷ Line [] ∷ Line (codes "reset refs/heads/side") ∷ Line [] ∷ Line (codes "done") ∷ []
+    ∷ Line (codes "N :1 refs/heads/main") ∷ Line (codes "M 100644 :1 \"\\\"a\"") ∷ Line [] ∷ Line (codes "reset refs/heads/side") ∷ Line [] ∷ []
 
 stream_adapted : adapted false before ≡ after
 unfolding cut_at char_at unquote_within is_open source_of ident_lot path_lot modify_lot move_lot word_lot lot_of
@@ -186,6 +186,44 @@ signatures_left_out = refl
 signatures_counted : report_of true signed ≡ record { identities = 1; deletions = 1; paths = 0; marks = 0; features = 1; signatures = 2; refused_names = 1; notes = 0; early_dates = 0; tags_of_blobs_or_tags = 0; ended_with_done = false }
 unfolding cut_at char_at unquote_within is_open source_of ident_lot path_lot modify_lot move_lot word_lot lot_of is_early is_refused command_begun mark_of mark_behind
 signatures_counted = refl
+
+-- ---- lines that are lost
+
+-- streams, what tells of their lost lines, and what goes out
+pub record LostRow : Type 0 where
+  pub items : List Item
+  pub lost : List Bytes
+  pub sent : List Item
+
+-- a ref that is deleted, as git fast-export(1) writes it
+abbrev deletes : Bytes → List Item
+deletes ref = Line (codes "reset " ++ ref) ∷ Line null_from ∷ Line [] ∷ []
+
+abbrev pub lost_rows : List LostRow
+lost_rows =
+    record { items = deletes (codes "refs/heads/a") ++ deletes (codes "refs/tags/b") ++ Line (codes "done") ∷ []; lost = codes "reset refs/heads/a" ∷ codes "reset refs/tags/b" ∷ []; sent = Line (codes "reset refs/heads/a") ∷ Line [] ∷ Line (codes "reset refs/tags/b") ∷ Line [] ∷ [] }
+    -- files of marks
+    ∷ record { items = Line (codes "feature import-marks=a") ∷ Line (codes "feature done") ∷ Line (codes "done") ∷ []; lost = codes "feature import-marks=a" ∷ []; sent = Line (codes "feature done") ∷ [] }
+    ∷ record { items = Line (codes "feature import-marks-if-exists=a") ∷ Line (codes "feature export-marks=b") ∷ Line (codes "done") ∷ []; lost = codes "feature import-marks-if-exists=a" ∷ codes "feature export-marks=b" ∷ []; sent = [] }
+    -- lines that are left out and change neither
+    ∷ record { items = Line (codes "feature relative-marks") ∷ Line (codes "get-mark :1") ∷ Line (codes "feature notes") ∷ Line (codes "done") ∷ []; lost = []; sent = Line (codes "done") ∷ [] }
+    -- what only looks like a deletion
+    ∷ record { items = Line (codes "commit refs/heads/a") ∷ Line null_from ∷ Line (codes "done") ∷ []; lost = []; sent = Line (codes "commit refs/heads/a") ∷ Line null_from ∷ Line (codes "done") ∷ [] }
+    ∷ record { items = Line (codes "reset refs/heads/a") ∷ Line [] ∷ Line null_from ∷ []; lost = []; sent = Line (codes "reset refs/heads/a") ∷ Line [] ∷ Line null_from ∷ [] }
+    -- blocks with such lines
+    ∷ record { items = Data (codes "feature export-marks=b") ∷ Line (codes "reset refs/heads/a") ∷ Data null_from ∷ Data (codes "done") ∷ []; lost = []; sent = Data (codes "feature export-marks=b") ∷ Line (codes "reset refs/heads/a") ∷ Data null_from ∷ Data (codes "done") ∷ [] }
+    -- behind `done`
+    ∷ record { items = Line (codes "done") ∷ Line (codes "feature export-marks=b") ∷ Line (codes "done") ∷ []; lost = []; sent = Line (codes "done") ∷ Line (codes "done") ∷ [] }
+    -- each `done` behind a lost line
+    ∷ record { items = Line (codes "feature export-marks=b") ∷ Line (codes "done") ∷ Line (codes "feature export-marks=c") ∷ Line (codes "done") ∷ Data (codes "done") ∷ []; lost = codes "feature export-marks=b" ∷ []; sent = Data (codes "done") ∷ [] }
+    ∷ []
+
+lost_told : map (λ r. lost_lines r.items) lost_rows ≡ map (λ r. r.lost) lost_rows
+lost_told = refl
+
+lost_left_out : map (λ r. adapted false r.items) lost_rows ≡ map (λ r. r.sent) lost_rows
+unfolding cut_at word_lot lot_of
+lost_left_out = refl
 
 -- streams, and whether `done` ends them
 abbrev pub end_rows : List (List Item × Bool)

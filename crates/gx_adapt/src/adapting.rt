@@ -8,8 +8,10 @@ ghost use Rattle.gx_stream.specs.Heard.{items_from};
 ghost use Rattle.gx_stream.specs.Reading.{item_of};
 ghost use Rattle.gx_adapt.specs.Adapting.{AdaptsFrom, Counts, IsReadAgain, HasRoom, Passes, Puts, PutsIf, SendsItem};
 
+use crate::course::Course;
 use crate::fault::AdaptFault;
-use crate::lot::{Behind, Lot, behind_of, lot_in};
+use crate::losses::Losses;
+use crate::lot::{Lot, lot_in};
 use crate::marks::Marks;
 use crate::report::Report;
 use crate::text::{put_announcement, put_line};
@@ -17,27 +19,40 @@ use gx_stream::{Item, ItemReader};
 use gx_text::{Sink, Source, send};
 use std::alloc::Allocator;
 
-/// Sends a stream with the lines changed that are read otherwise here than by git, and answers how many they are:
+/// What comes of a stream that was adapted to its end.
+#[derive(Drop)]
+pub struct Adapted<A: Allocator> {
+    /// What was changed in it.
+    pub report: Report,
+    /// The lines that were left out though git changes refs or files of marks by them, before the line `done`: a line `feature`
+    /// as it stands, and for a deletion the line `reset` of its ref. Where there are any, no line `done` went out, so that the
+    /// adapted stream isn't taken for a whole one.
+    pub lost: Vec<Vec<u8, A>, A>,
+}
+
+/// Sends a stream with the lines changed that are read otherwise here than by git, and answers how many they are, and which lines
+/// are lost by that:
 ///
 /// - an identity that begins with `<` gets a space before it, as git writes it,
 /// - `from` with forty zeros directly behind a `reset` is left out,
 /// - a path that begins with a quote and isn't a quoted text is put in quotes, so that it is the name that git takes,
 /// - lines that ask for files of marks, and `get-mark`, are left out,
+/// - `done` is left out behind a line that is lost,
 /// - a `feature` that only asks whether a command is known, as `feature notes`, is left out,
 /// - where signatures are to be dropped, a line `gpgsig` is left out with the block directly behind it.
 ///
 /// No byte of another block changes. Comments go, a block is announced by its length, and an LF ends each line and each block.
 /// Tags of blobs and of tags are counted, by the marks; signatures, and names that git refuses for a branch, by their lines.
 /// The report tells whether `done` is the last line, too.
-/// Each item goes out as soon as it has come. Memory: the longest item, the longest line once more, and the marks of blobs and
-/// of tags. Cost: the bytes of the stream, and for each line with a mark the logarithm of the number of marks.
+/// Each item goes out as soon as it has come. Memory: the longest item, the longest line once more, the marks of blobs and of
+/// tags, and the lines that are lost. Cost: the bytes of the stream, and for each line with a mark the logarithm of the number of marks.
 /// Source: git-fast-import(1), and of signatures git-fast-export(1), `--signed-commits`.
 pub fn adapt<R: Source + Drop, W: Sink, A: Allocator + Copy>(
     alloc: A,
     source: R,
     sink: &mut W,
     drop_signatures: bool,
-) -> Result<Report, AdaptFault>
+) -> Result<Adapted<A>, AdaptFault>
     ensures adapts { AdaptsFrom drop_signatures (option_map items_from (R.coming source))
         (W.taken sink.old) (W.taken sink.new) result }
     ensures again { OnOk result (IsReadAgain drop_signatures (R.coming source)) }
@@ -45,19 +60,26 @@ pub fn adapt<R: Source + Drop, W: Sink, A: Allocator + Copy>(
     let mut reader = ItemReader::new(alloc, source);
     let mut text = Vec::new(alloc);
     let mut report = Report::new();
-    let mut behind = Behind::Other;
+    let mut course = Course::start();
     let mut marks = Marks::new(alloc);
+    let mut losses = Losses::new(alloc);
     loop {
         let item = match reader.next() {
             Err(fault) => return Err(AdaptFault::from(fault)),
-            Ok(None) => return Ok(report),
+            Ok(None) => {
+                let lost = losses.lines;
+                return Ok(Adapted { report, lost });
+            }
             Ok(Some(item)) => item,
         };
-        let lot = lot_in(drop_signatures, behind, item);
+        if let Err(fault) = losses.pass(course, item) {
+            return Err(AdaptFault::from(fault));
+        }
+        let lot = lot_in(drop_signatures, course, item);
         if let Err(fault) = send_item(&mut text, sink, &mut report, &mut marks, item, lot) {
             return Err(fault);
         }
-        behind = behind_of(item);
+        course = course.past(item);
     }
 }
 

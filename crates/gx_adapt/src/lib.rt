@@ -4,15 +4,17 @@
 #![tactic(auto)]
 
 mod adapting;
+mod course;
 mod fault;
 mod laws;
+mod losses;
 mod lot;
 mod marks;
 mod path;
 mod report;
 mod text;
 
-pub use adapting::adapt;
+pub use adapting::{Adapted, adapt};
 pub use fault::AdaptFault;
 pub use laws::{blocks_are_kept, quoted_paths_are_kept};
 pub use report::Report;

@@ -4,9 +4,10 @@ ghost use Rattle.std.specs.Prelude.{◌≡◌, ◌&&◌, codes};
 ghost use Rattle.gx_model.specs.Texts.{cut_at};
 ghost use Rattle.gx_stream.specs.Reading.{item_of};
 ghost use Rattle.gx_adapt.specs.Lines.{is_reset_line, is_signature_line, behind_line, is_reset, is_signature, is_null_from, is_of_marks, is_feature, is_ident_word, is_move_word, ident_lot, path_lot, dataref_lot, modify_lot, move_lot, word_lot, lot_of, block_lot};
-ghost use Rattle.gx_adapt.specs.Streams.{behind_of, lot_in};
+ghost use Rattle.gx_adapt.specs.Streams.{behind_of, line_lot, lot_in};
 ghost use Rattle.gx_adapt.specs.Adapting.{shown_lot};
 
+use crate::course::{Course, is_done};
 use crate::path::{is_open, source_of};
 use gx_stream::Item;
 use gx_text::cut;
@@ -32,6 +33,8 @@ pub(crate) enum Lot<'a> {
     Feature,
     /// Left out: it is the line of a signature, or the signature.
     Signature,
+    /// Left out: it is `done`, behind a line that is lost.
+    Unfinished,
     /// A word, and an identity that begins with `<`.
     Ident(&'a [u8], &'a [u8]),
     /// A mode, a dataref, and a path that needs quotes.
@@ -42,13 +45,24 @@ pub(crate) enum Lot<'a> {
     Move(&'a [u8], &'a [u8], &'a [u8]),
 }
 
-/// What becomes of an item, by whether signatures are dropped, and by what it stands behind.
-pub(crate) fn lot_in(drops: bool, behind: Behind, item: Item<'_>) -> Lot<'_>
-    ensures { shown_lot result ≡ lot_in drops behind (item_of item.entry) }
+/// What becomes of an item, by whether signatures are dropped, and by how far its stream is.
+pub(crate) fn lot_in(drops: bool, course: Course, item: Item<'_>) -> Lot<'_>
+    ensures { shown_lot result ≡ lot_in drops course (item_of item.entry) }
 {
     match item {
-        Item::Line(line) => lot_of(drops, behind, line),
-        Item::Data(_) => block_lot(drops, behind),
+        Item::Line(line) => line_lot(drops, course, line),
+        Item::Data(_) => block_lot(drops, course.behind),
+    }
+}
+
+/// What becomes of a line.
+fn line_lot(drops: bool, course: Course, line: &[u8]) -> Lot<'_>
+    ensures { shown_lot result ≡ line_lot drops course line.now }
+{
+    if course.lost && is_done(line) {
+        Lot::Unfinished
+    } else {
+        lot_of(drops, course.behind, line)
     }
 }
 
@@ -85,7 +99,7 @@ fn block_lot<'a>(drops: bool, behind: Behind) -> Lot<'a>
     }
 }
 
-/// What becomes of a line.
+/// What becomes of a line of a stream that nothing is lost of.
 #[tactic(auto, unfolding(crate::specs::Lines::lot_of))]
 fn lot_of(drops: bool, behind: Behind, line: &[u8]) -> Lot<'_>
     ensures { shown_lot result ≡ lot_of drops behind line.now }
@@ -129,7 +143,8 @@ fn is_dropped(drops: bool, line: &[u8]) -> bool
     drops && is_signature_line(line)
 }
 
-fn is_deletion(behind: Behind, line: &[u8]) -> bool
+/// Whether a line deletes the ref of the reset that it stands behind.
+pub(crate) fn is_deletion(behind: Behind, line: &[u8]) -> bool
     ensures { result ≡ (is_reset behind && is_null_from line.now) }
 {
     is_reset(behind) && is_null_from(line)

@@ -7,6 +7,7 @@ ghost use Rattle.gx_adapt.specs.Lines.{is_branch_word, is_early, is_refused, has
 ghost use Rattle.gx_adapt.specs.Streams.{nothing_counted};
 ghost use Rattle.gx_adapt.specs.Adapting.{shown_lot, changed, counted, HasRoom};
 
+use crate::course::is_done;
 use crate::lot::{Lot, is_ident_word, is_signature_line};
 use gx_text::{cut, is_ref_name};
 
@@ -80,7 +81,7 @@ impl Report {
         if of_blob_or_tag {
             self.tags_of_blobs_or_tags += 1;
         }
-        self.ended_with_done = line == b"done".as_slice();
+        self.ended_with_done = is_done(line);
     }
 
     /// Counts a block, of which this becomes.
@@ -98,7 +99,7 @@ impl Report {
         ensures { self.new ≡ changed (shown_lot lot.entry) self.old }
     {
         match lot {
-            Lot::Kept | Lot::Signature => {}
+            Lot::Kept | Lot::Signature | Lot::Unfinished => {}
             Lot::Deletion => self.deletions += 1,
             Lot::Marks => self.marks += 1,
             Lot::Feature => self.features += 1,

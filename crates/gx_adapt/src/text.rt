@@ -22,7 +22,9 @@ pub(crate) fn put_line<A: Allocator + Copy>(
     ensures { GrowsBy out.old out.new (items_text (lines_for line.now (shown_lot lot.entry))) result }
 {
     match lot {
-        Lot::Deletion | Lot::Marks | Lot::Feature | Lot::Signature => return Ok(()),
+        Lot::Deletion | Lot::Marks | Lot::Feature | Lot::Signature | Lot::Unfinished => {
+            return Ok(());
+        }
         Lot::Kept => out.extend_from_slice(line)?,
         Lot::Ident(word, ident) => put_ident(out, word, ident)?,
         Lot::Modify(mode, dataref, path) => put_modify(out, mode, dataref, path)?,

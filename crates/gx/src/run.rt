@@ -1,7 +1,8 @@
 //! One run of the program: the system that it runs on, and why it couldn't do what it was asked.
 
 use crate::fault::RunFault;
-use gx_cli::CliFault;
+use gx_cli::{CliFault, printed_path};
+use std::alloc::AllocError;
 use gx_place::{Patience, PlaceFault};
 use std::cell::Cell;
 use std::io::{self, ErrorKind, IsTerminal, Write};
@@ -14,6 +15,8 @@ pub(crate) enum Subject {
     Folder,
     Input,
     Output,
+    /// A file that an option names.
+    Told,
 }
 
 impl From<gx_place::Subject> for Subject {
@@ -167,12 +170,14 @@ impl<'a> Run<'a> {
     pub(crate) fn tell_wait(&self, file: &str) {
         if self.is_watched() && !self.has_told_wait.get() {
             self.has_told_wait.set(true);
+            let file = self.shown(file, "");
             let _ = eprintln!(self.rt; "gx: waiting for another run on {file}");
         }
     }
 
     /// Tells that a file that was replaced has fewer permissions than before.
     pub(crate) fn tell_narrowed(&self, file: &str) {
+        let file = self.shown(file, "");
         let _ = eprintln!(self.rt; "gx: {file}: permissions were left out");
     }
 
@@ -195,6 +200,20 @@ impl<'a> Run<'a> {
         }
     }
 
+    /// A file's name with what is put behind it, as paths are printed; nothing where there is no memory for it.
+    fn shown(&self, file: &str, behind: &str) -> String {
+        match self.shown_name(file, behind) {
+            Ok(name) => name,
+            Err(_) => String::new(self.rt.alloc()),
+        }
+    }
+
+    fn shown_name(&self, file: &str, behind: &str) -> Result<String, AllocError> {
+        let alloc = self.rt.alloc();
+        let name = format!(in alloc; "{file}{behind}")?;
+        String::from_utf8_lossy(alloc, &printed_path(alloc, name.as_bytes())?)
+    }
+
     fn tell_explanation(&self) {
         if let Some(lines) = self.explanation.replace(None) {
             let _ = self.rt.stderr().write_all(&lines);
@@ -203,12 +222,18 @@ impl<'a> Run<'a> {
 
     fn tell_cause(&self, cause: &Cause, file: &str) {
         let error = cause.error;
+        let behind = if cause.subject == Subject::NextText {
+            ".new"
+        } else {
+            ""
+        };
+        let file = self.shown(file, behind);
         let _ = match cause.subject {
-            Subject::Store => eprintln!(self.rt; "gx: {file}: {error}"),
-            Subject::NextText => eprintln!(self.rt; "gx: {file}.new: {error}"),
+            Subject::Store | Subject::NextText => eprintln!(self.rt; "gx: {file}: {error}"),
             Subject::Folder => eprintln!(self.rt; "gx: the folder of {file}: {error}"),
             Subject::Input => eprintln!(self.rt; "gx: standard input: {error}"),
             Subject::Output => eprintln!(self.rt; "gx: standard output: {error}"),
+            Subject::Told => eprintln!(self.rt; "gx: the file that an option names: {error}"),
         };
     }
 }

@@ -8,22 +8,25 @@ mod put;
 mod stamp;
 
 use crate::fault::RunFault;
-use crate::run::Run;
+use crate::run::{Run, Subject};
 use crate::streams::devices::Noted;
 use crate::streams::explanation::explained;
 use crate::streams::progress::{Beside, ProgressLine};
-use crate::streams::reports::{tell_changes, tell_import, tell_pruned, tell_typed_stream};
+use crate::streams::reports::{
+    tell_changes, tell_import, tell_nameless, tell_pruned, tell_typed_stream,
+};
 use crate::streams::traced::Traced;
 use crate::streams::{refusal, serve_line};
 use gx_cli::{
-    CliFault, Explanation, Features, ImportReport, Line, Repo, collect_store, import_store,
-    import_store_reporting,
+    CliFault, Explanation, Features, ImportReport, Line, Repo, collect_store,
+    collect_store_keeping, drop_store, import_store, import_store_reporting, lines_from,
 };
 use gx_object::Sha1Namer;
 use gx_text::{FromRead, IntoWrite};
 use next_text::NextText;
 pub(crate) use put::put;
 use std::alloc::Global;
+use std::fs::File;
 use std::hash::RandomState;
 
 /// What an import left, with the lines of the refs that it changed, where they are asked for.
@@ -43,13 +46,17 @@ pub(crate) fn init(
 /// Drops refs from a store file, which stays as it was where that is refused.
 pub(crate) fn drop_refs(
     run: &Run<'_>,
-    line: &Line<'_>,
     file: &str,
+    refs: &[&str],
+    stdin: bool,
     state: RandomState,
 ) -> Result<(), RunFault> {
     let mut next = NextText::claim_next(run, file)?;
     let store = next.read_store()?;
-    serve_next(run, line, &mut next, store, state)
+    let source = FromRead::new(Noted::input(run));
+    let left = drop_store(run.rt.alloc(), Sha1Namer, store, refs, stdin, source, state)?;
+    next.publish_store(&left)?;
+    Ok(())
 }
 
 /// Serves a command over a store's text. Where there is a next one, it is put in its place, also where the command is refused.
@@ -67,21 +74,44 @@ fn serve_next(
     Ok(refusal(&outcome)?)
 }
 
-/// Leaves out of a store file what no ref reaches; where that is refused, it stays as it was. How much went is told once the
-/// file is free.
+/// Leaves out of a store file what neither refs reach nor the objects that the lines of the file `keep` name; where that is
+/// refused, it stays as it was. The lines are read before the store file is claimed. How much went is told once that is free.
 pub(crate) fn collect(
     run: &Run<'_>,
     file: &str,
+    keep: Option<&str>,
     report: bool,
     state: RandomState,
 ) -> Result<(), RunFault> {
+    let alloc = run.rt.alloc();
+    let lines = match keep {
+        Some(told) => told_lines(run, told)?,
+        None => Vec::new(alloc),
+    };
     let mut next = NextText::claim_next(run, file)?;
     let store = next.read_store()?;
-    let (repo, gone) = collect_store(run.rt.alloc(), Sha1Namer, store, state)?;
+    let (repo, gone) = match keep {
+        Some(_) => collect_store_keeping(alloc, Sha1Namer, store, lines.as_slice(), state)?,
+        None => collect_store(alloc, Sha1Namer, store, state)?,
+    };
     next.publish_store(&repo)?;
     drop(next);
     tell_pruned(run, &gone, report);
     Ok(())
+}
+
+/// The lines of a file that an option names.
+fn told_lines(run: &Run<'_>, told: &str) -> Result<Vec<Vec<u8>>, CliFault> {
+    match File::open(run.rt, told) {
+        Ok(opened) => {
+            let source = FromRead::new(Noted::new(run, Subject::Told, opened));
+            lines_from(run.rt.alloc(), source)
+        }
+        Err(error) => {
+            run.note(Subject::Told, error);
+            Err(CliFault::ReadFailed)
+        }
+    }
 }
 
 /// Imports standard input into a store file, which a refused import leaves as the last checkpoint made it. What is told of it
@@ -96,7 +126,7 @@ pub(crate) fn import(
     let mut next = NextText::claim_next(run, file)?;
     let store = next.read_store()?;
     tell_typed_stream(run);
-    let (left, answer) = import_shown(run, store, features, report, state);
+    let (left, answer, nameless) = import_shown(run, store, features, report, state);
     let changes = match left {
         Some((repo, changes)) => {
             next.publish_store(&repo)?;
@@ -107,20 +137,23 @@ pub(crate) fn import(
     drop(next);
     tell_changes(run, &changes);
     tell_import(run, &answer?, report);
+    if report {
+        tell_nameless(run, nameless);
+    }
     Ok(())
 }
 
-/// Imports standard input, and shows how far it is.
+/// Imports standard input, and shows how far it is. Where a report is asked for, identities without a name are counted.
 fn import_shown(
     run: &Run<'_>,
     store: Vec<u8>,
     features: Features,
     report: bool,
     state: RandomState,
-) -> (Left, Result<ImportReport, CliFault>) {
+) -> (Left, Result<ImportReport, CliFault>, u64) {
     let alloc = run.rt.alloc();
     let progress = ProgressLine::new(run);
-    let mut input = Traced::input(run, &progress);
+    let mut input = Traced::input(run, &progress, report);
     let mut told = Explanation::none();
     let mut sink = IntoWrite::new(Beside::new(&progress));
     let source = FromRead::new(&mut input);
@@ -135,5 +168,6 @@ fn import_shown(
         (repo.map(|repo| (repo, Vec::new(alloc))), answer)
     };
     progress.clear();
-    (left, explained(run, &input, answer, &told))
+    let nameless = input.trail().map_or(0, |trail| trail.nameless());
+    (left, explained(run, &input, answer, &told), nameless)
 }

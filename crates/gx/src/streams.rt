@@ -12,8 +12,8 @@ use crate::stores::files::read_store;
 use devices::{Noted, flushed};
 use explanation::explained;
 use gx_cli::{
-    CliFault, Explanation, Features, Line, Outcome, adapt_stream, check_stream, find_fault,
-    serve_owned, try_revision,
+    CliFault, Explanation, Features, Line, Outcome, adapt_status, adapt_stream, check_stream,
+    find_fault, serve_owned, try_revision,
 };
 use gx_object::Sha1Namer;
 use gx_text::{FromRead, IntoWrite};
@@ -110,16 +110,16 @@ fn print_to<W: Write + Drop>(
     }
 }
 
-/// Adapts standard input, through a buffer, and tells what was changed.
-pub(crate) fn adapt(run: &Run<'_>, drop_signatures: bool) -> Result<(), CliFault> {
+/// Adapts standard input, through a buffer, and tells what was changed. Answers the status.
+pub(crate) fn adapt(run: &Run<'_>, drop_signatures: bool) -> Result<u8, CliFault> {
     match BufWriter::new(run.rt.alloc(), Noted::output(run)) {
         Ok(mut out) => {
             let source = FromRead::new(Noted::input(run));
             let mut sink = IntoWrite::new(&mut out);
             let adapted = adapt_stream(run.rt.alloc(), source, &mut sink, drop_signatures);
-            let report = flushed(&mut out, adapted)?;
-            tell_adaption(run, &report, drop_signatures);
-            Ok(())
+            let adapted = flushed(&mut out, adapted)?;
+            tell_adaption(run, &adapted, drop_signatures);
+            Ok(adapt_status(&adapted))
         }
         Err(_) => Err(CliFault::OutOfMemory),
     }
@@ -146,7 +146,7 @@ pub(crate) fn try_stream(
     tell_typed_stream(run);
     let alloc = run.rt.alloc();
     let progress = ProgressLine::new(run);
-    let mut input = Traced::input(run, &progress);
+    let mut input = Traced::input(run, &progress, false);
     let mut told = Explanation::none();
     let source = FromRead::new(&mut input);
     let mut sink = IntoWrite::new(Beside::new(&progress));

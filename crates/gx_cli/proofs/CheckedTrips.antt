@@ -8,15 +8,12 @@ use Rattle.gx_model.specs.Texts.Sinks.{Taken}
 use Rattle.gx_text.specs.Devices.{Coming}
 use Rattle.gx_import.specs.Explaining.{TellsNothing}
 use Rattle.gx_import.specs.declared.explanation.Explanation.{Explanation}
-use Rattle.gx_import.specs.declared.report.Report.{Report}
-use Rattle.gx_line.specs.declared.command_line.ExportForm.{ExportForm}
 use Rattle.gx_line.specs.declared.command_line.ExportForm.TheVariants.{Changes}
 use Rattle.gx_cli.specs.Checking.{ReturnsCopy, TellsBack}
 use Rattle.gx_cli.specs.Explained.{ExplainsCommand}
 use Rattle.gx_cli.specs.Headline.{RoundTrips}
 use Rattle.gx_cli.specs.declared.fault.CliFault.{CliFault}
 use Rattle.gx_cli.specs.declared.fault.CliFault.TheVariants.{Export, Import, OutOfMemory}
-use Rattle.gx_cli.specs.declared.questions.Question.{Question}
 use Rattle.gx_cli.specs.declared.trips.RoundTrip.{RoundTrip}
 
 module _ (N A : Type 0) (name : Kind → Bytes → Bytes) (asks : Features) (made : Records) (coming : Option Coming) (was mid : Option Taken) where

@@ -10,7 +10,7 @@ use Rattle.gx_export.specs.Faults as export
 use Rattle.gx_rev.specs.RevFaults as rev
 use Rattle.gx_where.specs.Faults as place
 use Rattle.gx_cli.specs.declared.fault.CliFault.{CliFault}
-use Rattle.gx_cli.specs.declared.fault.CliFault.TheVariants.{Adapt, BadFormat, Blobs, Export, Import, OutOfMemory, ReadFailed, Revision, Store, StoreExists, Where, WriteFailed}
+use Rattle.gx_cli.specs.declared.fault.CliFault.TheVariants.{Adapt, BadFormat, Blobs, Export, Import, Keep, OutOfMemory, ReadFailed, Revision, Store, StoreExists, Where, WriteFailed}
 
 -- the line of a refusal, without its line feed
 abbrev pub line_of : CliFault → Bytes
@@ -21,6 +21,7 @@ line_of (Store fault) = codes "gx: store: " ++ store.word fault
 line_of (Export fault) = codes "gx: export: " ++ export.word fault
 line_of (Adapt fault) = codes "gx: adapt: " ++ word_of (adapt.fault_of fault)
 line_of (Where fault) = codes "gx: where: " ++ place.refusal fault
+line_of (Keep number) = codes "gx: keep " ++ decimal number ++ codes ": BadLine"
 line_of BadFormat = codes "gx: BadFormat"
 line_of StoreExists = codes "gx: store exists"
 line_of ReadFailed = codes "gx: read failed"

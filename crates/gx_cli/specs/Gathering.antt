@@ -8,8 +8,8 @@ use Rattle.gx_model.specs.Texts.Sinks.{Taken}
 use Rattle.gx_text.specs.Devices.{Coming}
 use Rattle.gx_stream.specs.Heard.{heard, items_from}
 use Rattle.gx_adapt.specs.Adapting.{AdaptsFrom}
+use Rattle.gx_adapt.specs.declared.adapting.Adapted.{Adapted}
 use Rattle.gx_adapt.specs.declared.fault.AdaptFault.{AdaptFault}
-use Rattle.gx_adapt.specs.declared.report.Report.{Report}
 use Rattle.gx_archive.specs.declared.fault.ArchiveFault.{ArchiveFault}
 use Rattle.gx_archive.specs.declared.fault.ArchiveFault.TheVariants as archive
 use Rattle.gx_batch.specs.Lines.{lines_from}
@@ -23,9 +23,9 @@ use Rattle.gx_cli.specs.declared.fault.CliFault.{CliFault}
 use Rattle.gx_cli.specs.declared.fault.CliFault.TheVariants.{Adapt, BadFormat, OutOfMemory, ReadFailed, WriteFailed}
 
 -- a source's stream goes out adapted, by whether signatures are dropped
-abbrev pub AdaptsStream : Bool → Option Coming → Option Taken → Option Taken → Result Report CliFault → Type 0
-AdaptsStream drops coming was now r =
-    (answer : Result Report AdaptFault) × AdaptsFrom drops (option_map items_from coming) was now answer × (r ≡ result_map_both (λ report. report) Adapt answer)
+abbrev pub AdaptsStream : {A : Type 0} → Bool → Option Coming → Option Taken → Option Taken → Result (Adapted A) CliFault → Type 0
+AdaptsStream {A} drops coming was now r =
+    (answer : Result (Adapted A) AdaptFault) × AdaptsFrom drops (option_map items_from coming) was now answer × (r ≡ result_map_both (λ adapted. adapted) Adapt answer)
 
 -- ---- faults of other crates, among those of the commands
 
@@ -75,6 +75,10 @@ GathersInto coming text (Ok done) = IsAllOf coming text
 GathersInto coming text (Err fault) = IsUngathered coming fault
 
 -- ---- the lines of a source
+
+-- the texts of lines
+abbrev pub texts_of : {A : Type 0} → List (Vec ℕ A) → List Bytes
+texts_of = map (λ line. line.items)
 
 -- these lines, behind which a source ends or fails, or why there aren't all of them
 abbrev pub AreLines : {A : Type 0} → List Bytes → Bool → Result (Vec (Vec ℕ A) A) CliFault → Type 0

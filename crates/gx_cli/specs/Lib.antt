@@ -17,11 +17,13 @@ pub mod Identities
 pub mod Logs
 pub mod LogRows
 pub mod Gathering
+pub mod Adapting
 pub mod Placing
 pub mod Forms
 pub mod Serving
 pub mod Again
 pub mod Collecting
+pub mod Dropping
 pub mod Reporting
 pub mod ExplainedLines
 pub mod Explained

@@ -1,5 +1,5 @@
 -- How the commands end.
-use Rattle.std.specs.Prelude.{◌≡◌, ◌⊎◌, ℕ, Bool, true, false, if◌then◌else◌, List, ◌++◌, Option, Some, None, IsSome, Result, Ok, Err, ⊤}
+use Rattle.std.specs.Prelude.{◌≡◌, ◌⊎◌, ℕ, Bool, true, false, if◌then◌else◌, List, Option, Some, None, IsSome, is_some, Result, Ok, Err, ⊤}
 use Rattle.std.specs.Borrow.{Bor}
 use Rattle.std.specs.Option.{option_map}
 use Rattle.std.specs.Result.{result_map_both}
@@ -8,10 +8,7 @@ use Rattle.gx_model.specs.declared.objects.Kind.{Kind}
 use Rattle.gx_model.specs.declared.features.Features.{Features}
 use Rattle.gx_model.specs.Texts.{Bytes}
 use Rattle.gx_model.specs.Histories.{Records, empty_repository}
-use Rattle.gx_model.specs.Laws.RepositoryLaws.{with_refs}
 use Rattle.gx_model.specs.Records.HistoryOf.{history_of}
-use Rattle.gx_model.specs.Records.Publishing.{Ref}
-use Rattle.gx_model.specs.Records.Sound.{IsSound}
 use Rattle.gx_model.specs.declared.store_versions.Version.TheVariants as version
 use Rattle.gx_model.specs.Stores.StoreText.{store_text}
 use Rattle.gx_model.specs.Stores.StoreReading.{Stored, store_of}
@@ -19,7 +16,7 @@ use Rattle.gx_model.specs.Texts.Sinks.{Taken}
 use Rattle.gx_text.specs.Devices.{Coming}
 use Rattle.gx_stream.specs.Heard.{items_from}
 use Rattle.gx_import.specs.declared.report.Report.{Report}
-use Rattle.gx_adapt.specs.declared.report.Report.{Report as AdaptReport}
+use Rattle.gx_adapt.specs.declared.adapting.Adapted.{Adapted}
 use Rattle.gx_batch.specs.Answers.{batch_answer as answered_by}
 use Rattle.gx_batch.specs.Formats.{default_parts, format_of}
 use Rattle.gx_batch.specs.declared.ending.LineEnding.{LineEnding}
@@ -28,9 +25,7 @@ use Rattle.gx_batch.specs.declared.format.Format.{Format}
 use Rattle.gx_batch.specs.declared.format.Part.{Part}
 use Rattle.gx_batch.specs.Batches.{Answers}
 use Rattle.gx_batch.specs.declared.fault.BatchFault.{BatchFault}
-use Rattle.gx_repo.specs.Dropping.{dropped}
 use Rattle.gx_repo.specs.Repositories.{Repository}
-use Rattle.gx_rev.specs.declared.fault.RevFault.TheVariants.{UnknownRef}
 use Rattle.gx_export.specs.declared.fault.ExportFault.{ExportFault}
 use Rattle.gx_model.specs.declared.store_faults.FileFault.{FileFault}
 use Rattle.gx_model.specs.declared.store_faults.FileFault.TheVariants as file
@@ -41,14 +36,16 @@ use Rattle.gx_line.specs.declared.command_line.ExportForm.{ExportForm}
 use Rattle.gx_line.specs.declared.command_line.Line.{Line}
 use Rattle.gx_line.specs.declared.command_line.Line.TheVariants as line
 use Rattle.gx_cli.specs.declared.fault.CliFault.{CliFault}
-use Rattle.gx_cli.specs.declared.fault.CliFault.TheVariants.{BadFormat, Blobs, Export, OutOfMemory, ReadFailed, Revision, Store}
+use Rattle.gx_cli.specs.declared.fault.CliFault.TheVariants.{BadFormat, Blobs, Export, OutOfMemory, ReadFailed, Store}
 use Rattle.gx_cli.specs.declared.serving.Outcome.{Outcome}
 use Rattle.gx_cli.specs.Answers.{Prints}
 use Rattle.gx_cli.specs.Checking.{Checks}
 use Rattle.gx_cli.specs.Collecting.{IsCollected}
 use Rattle.gx_cli.specs.Commanding.{command_answer}
 use Rattle.gx_cli.specs.Forms.{ExportsAs, SendsRange}
-use Rattle.gx_cli.specs.Gathering.{AdaptsStream, OfLines, of_batch}
+use Rattle.gx_cli.specs.Adapting.{EndsAdapted}
+use Rattle.gx_cli.specs.Dropping.{DropsFrom}
+use Rattle.gx_cli.specs.Gathering.{AdaptsStream, of_batch}
 use Rattle.gx_cli.specs.Logs.{LogsFrom}
 use Rattle.gx_cli.specs.Placing.{PlacesFrom}
 use Rattle.gx_blobs.specs.Printing.{PrintsBlobs}
@@ -82,10 +79,6 @@ EndsWithText name repository status fault o = ((o.status ≡ status) × (o.fault
 -- it is accepted with that text, unless memory ran out
 abbrev pub IsWritten : {A : Type 0} → (Kind → Bytes → Bytes) → Records → Outcome A → Type 0
 IsWritten name repository o = EndsWithText name repository 0 None o
-
--- the refusal of the word with this number, which is no ref's name, or is given before
-abbrev pub unknown_at : ℕ → CliFault
-unknown_at number = Revision number UnknownRef
 
 -- a repository's export in a form goes out, with its fault among those of the commands
 abbrev pub SendsExport : (Kind → Bytes → Bytes) → ExportForm → Records → Option Taken → Option Taken → Result (Unit {0}) CliFault → Type 0
@@ -138,11 +131,10 @@ ReadsParts parts (Err BadFormat) = parts ≡ None
 ReadsParts parts (Err OutOfMemory) = IsSome parts
 ReadsParts parts (Err fault) = ⊥
 
--- the refs with these names leave a repository, or this word is refused
-abbrev pub DropsAll : {N : Type 0} → Repository N → Repository N → List Bytes → Result (Unit {0}) CliFault → Type 0
-DropsAll old new names (Ok done) = (dropped names old.1.refs ≡ Ok new.1.refs) × (new ≡ (old.0, with_refs old.1 new.1.refs))
-DropsAll old new names (Err OutOfMemory) = ⊤
-DropsAll old new names (Err fault) = (number : ℕ) × (fault ≡ unknown_at number) × (dropped names old.1.refs ≡ Err number)
+-- the next store text is that of a repository that is left, or the command is refused for this
+abbrev pub EndsWithLeft : {N A : Type 0} → (N → Kind → Bytes → Bytes) → Result (Repository N) CliFault → Outcome A → Type 0
+EndsWithLeft name_of (Ok left) o = IsWritten (name_of left.0) left.1 o
+EndsWithLeft name_of (Err fault) o = IsRefused fault o
 
 module _ (name : Kind → Bytes → Bytes) where
   -- ---- the commands that ask
@@ -185,26 +177,23 @@ module _ (name : Kind → Bytes → Bytes) {A : Type 0} where
   ImportsTextAgain asks text coming o =
       (answer : Answer) × ImportsAgain name asks (store_of name text) coming answer × EndsImported answer.0 answer.1 o
 
-  -- What is left of a repository where these refs are, is sound, and the next store text is its own. Or the word with
-  -- this number is refused, and there is no next text.
-  abbrev pub IsDropped : Records → Result (List Ref) ℕ → Outcome A → Type 0
-  IsDropped old (Ok refs) o = (IsSound name (with_refs old refs) × IsWritten name (with_refs old refs) o) ⊎ IsRefused OutOfMemory o
-  IsDropped old (Err number) o = IsRefused (unknown_at number) o ⊎ IsRefused OutOfMemory o
+  -- the next store text is that of what is left, or the command is refused for this
+  abbrev pub EndsLeft : Result Records CliFault → Outcome A → Type 0
+  EndsLeft (Ok new) o = IsWritten name new o
+  EndsLeft (Err fault) o = IsRefused fault o
 
-  -- The refs with these names leave a repository, all of them or none, where this is behind the names: an end, or a failure, and
-  -- then none does.
-  abbrev pub DropsRead : Bool → Records → List Bytes → Outcome A → Type 0
-  DropsRead false old names o = IsDropped old (dropped names old.refs) o
-  DropsRead true old names o = IsRefused ReadFailed o ⊎ IsRefused OutOfMemory o
-
-  -- the same of words and, where they are asked for, of the lines of a source behind them
-  abbrev pub DropsFrom : Bool → Records → List Bytes → Option Coming → Outcome A → Type 0
-  DropsFrom false old words coming o = DropsRead false old words o
-  DropsFrom true old words coming o = OfLines coming (λ lines fails. DropsRead fails old (words ++ lines) o)
+  -- the refs with these names leave a repository, and the next store text is that of what is left
+  abbrev pub DropsText : Bool → Records → List Bytes → Option Coming → Outcome A → Type 0
+  DropsText stdin old words coming o = (answer : Result Records CliFault) × DropsFrom name stdin old words coming answer × EndsLeft answer o
 
   -- The objects that no ref reaches leave a repository, and the next store text is that of what is left.
   abbrev pub LeavesCollected : Records → Outcome A → Type 0
   LeavesCollected old o = IsRefused OutOfMemory o ⊎ ((new : Records) × IsCollected name old new × IsWritten name new o)
+
+  -- the same, unless what else is to stay is to be read of a file, which isn't here
+  abbrev pub EndsCollected : Bool → Records → Outcome A → Type 0
+  EndsCollected false old o = LeavesCollected old o
+  EndsCollected true old o = IsRefused ReadFailed o
 
   -- The answers to the lines of a source go out, over the store of a text in a format, which is read before. A text that is no
   -- format is refused, and nothing went out.
@@ -218,8 +207,8 @@ module _ (name : Kind → Bytes → Bytes) {A : Type 0} where
 
   -- how a command ends over the repository of a store that was read
   abbrev pub ServesOpened : Line → Records → Option Coming → Option Taken → Option Taken → Outcome A → Type 0
-  ServesOpened (line.Drop file words stdin wait) r coming was now o = DropsFrom stdin r (lent_texts words.items) coming o × (now ≡ was)
-  ServesOpened (line.Gc file report keep wait) r coming was now o = LeavesCollected r o × (now ≡ was)
+  ServesOpened (line.Drop file words stdin wait) r coming was now o = DropsText stdin r (lent_texts words.items) coming o × (now ≡ was)
+  ServesOpened (line.Gc file report keep wait) r coming was now o = EndsCollected (is_some keep) r o × (now ≡ was)
   ServesOpened line r coming was now o = EndsAnswered (IsAnswered name line r coming was now) o
 
   -- what a command does to the sink, and how it ends
@@ -229,7 +218,7 @@ module _ (name : Kind → Bytes → Bytes) {A : Type 0} where
   Serves (line.Try word done force explain) store coming was now o =
       EndsAnswered (Tries name (features_of done force) coming word.now was now) o
   Serves (line.Check done force explain) store coming was now o = EndsAnswered (Checks name (features_of done force) coming was now) o
-  Serves (line.Adapt drops) store coming was now o = (answer : Result AdaptReport CliFault) × AdaptsStream drops coming was now answer × IsOutcome answer o
+  Serves (line.Adapt drops) store coming was now o = (answer : Result (Adapted A) CliFault) × AdaptsStream drops coming was now answer × EndsAdapted answer o
   Serves (line.Where command) store coming was now o = EndsAnswered (PlacesFrom command coming was now) o
   Serves (line.WhereFault done force) store coming was now o = EndsAnswered (FindsFault name (features_of done force) coming) o × (now ≡ was)
   Serves (line.Batch form format nul file) store coming was now o = AnswersLines form (format_parts format) (ending_of nul) store coming was now o

@@ -1,65 +1,91 @@
 //! Refs that leave a store. Source: git-update-ref(1), "delete".
 
+ghost use Rattle.std.specs.Prelude.{◌≡◌, IfOk};
+ghost use Rattle.gx_model.specs.Stores.StoreReading.{store_of};
 ghost use Rattle.gx_repo.specs.Dropping.{dropped};
 ghost use Rattle.gx_text.specs.Lent.{lent_texts};
-ghost use Rattle.gx_cli.specs.Serving.{DropsAll, DropsFrom, IsDropped};
+ghost use Rattle.gx_cli.specs.Dropping.{DropsAll, DropsFrom, DropsStored, IsDropped, shown_left};
 ghost use Rattle.gx_cli.specs.Words.{with_lines};
 
 use crate::CliFault;
 use crate::lines::{add_lines, lines_from};
-use crate::next_text::with_text;
-use crate::serving::{Outcome, refused};
+use crate::opening::open;
 use crate::words::texts_of;
 use gx_object::Namer;
 use gx_repo::{DropFault, Repo};
 use gx_rev::RevFault;
 use gx_text::Source;
 use std::alloc::Allocator;
+use std::hash::RandomState;
 
-/// Drops the refs with these names from a repository, and makes the text of what that leaves. With `stdin` the lines of the
+/// Drops the refs with these names from the store of a text. It answers the repository whose text is the next one, which
+/// [`send_store`](crate::send_store) sends. What is read of the text shares it: no body is copied. With `stdin` the lines of the
 /// source are names, too, behind those that are given. Objects stay.
 ///
-/// `Revision`: the first name that is no ref's, or that is given before, by its number from 1; then there is no text.
-/// `ReadFailed`: the source failed, and there is no text either.
-/// Cost: that of reading the source, of `Repo::drop_refs`, and of the next text.
+/// `Store`: the text isn't read. `Revision`: the first name that is no ref's, or that is given before, by its number from 1.
+/// `ReadFailed`: the source failed. `OutOfMemory`: a growth was refused. With each of them nothing is left to be sent.
+/// Cost: that of reading the store's text, and the source, and of `Repo::drop_refs`. Memory: the store's text for as long as one of
+/// its records is held.
+pub fn drop_store<N: Namer + Drop, R: Source + Drop, A: Allocator + Copy>(
+    alloc: A,
+    namer: N,
+    store: Vec<u8, A>,
+    words: &[&str],
+    stdin: bool,
+    source: R,
+    state: RandomState,
+) -> Result<Repo<N, A>, CliFault>
+    ensures namer { IfOk result (λ left. left.0 ≡ namer) }
+    ensures dropped { DropsStored (N.name_of namer) stdin (store_of (N.name_of namer) store.items)
+        (lent_texts words.now) (R.coming source) (shown_left result) }
+{
+    match open(alloc, namer, store, state) {
+        Ok(repo) => drop_named(alloc, repo, words, stdin, source),
+        Err(fault) => Err(CliFault::Store(fault)),
+    }
+}
+
+/// Drops the refs with these names from a repository. With `stdin` the lines of the source are names, too.
 pub(crate) fn drop_named<N: Namer + Drop, R: Source + Drop, A: Allocator + Copy>(
     alloc: A,
     repo: Repo<N, A>,
     words: &[&str],
     stdin: bool,
     source: R,
-) -> Outcome<A>
-    ensures { DropsFrom (N.name_of repo.0) stdin repo.1 (lent_texts words.now)
-        (R.coming source) result }
+) -> Result<Repo<N, A>, CliFault>
+    ensures namer { IfOk result (λ left. left.0 ≡ repo.0) }
+    ensures dropped { DropsFrom (N.name_of repo.0) stdin repo.1 (lent_texts words.now)
+        (R.coming source) (shown_left result) }
 {
-    let mut repo = repo;
     if stdin {
         let lines = match lines_from(alloc, source) {
             Ok(lines) => lines,
-            Err(fault) => return refused(fault),
+            Err(fault) => return Err(fault),
         };
-        drop_lines(alloc, &mut repo, words, lines.as_slice())
+        drop_lines(alloc, repo, words, lines.as_slice())
     } else {
-        drop_lines(alloc, &mut repo, words, &[])
+        drop_lines(alloc, repo, words, &[])
     }
 }
 
-/// Drops the refs whose names are these words and these lines, and makes the text of what that leaves.
-fn drop_lines<'a, N: Namer, A: Allocator + Copy>(
+/// Drops the refs whose names are these words and these lines.
+fn drop_lines<'a, N: Namer + Drop, A: Allocator + Copy>(
     alloc: A,
-    repo: &mut Repo<N, A>,
+    repo: Repo<N, A>,
     words: &[&'a str],
     lines: &'a [Vec<u8, A>],
-) -> Outcome<A>
-    ensures { IsDropped (N.name_of repo.old.0) repo.old.1
-        (dropped (with_lines words.now lines.now) repo.old.1.refs) result }
+) -> Result<Repo<N, A>, CliFault>
+    ensures namer { IfOk result (λ left. left.0 ≡ repo.0) }
+    ensures dropped { IsDropped (N.name_of repo.0) repo.1
+        (dropped (with_lines words.now lines.now) repo.1.refs) (shown_left result) }
 {
-    match drop_names(alloc, repo, words, lines) {
+    let mut left = repo;
+    match drop_names(alloc, &mut left, words, lines) {
         Ok(()) => {
-            repo.sound();
-            with_text(alloc, repo, 0, None)
+            left.sound();
+            Ok(left)
         }
-        Err(fault) => refused(fault),
+        Err(fault) => Err(fault),
     }
 }
 

@@ -34,6 +34,8 @@ pub enum CliFault {
     Adapt(AdaptFault),
     /// Why it isn't told where a command begins.
     Where(WhereFault),
+    /// The number, from 1, of the line that isn't the 40 digits of an object to keep.
+    Keep { number: u64 },
     /// The format of a batch isn't one.
     BadFormat,
     /// There is a store where a new one is to be made. The program answers it, which looks at files.
@@ -59,6 +61,7 @@ impl fmt::Display for CliFault {
             CliFault::Export(fault) => write!(f, "gx: export: {fault}"),
             CliFault::Adapt(fault) => write!(f, "gx: adapt: {fault}"),
             CliFault::Where(fault) => write!(f, "gx: where: {fault}"),
+            CliFault::Keep { number } => write!(f, "gx: keep {number}: BadLine"),
             CliFault::BadFormat => f.write_str("gx: BadFormat"),
             CliFault::StoreExists => f.write_str("gx: store exists"),
             CliFault::ReadFailed => f.write_str("gx: read failed"),

@@ -12,7 +12,7 @@ use std::alloc::{AllocFailed, Allocator};
 /// The lines of a source, each without its LF or CR LF. What stands behind the last is a line, too, unless it is empty.
 ///
 /// `ReadFailed`: the source failed. `OutOfMemory`: a growth was refused. Cost and memory: the lines.
-pub(crate) fn lines_from<R: Source + Drop, A: Allocator + Copy>(
+pub fn lines_from<R: Source + Drop, A: Allocator + Copy>(
     alloc: A,
     source: R,
 ) -> Result<Vec<Vec<u8, A>, A>, CliFault>

@@ -6,7 +6,7 @@ ghost use Rattle.gx_model.specs.Stores.StoreReading.{store_of};
 ghost use Rattle.gx_model.specs.Stores.StoreText.{store_text};
 ghost use Rattle.gx_model.specs.declared.store_versions.Version.TheVariants.{Two};
 ghost use Rattle.gx_cli.specs.Sending.{PrintsText};
-ghost use Rattle.gx_cli.specs.Serving.{EndsWithText, IsWritten};
+ghost use Rattle.gx_cli.specs.Serving.{EndsWithLeft, EndsWithText, IsWritten};
 ghost use Rattle.gx_cli.specs.declared.fault.CliFault.TheVariants.{WriteFailed};
 
 use crate::CliFault;
@@ -66,5 +66,18 @@ pub(crate) fn with_text<N: Namer, A: Allocator + Copy>(
             store: Some(text),
         },
         Err(_) => refused(CliFault::OutOfMemory),
+    }
+}
+
+/// How a command ends that leaves this repository, whose text is the next one.
+pub(crate) fn left_text<N: Namer + Drop, A: Allocator + Copy>(
+    alloc: A,
+    answer: Result<Repo<N, A>, CliFault>,
+) -> Outcome<A>
+    ensures { EndsWithLeft N.name_of answer result }
+{
+    match answer {
+        Ok(repo) => with_text(alloc, &repo, 0, None),
+        Err(fault) => refused(fault),
     }
 }

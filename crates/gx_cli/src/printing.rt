@@ -1,11 +1,22 @@
 //! Bytes of a stream, as paths are printed. Source: git-ls-files(1), "core.quotePath".
 
-ghost use Rattle.std.specs.Prelude.{◌≡◌, ◌++◌, OnOk};
+ghost use Rattle.std.specs.Prelude.{◌≡◌, ◌++◌, IfOk, OnOk};
 ghost use Rattle.std.specs.List.{list_all};
 ghost use Rattle.gx_model.specs.Texts.Paths.{is_printed_bare, letter_of, printed, printed_byte};
 ghost use Rattle.gx_text.specs.Quoting.{printed_quoted};
 
 use std::alloc::{AllocError, Allocator};
+
+/// A text as a path is printed.
+///
+/// Cost: its length, at most four bytes for each of the text's.
+pub fn printed_path<A: Allocator + Copy>(alloc: A, text: &[u8]) -> Result<Vec<u8, A>, AllocError>
+    ensures { IfOk result (λ shown. shown.items ≡ printed text.now) }
+{
+    let mut shown = Vec::new(alloc);
+    put_printed(&mut shown, text)?;
+    Ok(shown)
+}
 
 /// Appends a text as a path is printed: quoted where a byte is below 0x20, DEL, `"`, `\` or at least 0x80.
 pub(crate) fn put_printed<A: Allocator + Copy>(

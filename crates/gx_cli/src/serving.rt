@@ -7,7 +7,7 @@ ghost use Rattle.gx_blobs.specs.declared.blob_names.BlobsFault.{BlobsFault};
 ghost use Rattle.gx_cli.specs.Serving.{IsOutcome, IsRefused, Serves, ServesExported, features_of, without_room};
 ghost use Rattle.gx_cli.specs.declared.fault.CliFault.TheVariants.{Blobs};
 
-use crate::adapt::adapt_stream;
+use crate::adapt::{adapt_ended, adapt_stream};
 use crate::batch::batch_stored;
 use crate::import::import_text;
 use crate::next_text::init;
@@ -22,7 +22,7 @@ use gx_text::{Sink, Source};
 use std::alloc::Allocator;
 use std::hash::RandomState;
 
-/// How a command ended: the exit status, 0 or 1; why it was refused; and the next text of the store, where there is one.
+/// How a command ended: the exit status, 0 or 1, or 3 of `adapt` where lines are lost; why it was refused; and the next text of the store, where there is one.
 #[derive(Drop)]
 pub struct Outcome<A: Allocator> {
     pub status: u8,
@@ -35,7 +35,9 @@ pub struct Outcome<A: Allocator> {
 /// `blobs` reads the source as [`blobs`] does, `adapt` as [`adapt_stream`] does, and `try` as [`try_revision`] does: the source
 /// is read before the revision. `check` does what [`check_stream`] does. `where` reads it whole, and tells where a command begins, or
 /// what [`find_fault`] finds. These, and `init`, have no use for the store's bytes. An import with `--push`, which
-/// [`push_store`](crate::push_store) does, and `put` read a file that isn't here, and are refused by `ReadFailed`. The other commands read the store's text first, then all words, and then evaluate
+/// [`push_store`](crate::push_store) does, `gc` with
+/// `--keep`, which [`collect_store_keeping`](crate::collect_store_keeping) does, and `put` read a file that isn't here, and are
+/// refused by `ReadFailed`. The other commands read the store's text first, then all words, and then evaluate
 /// each in its order; but `batch` reads its format before. `import` and `batch` read their source then, and so do `drop` and
 /// `log` before the words, where its lines are words. Only `init`, `import`, `drop` and `gc` answer a next store text: where they
 /// are accepted, and `import` also where it is refused after a checkpoint. What `import` and `gc` report is told by
@@ -128,7 +130,7 @@ fn serve_alone<N: Namer + Drop, R: Source + Drop, W: Sink, A: Allocator + Copy>(
             outcome_of(find_fault(alloc, namer, source, features, state, told))
         }
         Line::Adapt { drop_signatures } => {
-            outcome_of(adapt_stream(alloc, source, sink, *drop_signatures))
+            adapt_ended(adapt_stream(alloc, source, sink, *drop_signatures))
         }
         Line::Push { .. } | Line::Put { .. } => refused(CliFault::ReadFailed),
         Line::Where(command) => outcome_of(print_place(alloc, *command, source, sink)),

@@ -10,6 +10,7 @@ use crate::export_range::export_words;
 use crate::gc::collect;
 use crate::log::log_with_lines;
 use crate::ls::list;
+use crate::next_text::left_text;
 use crate::opening::open;
 use crate::refs::print_refs;
 use crate::rev_parse::print_names;
@@ -63,13 +64,16 @@ fn serve_opened<N: Namer + Drop, R: Source + Drop, W: Sink, A: Allocator + Copy>
             refs,
             stdin,
             wait: _,
-        } => drop_named(alloc, repo, refs.as_slice(), *stdin, source),
+        } => left_text(
+            alloc,
+            drop_named(alloc, repo, refs.as_slice(), *stdin, source),
+        ),
         Line::Gc {
             file: _,
             report: _,
-            keep: _,
+            keep,
             wait: _,
-        } => collect(alloc, repo),
+        } => collect(alloc, repo, keep.is_some()),
         _ => outcome_of(answer(alloc, &repo, line, source, sink)),
     }
 }

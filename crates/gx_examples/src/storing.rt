@@ -124,7 +124,7 @@ fn is_adapted(alloc: Global, piece: usize) -> bool
     };
     let source = Bytes::new(text("rough lines"), piece, false);
     match adapt_stream(alloc, source, &mut sink, false) {
-        Ok(report) => report == ROUGH_REPORT && sink.bytes() == text("mended lines"),
+        Ok(adapted) => adapted.report == ROUGH_REPORT && sink.bytes() == text("mended lines"),
         Err(_) => false,
     }
 }

@@ -3,8 +3,8 @@
 use crate::pass::Pass;
 use crate::reporting::{collected, imported, reported};
 use gx_cli::{
-    AdaptReport, CliFault, Features, ImportReport, Line, Outcome, Pruned, adapt_stream, serve,
-    serve_owned,
+    AdaptReport, Adapted, CliFault, Features, ImportReport, Line, Outcome, Pruned, adapt_status,
+    adapt_stream, lost_lines, serve, serve_owned,
 };
 use gx_devices::ShortNamer;
 use gx_object::{Namer, Sha1Namer};
@@ -74,7 +74,7 @@ pub(crate) enum Report {
     /// The lines of the refs that an import changed, and its counts where it is accepted.
     Changes(Vec<u8>, Option<ImportReport>),
     Pruned(Pruned),
-    Adapt(AdaptReport, bool),
+    Adapt(Adapted<Global>, bool),
 }
 
 /// How a command ends. What the devices tell is left open here, so no caller has more to prove than that the call is safe.
@@ -128,7 +128,10 @@ fn adapted<R: Source + Drop, W: Sink>(
     drop_signatures: bool,
 ) -> (Outcome<Global>, Report) {
     let (status, fault, report) = match adapt_stream(alloc, source, sink, drop_signatures) {
-        Ok(report) => (0, None, Report::Adapt(report, drop_signatures)),
+        Ok(adapted) => {
+            let status = adapt_status(&adapted);
+            (status, None, Report::Adapt(adapted, drop_signatures))
+        }
         Err(fault) => (1, Some(fault), Report::Unknown),
     };
     let outcome = Outcome {
@@ -149,7 +152,11 @@ fn told_text(
         Report::Changes(lines, counts) => changes_text(alloc, &lines, fault, counts)?,
         Report::Import(counts) => import_text(alloc, &counts)?,
         Report::Pruned(gone) => pruned_text(alloc, &gone)?,
-        Report::Adapt(counts, drop_signatures) => adapt_text(alloc, &counts, drop_signatures)?,
+        Report::Adapt(adapted, drop_signatures) => {
+            let mut text = adapt_text(alloc, &adapted.report, drop_signatures)?;
+            put_losses(alloc, &mut text, &adapted)?;
+            text
+        }
         Report::Unknown => match fault {
             Some(fault) => format!(in alloc; "{fault}\n")?,
             None => return Ok(None),
@@ -227,6 +234,20 @@ fn adapt_text(
     };
     text.push_str(format!(in alloc; "gx: adapt: the stream ended {end} done\n")?.as_str())?;
     Ok(text)
+}
+
+/// Appends what is told of lines that are lost, if any are.
+fn put_losses(
+    alloc: Global,
+    text: &mut String,
+    adapted: &Adapted<Global>,
+) -> Result<(), AllocError> {
+    if adapted.lost.is_empty() {
+        return Ok(());
+    }
+    let lines = lost_lines(alloc, adapted)?;
+    text.push_str(String::from_utf8_lossy(alloc, &lines)?.as_str())?;
+    text.push_str("gx: adapt: no done went out, since lines are lost\n")
 }
 
 /// What is told of signatures.

@@ -5,15 +5,26 @@ use crate::run::{Run, Subject};
 use gx_cli::CliFault;
 use std::fs::File;
 use std::io::{self, BufWriter, ErrorKind, IsTerminal, Read, Stdin, Stdout, Write};
+use std::os::fd::AsRawFd;
+
+/// The number of standard input.
+const INPUT: i32 = 0;
 
 /// A run that begins with a standard stream closed would give its number to the first file that it opens, and print into that.
-/// So the three numbers are taken before: where the streams are open, these are three others.
+/// So the three numbers are taken before, by files that nothing is read from and nothing is written to: what is tried there fails.
+/// Where the streams are open, these are three others.
 pub(crate) fn hold_standard_streams(rt: &HostRuntime) -> [io::Result<File>; 3] {
-    [open_nothing(rt), open_nothing(rt), open_nothing(rt)]
+    [hold_next(rt), hold_next(rt), hold_next(rt)]
 }
 
-fn open_nothing(rt: &HostRuntime) -> io::Result<File> {
-    File::options().read(true).write(true).open(rt, "/dev/null")
+/// Takes the lowest number that is free.
+fn hold_next(rt: &HostRuntime) -> io::Result<File> {
+    let unread = File::options().write(true).open(rt, "/dev/null")?;
+    if unread.as_raw_fd() == INPUT {
+        return Ok(unread);
+    }
+    drop(unread);
+    File::open(rt, "/dev/null")
 }
 
 /// A reader or a writer of the system. What it couldn't do is kept, and its bytes are counted where they are to be shown.

@@ -15,6 +15,9 @@ pub(crate) fn explained<T>(
     answer: Result<T, CliFault>,
     told: &Explanation<Global>,
 ) -> Result<T, CliFault> {
+    if !run.explains() {
+        return answer;
+    }
     if let (Err(CliFault::Import(fault)), Some(trail)) = (&answer, input.trail()) {
         if let Ok(lines) = lines_of(run.rt.alloc(), trail, fault, told) {
             run.explain(lines);

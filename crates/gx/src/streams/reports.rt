@@ -1,7 +1,8 @@
 //! What a command did, told on standard error. A report that can't be written is left: the command is done.
 
 use crate::run::Run;
-use gx_cli::{AdaptReport, ImportReport, Pruned};
+use gx_cli::{Adapted, ImportReport, Pruned, lost_lines};
+use std::alloc::Global;
 use std::io::{IsTerminal, Write};
 
 /// Tells the lines of the refs that an import changed, whose names are bytes.
@@ -17,6 +18,15 @@ pub(crate) fn tell_import(run: &Run<'_>, report: &ImportReport, is_asked: bool) 
     }
 }
 
+/// Tells how many identities have other bytes than in git, which writes a space before their `<`, if any were counted.
+pub(crate) fn tell_nameless(run: &Run<'_>, count: u64) {
+    tell_count(
+        run,
+        "identities without a name, which git gives a space",
+        count,
+    );
+}
+
 /// Tells how much a store lost, where that is asked for or somebody reads it as it comes.
 pub(crate) fn tell_pruned(run: &Run<'_>, gone: &Pruned, is_asked: bool) {
     if is_asked || run.is_watched() {
@@ -25,8 +35,9 @@ pub(crate) fn tell_pruned(run: &Run<'_>, gone: &Pruned, is_asked: bool) {
     }
 }
 
-/// Tells what was changed in a stream, what stays that an import refuses, and whether `done` ended it.
-pub(crate) fn tell_adaption(run: &Run<'_>, report: &AdaptReport, drop_signatures: bool) {
+/// Tells what was changed in a stream, what stays that an import refuses, whether `done` ended it, and what is lost.
+pub(crate) fn tell_adaption(run: &Run<'_>, adapted: &Adapted<Global>, drop_signatures: bool) {
+    let report = &adapted.report;
     tell_count(run, "identities that got a space", report.identities);
     tell_count(run, "deletions left out", report.deletions);
     tell_count(run, "paths put in quotes", report.paths);
@@ -55,6 +66,17 @@ pub(crate) fn tell_adaption(run: &Run<'_>, report: &AdaptReport, drop_signatures
         "without"
     };
     let _ = eprintln!(run.rt; "gx: adapt: the stream ended {end} done");
+    if !adapted.lost.is_empty() {
+        tell_losses(run, adapted);
+    }
+}
+
+/// Tells which lines are lost, where there is memory for that, and that there are any.
+fn tell_losses(run: &Run<'_>, adapted: &Adapted<Global>) {
+    if let Ok(lines) = lost_lines(run.rt.alloc(), adapted) {
+        let _ = run.rt.stderr().write_all(&lines);
+    }
+    let _ = eprintln!(run.rt; "gx: adapt: no done went out, since lines are lost");
 }
 
 /// Tells how many there are of what was changed or stays, if there are any.

@@ -27,8 +27,13 @@ pub(crate) struct Traced<'a> {
 }
 
 impl<'a> Traced<'a> {
-    pub(crate) fn input(run: &'a Run<'a>, progress: &'a ProgressLine<'a>) -> Traced<'a> {
-        let lines = if run.explains() {
+    /// It is counted, too, what is told of its lines in a report, where that is asked for.
+    pub(crate) fn input(
+        run: &'a Run<'a>,
+        progress: &'a ProgressLine<'a>,
+        is_counted: bool,
+    ) -> Traced<'a> {
+        let lines = if is_counted || run.explains() {
             Lines::new(run)
         } else {
             None

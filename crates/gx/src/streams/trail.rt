@@ -22,6 +22,9 @@ const FRONTS: &[&str] = &[
     "option ",
 ];
 
+/// What a line begins with whose identity has no name and no space before its `<`.
+const NAMELESS: &[&str] = &["author <", "committer <", "tagger <"];
+
 /// An item: the number of its line, from 1, the byte at which it begins, from 0, and where the front of the line is kept.
 #[derive(Clone, Copy)]
 pub(crate) struct Spot {
@@ -68,6 +71,8 @@ pub(crate) struct Trail {
     texts: Vec<u8>,
     /// So many items are of the command before the last one.
     before: usize,
+    /// So many identities had no name and no space before their `<`.
+    nameless: u64,
 }
 
 impl Trail {
@@ -83,6 +88,7 @@ impl Trail {
             items: Vec::new(alloc),
             texts: Vec::new(alloc),
             before: 0,
+            nameless: 0,
         }
     }
 
@@ -185,6 +191,9 @@ impl Trail {
             self.texts.truncate(item.start);
             return Ok(());
         }
+        if is_nameless(self.text(&item)) {
+            self.nameless = self.nameless.saturating_add(1);
+        }
         if begins_command(self.text(&item)) {
             self.commands = self.commands.saturating_add(1);
             self.before = self.items.len();
@@ -254,6 +263,11 @@ impl Trail {
         self.bytes
     }
 
+    /// How many identities had no name and no space before their `<`, where git writes one.
+    pub(crate) fn nameless(&self) -> u64 {
+        self.nameless
+    }
+
     /// The item that came last.
     pub(crate) fn last(&self) -> Option<&Spot> {
         self.items.last()
@@ -298,6 +312,13 @@ fn first_line(bytes: &[u8]) -> &[u8] {
         Some((line, _)) => bytes.get(..line.len().saturating_add(1)).unwrap_or(bytes),
         None => bytes,
     }
+}
+
+/// Whether a line has an identity that begins with its `<`.
+fn is_nameless(line: &[u8]) -> bool {
+    NAMELESS
+        .iter()
+        .any(|front| line.starts_with(front.as_bytes()))
 }
 
 fn begins_command(line: &[u8]) -> bool {

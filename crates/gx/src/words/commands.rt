@@ -11,7 +11,7 @@ use std::process::ExitCode;
 /// Runs a command, and prints why it is refused.
 pub(crate) fn run_line(run: &Run<'_>, line: &Line<'_>) -> ExitCode {
     match run_seeded(run, line) {
-        Ok(()) => ExitCode::SUCCESS,
+        Ok(status) => ExitCode::from(status),
         Err(fault) => {
             run.tell(&fault, file_of(line));
             ExitCode::from(1)
@@ -19,12 +19,17 @@ pub(crate) fn run_line(run: &Run<'_>, line: &Line<'_>) -> ExitCode {
     }
 }
 
-/// Runs a command with random keys for the tables of names, which a stream could choose to be slow.
-fn run_seeded(run: &Run<'_>, line: &Line<'_>) -> Result<(), RunFault> {
-    match RandomState::new(run.rt) {
-        Ok(state) => run_command(run, line, state),
-        Err(_) => Err(RunFault::RandomFailed),
+/// Runs a command with random keys for the tables of names, which a stream could choose to be slow. Answers the status of one that
+/// isn't refused.
+fn run_seeded(run: &Run<'_>, line: &Line<'_>) -> Result<u8, RunFault> {
+    let Ok(state) = RandomState::new(run.rt) else {
+        return Err(RunFault::RandomFailed);
+    };
+    if let Line::Adapt { drop_signatures } = line {
+        return Ok(adapt(run, *drop_signatures)?);
     }
+    run_command(run, line, state)?;
+    Ok(0)
 }
 
 /// The store file that a command names.
@@ -59,8 +64,18 @@ fn file_of<'a>(line: &Line<'a>) -> Option<&'a str> {
 fn run_command(run: &Run<'_>, line: &Line<'_>, state: RandomState) -> Result<(), RunFault> {
     match line {
         Line::Init { file, .. } => init(run, line, file, state),
-        Line::Drop { file, .. } => drop_refs(run, line, file, state),
-        Line::Gc { file, report, .. } => collect(run, file, *report, state),
+        Line::Drop {
+            file,
+            refs,
+            stdin,
+            ..
+        } => drop_refs(run, file, refs.as_slice(), *stdin, state),
+        Line::Gc {
+            file,
+            report,
+            keep,
+            ..
+        } => collect(run, file, *keep, *report, state),
         Line::Put { file, stamp, .. } => put(run, file, stamp, state),
         Line::Import {
             file,
@@ -101,7 +116,6 @@ fn answer(run: &Run<'_>, line: &Line<'_>, state: RandomState) -> Result<(), CliF
             run.explain_if(true);
             try_stream(run, Trial::Fault, features(done, force), state)
         }
-        Line::Adapt { drop_signatures } => adapt(run, *drop_signatures),
         Line::Batch { file, .. } => answer_input(run, line, Some(*file), state),
         Line::Export { file, .. } | Line::ExportRange { file, .. } => {
             export(run, line, file, state)

@@ -1,4 +1,4 @@
-use Rattle.std.proofs.Common.{◌++◌, ◌∙◌, ap, codes, length, sym}
+use Rattle.std.proofs.Common.{◌++◌, ◌∙◌, ap, codes, length}
 use Rattle.std.proofs.lemmas.Iterator.Consumers.{YieldsList-from_rest, count_from_yields_List}
 use Rattle.gx_repo.specs.Refs.{shown_lent_ref}
 use Rattle.gx_cli.specs.Checking.{count}

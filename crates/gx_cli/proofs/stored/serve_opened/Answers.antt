@@ -1,6 +1,8 @@
 use Rattle.std.proofs.Common.{refl, subst, sym}
 use Rattle.gx_text.specs.Lent.{lent_texts}
-use Rattle.gx_cli.specs.Serving.{DropsFrom, ServesOpened}
+use Rattle.gx_cli.specs.Dropping.{DropsFrom, shown_left}
+use Rattle.gx_cli.specs.Serving.{EndsCollected, ServesOpened}
+use Rattle.gx_cli.proofs.DroppedStores.{text_left}
 use Rattle.gx_cli.proofs.ServedLines.{asked_opened}
 use Rattle.gx_cli.proofs.stored.serve_opened.Goals as goal
 
@@ -9,13 +11,17 @@ returns-in-Drop g c =
     let name = g.N.Namer.name_of c.args.repo.0 in
     let was = g.W.Sink.taken c.args.sink.now in
     let coming = g.R.Source.coming c.args.source in
-    let dropped = subst (λ words. DropsFrom name c.in-Drop.stdin c.args.repo.1 (lent_texts words) coming c.drop_named.result) c.as_slice.ensures.value c.drop_named.ensures in
-    subst (λ l. ServesOpened name l c.args.repo.1 coming was was c.drop_named.result) (sym c.in-Drop.is) (dropped, refl)
+    let answer = shown_left c.drop_named.result in
+    let dropped = subst (λ words. DropsFrom name c.in-Drop.stdin c.args.repo.1 (lent_texts words) coming answer) c.as_slice.ensures.value c.drop_named.ensures.dropped in
+    let text = text_left g.N.Namer.name_of c.args.repo.0 c.drop_named.result c.left_text.result c.drop_named.ensures.namer c.left_text.ensures in
+    subst (λ l. ServesOpened name l c.args.repo.1 coming was was c.left_text.result) (sym c.in-Drop.is) ((answer, dropped, text), refl)
 
 pub returns-in-Gc : goal.returns-in-Gc
 returns-in-Gc g c =
+    let name = g.N.Namer.name_of c.args.repo.0 in
     let was = g.W.Sink.taken c.args.sink.now in
-    subst (λ l. ServesOpened (g.N.Namer.name_of c.args.repo.0) l c.args.repo.1 (g.R.Source.coming c.args.source) was was c.collect.result) (sym c.in-Gc.is) (c.collect.ensures, refl)
+    let collected = subst (λ keeps. EndsCollected name keeps c.args.repo.1 c.collect.result) c.is_some.ensures c.collect.ensures in
+    subst (λ l. ServesOpened name l c.args.repo.1 (g.R.Source.coming c.args.source) was was c.collect.result) (sym c.in-Gc.is) (collected, refl)
 
 pub returns-in_default : goal.returns-in_default
 returns-in_default g c =

@@ -23,7 +23,7 @@ __gx_operands() {
   operands=()
   for ((i = 2; i < ${#words[@]} - 1; i++)); do
     case ${words[i]} in
-      --max-count | -n | --prefix | --format) i=$((i + 1)) ;;
+      --max-count | -n | --prefix | --format | --keep) i=$((i + 1)) ;;
       -?*) ;;
       *) operands+=("${words[i]}") ;;
     esac
@@ -98,17 +98,19 @@ __gx_options() {
     adapt) __gx_answer '' "$1" --drop-signatures --help ;;
     import) __gx_answer '' "$1" --done --force --report --explain --help ;;
     try | check) __gx_answer '' "$1" --done --force --explain --help ;;
-    gc) __gx_answer '' "$1" --report --help ;;
+    gc) __gx_answer '' "$1" --keep --report --help ;;
     export) __gx_answer '' "$1" --changes --no-done --help ;;
     log) __gx_answer '' "$1" --all --stdin --format --reverse --max-count -n --parents --help ;;
     *) __gx_answer '' "$1" --help ;;
   esac
 }
 
-# Answers what may stand behind an option that takes a value: only a list's format is one of a few.
+# Answers what may stand behind an option that takes a value: a list's format is one of a few, and what is to be kept is in a file.
 __gx_value() {
   if [[ ${words[1]}:${words[-2]} == log:--format ]]; then
     __gx_answer '' "$1" oneline raw subject author dates
+  elif [[ ${words[1]}:${words[-2]} == gc:--keep ]]; then
+    __gx_files "$1"
   fi
 }
 
@@ -136,7 +138,7 @@ _gx() {
     __gx_answer '' "$last" "${commands[@]}" help --help
   elif [[ ${words[1]} == help ]]; then
     __gx_answer '' "$last" "${commands[@]}"
-  elif [[ ${words[-2]} =~ ^(-n|--(max-count|prefix|format))$ ]]; then
+  elif [[ ${words[-2]} =~ ^(-n|--(max-count|prefix|format|keep))$ ]]; then
     __gx_value "$last"
   elif [[ ${words[1]} == log && $last == --format=* ]]; then
     __gx_answer '' "$last" --format={oneline,raw,subject,author,dates}

@@ -38,6 +38,11 @@ ENUMS = {
 }
 
 
+# the enum whose texts have a number and a word, and the part that explains these, by what stands before the number
+NUMBERED = "gx_cli/src/fault.rt"
+PARTS = {"keep": "Objects to keep"}
+
+
 def words_of(place):
     """The words that an enum's variants print: each its own text, or its name. Those of no text or another fault's have none."""
     file, name = place.split()
@@ -49,9 +54,15 @@ def words_of(place):
     return {word.removeprefix("gx: ") for word in words if word and "{" not in word}
 
 
+def numbered():
+    """The words that stand behind a number, each with its part."""
+    texts = re.findall(r'"gx: (\w+) \{number\}: (\w+)"', (TOP / "crates" / NUMBERED).read_text())
+    return {(PARTS[front], word) for front, word in texts if front in PARTS}
+
+
 def standing():
     """The faults of the sources, as pairs of a part and a word."""
-    return {(part, word) for part, places in ENUMS.items() for place in places for word in words_of(place)}
+    return numbered() | {(part, word) for part, places in ENUMS.items() for place in places for word in words_of(place)}
 
 
 def headings(text):

@@ -13,10 +13,13 @@ COMMIT = b"commit refs/heads/main\ncommitter A <a@b> 1 +0000\ndata 1\nm\n"
 
 def run_closed(gx: Program, closed: str, *words: str | Path):
     """Runs gx by a shell that closes standard streams first."""
-    return run_program(["sh", "-c", f'exec "$0" "$@" {closed}', gx.path, *words], env=gx.environment)
+    script = f'exec "$0" "$@" {closed}'
+    return run_program(["sh", "-c", script, gx.path, *words], env=gx.environment)
 
 
-@pytest.mark.parametrize("words", ["refs FILE", "log --all FILE", "export FILE", "archive FILE main"])
+@pytest.mark.parametrize(
+    "words", ["refs FILE", "log --all FILE", "export FILE", "archive FILE main"]
+)
 def test_closed_output_fails(gx: Program, new_store, words: str) -> None:
     store = new_store(COMMIT)
     done = run_closed(gx, ">&-", *[store if word == "FILE" else word for word in words.split()])
@@ -42,7 +45,7 @@ def test_closed_input_fails(gx: Program, new_store) -> None:
 
 
 def test_closed_streams_are_no_files(gx: Program, new_store, tmp_path: Path) -> None:
-    """No file gets the number of a stream that is closed, so that nothing is printed into the store."""
+    """No file gets the number of a closed stream, so that nothing is printed into the store."""
     store = new_store(COMMIT)
     before = store.read_bytes()
     for closed in ["<&- >&- 2>&-", "<&- >&-", ">&- 2>&-", "2>&-"]:

@@ -1,4 +1,0 @@
-use Rattle.gx_rev_examples.proofs.revisions.calls.reached.Goals as goal
-
-pub is_ancestor-requires-clause-holds : goal.is_ancestor-requires-clause-holds
-is_ancestor-requires-clause-holds g c = c.new-parents.ensures c.args.repo.now.1

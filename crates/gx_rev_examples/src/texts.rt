@@ -1,5 +1,0 @@
-//! Texts and devices on worked examples.
-
-mod devices;
-mod numbers;
-mod paths;

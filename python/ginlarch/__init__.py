@@ -6,25 +6,20 @@
     print(repository.file("main", "doc/README").decode())
 
 It needs the shared library libginlarch.so, which is looked for beside this file, then where the variable
-GINLARCH_LIBRARY says, then where the system has libraries. Nothing else is needed but Python 3.8.
+GINLARCH_LIBRARY says, then where the system has libraries. To save a store it needs the program gx, which
+the variable GX names, or PATH has. Nothing else is needed but Python 3.8.
 """
-import contextlib
-import fcntl
-import os
-import stat
 from dataclasses import dataclass
 from typing import BinaryIO, Dict, Iterator, List, NamedTuple, Optional, Tuple, Union
 
-from . import calls
+from . import calls, files
 from .faults import Closed, Refused
+from .files import StoreChanged, StoreLocked
 
-__all__ = ["Closed", "Commit", "Entry", "File", "Object", "Refused", "Report", "Repository", "StoreChanged"]
+__all__ = ["Closed", "Commit", "Entry", "File", "Object", "Refused", "Report", "Repository", "StoreChanged", "StoreLocked"]
 
-Text = Union[str, bytes]
-
-
-class StoreChanged(Exception):
-    """The store file isn't the one that was opened any more, so it wasn't replaced."""
+Bytes = Union[bytes, bytearray, memoryview]
+Text = Union[str, Bytes]
 
 
 class Object(NamedTuple):
@@ -75,7 +70,11 @@ class Report(NamedTuple):
 
 
 def _bytes(text: Text) -> bytes:
-    return text.encode("utf-8", "surrogateescape") if isinstance(text, str) else bytes(text)
+    if isinstance(text, str):
+        return text.encode("utf-8", "surrogateescape")
+    if isinstance(text, (bytes, bytearray, memoryview)):
+        return bytes(text)
+    raise TypeError(f"str or bytes are wanted, not {type(text).__name__}")
 
 
 def _text(data: bytes) -> str:
@@ -97,30 +96,25 @@ class Repository:
 
     def __init__(self) -> None:
         """An empty repository."""
-        self._path: Optional[str] = None
-        self._stamp: Optional[tuple] = None
+        self._place: Optional[str] = None
+        self._stamp: Optional[files.Stamp] = None
         self._handle = calls.Handle()
 
     @classmethod
-    def open(cls, path: Union[str, os.PathLike]) -> "Repository":
-        """The repository of a store file. OSError: it can't be read."""
-        repository = cls()
-        try:
-            with open(path, "rb") as file:
-                stamp = _stamp(os.fstat(file.fileno()))
-                repository._handle.ask("load", file.read())
-        except BaseException:
-            repository.close()
-            raise
-        repository._path, repository._stamp = os.fspath(path), stamp
+    def open(cls, path: files.Path) -> "Repository":
+        """The repository of a store file, which has to be a regular one. OSError: it can't be read."""
+        place = files.place(path)
+        text, stamp = files.read(path)
+        repository = cls.from_bytes(text)
+        repository._place, repository._stamp = place, stamp
         return repository
 
     @classmethod
-    def from_bytes(cls, text: bytes) -> "Repository":
+    def from_bytes(cls, text: Bytes) -> "Repository":
         """The repository of a store file's bytes."""
         repository = cls()
         try:
-            repository._handle.ask("load", text)
+            repository._handle.ask("load", _bytes(text))
         except BaseException:
             repository.close()
             raise
@@ -136,7 +130,7 @@ class Repository:
     def __exit__(self, *_: object) -> None:
         self.close()
 
-    def import_stream(self, stream: Union[bytes, BinaryIO], done: bool = False, force: bool = False) -> Report:
+    def import_stream(self, stream: Union[Bytes, BinaryIO], done: bool = False, force: bool = False) -> Report:
         """Imports a git-fast-import(1) stream, given as bytes or as a file that is read to its end.
 
         With `done` it has to end with the command `done`, so that one that was cut off is refused. With
@@ -194,8 +188,7 @@ class Repository:
 
     def log(self, *words: Text) -> List[str]:
         """The names of the commits that range words list, the newest made first: `log("v1..main")`."""
-        self._add_words(words)
-        return self._handle.ask("walk").data.decode("ascii").split()
+        return self._handle.ask_range("walk", [_bytes(word) for word in words]).data.decode("ascii").split()
 
     @property
     def refs(self) -> Dict[str, str]:
@@ -212,8 +205,7 @@ class Repository:
         changes of the commits that they list. Without `done` the stream has no `done` at its end.
         """
         if words:
-            self._add_words(words)
-            stream = self._handle.ask("range", bool(done)).data
+            stream = self._handle.ask_range("range", [_bytes(word) for word in words], bool(done)).data
         elif changes:
             stream = self._handle.ask("changes", bool(done)).data
         else:
@@ -230,124 +222,16 @@ class Repository:
         """The bytes of a store file of the repository (docs/STORE.md)."""
         return self._handle.ask("text").data
 
-    def save(self, path: Union[None, str, os.PathLike] = None) -> None:
-        """Writes the store file, or that at a path; it is replaced as a whole or stays as it was.
+    def save(self, path: Optional[files.Path] = None, wait: Optional[int] = None) -> None:
+        """Has the program gx write the store file, or that at a path; it is replaced as a whole or stays as it was.
 
-        As `gx` does, it makes and locks FILE.new, writes it, and renames it over FILE. Where the file that
-        was opened is another one by now, it raises `StoreChanged`. A new file isn't put over one that is there.
+        A run of gx that writes it is waited for, at most so many seconds where `wait` tells them: then it
+        raises `StoreLocked`. Where the file that was opened is another one by now, it raises `StoreChanged`.
+        A new file isn't put over one that is there.
         """
-        target = self._path if path is None else os.fspath(path)
-        if target is None:
+        place = self._place if path is None else files.place(path)
+        if place is None:
             raise ValueError("this repository was opened from no file")
-        expected = self._stamp if target == self._path else None
-        self._stamp = _replace(os.path.realpath(target), self.to_bytes(), expected)
-        self._path = target
-
-    def _add_words(self, words: tuple) -> None:
-        try:
-            for word in words:
-                self._handle.ask("word", _bytes(word))
-        except Refused:
-            # a walk uses up those before it, and what it refuses isn't what is told
-            with contextlib.suppress(Refused):
-                self._handle.ask("walk")
-            raise
-
-
-def _stamp(found: os.stat_result) -> tuple:
-    """Which file it was, and as of when."""
-    return (found.st_dev, found.st_ino, found.st_size, found.st_mtime_ns)
-
-
-def _look(path: str) -> Optional[os.stat_result]:
-    try:
-        return os.stat(path)
-    except FileNotFoundError:
-        return None
-
-
-def _replace(path: str, text: bytes, expected: Optional[tuple]) -> tuple:
-    """Puts a text into a file's place, under the lock that `gx` takes."""
-    beside = path + ".new"
-    held = _claim(beside, 0o666 if expected is None else 0o600)
-    try:
-        found = _look(path)
-        if (None if found is None else _stamp(found)) != expected:
-            raise StoreChanged(path)
-        if found is not None:
-            _give_rights(held, found)
-        _write(held, text)
-        stamp = _stamp(os.fstat(held))
-        os.rename(beside, path)
-    except BaseException:
-        os.unlink(beside)
-        raise
-    finally:
-        os.close(held)
-    _sync_folder(os.path.dirname(path) or ".")
-    return stamp
-
-
-def _claim(path: str, mode: int) -> int:
-    """Makes and locks the file. One that another run holds is waited for, and one that it left is removed."""
-    while True:
-        try:
-            held = os.open(path, os.O_WRONLY | os.O_CREAT | os.O_EXCL | os.O_CLOEXEC, mode)
-        except FileExistsError:
-            _remove_left_over(path)
-            continue
-        fcntl.flock(held, fcntl.LOCK_EX)
-        if _names(path, held):
-            return held
-        os.close(held)
-
-
-def _remove_left_over(path: str) -> None:
-    try:
-        left = os.open(path, os.O_RDWR | os.O_NOFOLLOW | os.O_CLOEXEC)
-    except FileNotFoundError:
-        return
-    try:
-        if not stat.S_ISREG(os.fstat(left).st_mode):
-            raise FileExistsError(path)
-        fcntl.flock(left, fcntl.LOCK_EX)
-        if _names(path, left):
-            os.unlink(path)
-    finally:
-        os.close(left)
-
-
-def _names(path: str, opened: int) -> bool:
-    """Whether a path, with no link followed, names an open file."""
-    try:
-        named = os.lstat(path)
-    except FileNotFoundError:
-        return False
-    found = os.fstat(opened)
-    return (named.st_dev, named.st_ino) == (found.st_dev, found.st_ino)
-
-
-def _give_rights(held: int, found: os.stat_result) -> None:
-    """The new file gets the group and the permissions of the one that it replaces, as far as that may be done."""
-    mode = stat.S_IMODE(found.st_mode)
-    if found.st_uid != os.fstat(held).st_uid or found.st_gid != os.fstat(held).st_gid:
-        try:
-            os.fchown(held, found.st_uid, found.st_gid)
-        except PermissionError:
-            mode &= ~0o070
-    os.fchmod(held, mode)
-
-
-def _write(held: int, text: bytes) -> None:
-    with os.fdopen(os.dup(held), "wb") as file:
-        file.write(text)
-        file.flush()
-        os.fsync(file.fileno())
-
-
-def _sync_folder(path: str) -> None:
-    folder = os.open(path, os.O_RDONLY | os.O_DIRECTORY)
-    try:
-        os.fsync(folder)
-    finally:
-        os.close(folder)
+        expected = self._stamp if place == self._place else None
+        self._stamp = files.put(place, self._handle.pieces("text"), expected, wait)
+        self._place = place

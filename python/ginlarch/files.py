@@ -1,0 +1,117 @@
+"""Store files. The program gx writes them: the variable GX names it, or it is the gx in PATH."""
+import errno
+import os
+import re
+import shutil
+import stat
+import subprocess
+import warnings
+from typing import BinaryIO, Iterable, NamedTuple, NoReturn, Optional, Tuple, Union
+
+Path = Union[str, bytes, "os.PathLike[str]", "os.PathLike[bytes]"]
+
+#: What stands for a place where there is to be no file.
+_NOTHING = "new"
+
+
+class StoreChanged(Exception):
+    """The store file isn't the one that was opened any more, so it wasn't replaced."""
+
+
+class StoreLocked(Exception):
+    """Another run wrote the store file for longer than it was to be waited for."""
+
+
+class Stamp(NamedTuple):
+    """Which file it was, and as of when: one that was written since has another size or time."""
+
+    device: int
+    inode: int
+    size: int
+    nanoseconds: int
+
+    @classmethod
+    def of(cls, found: os.stat_result) -> "Stamp":
+        return cls(found.st_dev, found.st_ino, found.st_size, found.st_mtime_ns)
+
+    @classmethod
+    def read(cls, text: bytes) -> "Stamp":
+        return cls(*map(int, text.split(b":")))
+
+    def __str__(self) -> str:
+        return ":".join(map(str, self))
+
+
+def place(path: Path) -> str:
+    """The whole path of a file, behind links: one for all spellings of it."""
+    return os.path.realpath(os.fsdecode(path))
+
+
+def read(path: Path) -> Tuple[bytes, Stamp]:
+    """The bytes of a regular file, and which one it was. To open a pipe doesn't wait."""
+    opened = os.open(path, os.O_RDONLY | os.O_CLOEXEC | os.O_NONBLOCK)
+    with os.fdopen(opened, "rb") as file:
+        found = os.fstat(opened)
+        if stat.S_ISDIR(found.st_mode):
+            raise IsADirectoryError(errno.EISDIR, os.strerror(errno.EISDIR), os.fsdecode(path))
+        if not stat.S_ISREG(found.st_mode):
+            raise OSError(errno.EINVAL, "not a regular file", os.fsdecode(path))
+        return file.read(), Stamp.of(found)
+
+
+def put(path: str, pieces: Iterable[bytes], expected: Optional[Stamp], wait: Optional[int]) -> Stamp:
+    """Has gx put a store's text, which comes in pieces, in the place of the file that is expected, or of none.
+
+    StoreChanged: another one stands there. StoreLocked: another run wrote it for longer than `wait` seconds.
+    OSError: what stands behind can't be read or written.
+    """
+    words = [_program(), "--explain", "put", f"--expect-stamp={_NOTHING if expected is None else expected}"]
+    words += [] if wait is None else [f"--wait={wait}"]
+    pipe = subprocess.PIPE
+    with subprocess.Popen([*words, path], stdin=pipe, stdout=pipe, stderr=pipe) as running:
+        try:
+            _write(running.stdin, pieces)
+            printed, told = running.communicate()
+        except BaseException:
+            # a text that was cut off is no store, so nothing is replaced
+            running.kill()
+            raise
+    if running.returncode != 0:
+        _refuse(path, told.decode("utf-8", "replace"))
+    if told:
+        warnings.warn(told.decode("utf-8", "replace").strip(), stacklevel=3)
+    return Stamp.read(printed)
+
+
+def _program() -> str:
+    found = os.environ.get("GX") or shutil.which("gx")
+    if found is None:
+        raise FileNotFoundError(errno.ENOENT, "a store is saved by the program gx, which GX names, or PATH has", "gx")
+    return found
+
+
+def _write(pipe: BinaryIO, pieces: Iterable[bytes]) -> None:
+    # whoever doesn't read on tells why
+    try:
+        for piece in pieces:
+            pipe.write(piece)
+        pipe.flush()
+    except BrokenPipeError:
+        pass
+
+
+def _refuse(path: str, told: str) -> NoReturn:
+    """Raises what the lines of a refused run tell: the fault, and the file and the cause."""
+    fault, _, rest = told.partition("\n")
+    if fault in ("gx: store changed", "gx: store exists"):
+        raise StoreChanged(path)
+    if fault == "gx: out of memory":
+        raise MemoryError(fault)
+    if fault == "gx: name too long":
+        raise OSError(errno.ENAMETOOLONG, os.strerror(errno.ENAMETOOLONG), path)
+    if fault == "gx: lock failed" and "another run" in rest:
+        raise StoreLocked(path)
+    number = re.search(r"\(os error (\d+)\)", rest)
+    if number is not None:
+        raise OSError(int(number[1]), os.strerror(int(number[1])), path)
+    raise OSError(errno.EIO, told.strip(), path)

@@ -54,7 +54,7 @@ def test_what_a_checkpoint_published_stays(gx: Program, new_store) -> None:
 def test_files_of_marks_are_lost(gx: Program, option: bytes) -> None:
     line = b"feature " + option + b"=m"
     adapted = gx("adapt", stdin=line + b"\nblob\ndata 0\n\ndone\n")
-    assert (adapted.status, adapted.out) == (3, b"blob\ndata 0\n\n\n")
+    assert (adapted.status, adapted.out) == (3, b"blob\ndata 0\n\n")
     assert adapted.err.endswith(b"gx: adapt: lost: " + line + b"\n" + LAST)
 
 

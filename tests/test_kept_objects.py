@@ -27,7 +27,6 @@ def write_history(git: Git, folder: Path, randoms: random.Random) -> list[str]:
         if number % 3 == 0:
             git("tag", "-a", "-m", "t", f"t{number}", cwd=folder)
         git("checkout", "-q", f"b{randoms.randrange(number + 1)}", cwd=folder)
-    git("checkout", "-q", "--detach", cwd=folder)
     return git("for-each-ref", "--format=%(refname)", cwd=folder).decode().split()
 
 

@@ -37,6 +37,9 @@ def test_unheld(world: World) -> None:
     before = world.remote.read_bytes()
     world.git(*push, "--dry-run", "main", ":side")
     assert world.remote.read_bytes() == before, "--dry-run changed the store"
+    clash = "a ref is there that git can't have beside this one"
+    for sent, told in {"main:main/below": clash, "of-tag": "WrongKind: a tag of a tag"}.items():
+        world.refused(*push, "--dry-run", sent, told=told)
     unnamed = world.written("commit", lambda text: text.replace("\ncommitter ", "\nx ", 1))
     of_nothing = world.written("tag", lambda text: text.partition("\n")[2].replace("v1", "nothing"))
     wrong = {"signed": signed, "early": early, "unnamed": unnamed}
@@ -212,6 +215,24 @@ def test_head(world: World) -> None:
     head.unlink()
     os.mkfifo(head)
     assert world.git("ls-remote", "--symref", "origin", "HEAD").startswith("ref: refs/heads/main\t")
+
+
+def test_long_name(world: World) -> None:
+    """Where FILE.HEAD can't be made for a new store, this is told, and the push is done."""
+    world.git("checkout", "-q", "-b", "trunk")
+    world.commit({"file": "1\n"})
+    world.remote = world.folder / ("a" * 248 + ".gx")
+    done = world.run("push", f"gx::{world.remote}", "trunk")
+    assert done.status == 0 and b"warning: [Errno 36]" in done.err, done.err
+    assert world.named() == {"refs/heads/trunk": world.git("rev-parse", "trunk")}
+
+
+def test_escapes(world: World) -> None:
+    """What a terminal could obey isn't handed on to it."""
+    world.started()
+    odd = world.written("tag", lambda text: text.replace("tag v1", "tag v1\x1b[31m\x9b"))
+    told = "BadRef: the tag v1\\x1b[31m\\x9b, which is refs/tags/v1"
+    world.refused("push", "origin", f"{odd}:refs/tags/odd", told=told)
 
 
 def test_checked(world: World) -> None:

@@ -96,6 +96,28 @@ def test_file_of_another_kind(world: World, ending: str, kind: str) -> None:
     assert (world.store.refs(), other.exists()) == (held, False)
 
 
+@pytest.mark.skipif(os.geteuid() != 0, reason="only root can be several users")
+def test_lock_of_another_user(world: World) -> None:
+    """A file of another's isn't waited for."""
+    beside = world.store.beside(".dropped")
+    beside.touch()
+    os.chown(beside, 65534, 65534)
+    world.repository.delete(b"refs/heads/side")
+    world.stops(FAILED, "another user's")
+
+
+def test_names_of_any_bytes(world: World) -> None:
+    """Refs whose names aren't UTF-8, or look like options or words of a shell."""
+    names = [b"refs/heads/\xe4", b"refs/heads/-x", b"refs/heads/$(x)", b"refs/tags/'"]
+    main = world.repository.refs()[b"refs/heads/main"]
+    world.repository.set(dict.fromkeys(names, main))
+    told = world.follows().err
+    assert all(b"%040d %s %s\n" % (0, main, name) in told for name in names)
+    world.repository.delete(*names)
+    world.follows()
+    assert world.store.notes() == sorted((main, name) for name in names)
+
+
 def test_store_by_a_link(world: World) -> None:
     """What stands beside it stands beside the file that it names."""
     link = world.folder / "elsewhere/t.gx"

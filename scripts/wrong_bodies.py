@@ -35,6 +35,7 @@ from collections import Counter
 from concurrent.futures import ThreadPoolExecutor
 from dataclasses import asdict, dataclass, fields
 from pathlib import Path
+from queue import SimpleQueue
 
 from contracts import Contracts, checksum
 from sources import TOP
@@ -156,17 +157,27 @@ def make_libraries(tree, crates, is_gate):
 
 
 def tried(tree, keys, at_once, is_gate=False):
-    """Tries wrong bodies, crate by crate: what each came to, and why, by its key."""
+    """Tries wrong bodies of several crates at once: what some came to, and why, as it is known."""
     crates = sorted({crate for crate, _ in keys})
     make_libraries(tree, crates, is_gate)
+    results = SimpleQueue()
 
     def try_crate(crate):
-        edits = [tree.edits[key] for key in sorted(keys) if key[0] == crate]
-        found = try_edits(tree.graph, crate, edits)
-        return {(crate, name): told for name, told in found.items()}
+        try:
+            for found in try_edits(tree.graph, crate, [tree.edits[key] for key in keys_of(crate)]):
+                results.put({(crate, name): told for name, told in found.items()})
+        finally:
+            results.put(None)
+
+    def keys_of(crate):
+        return sorted(key for key in keys if key[0] == crate)
 
     with ThreadPoolExecutor(at_once) as pool:
-        yield from pool.map(try_crate, crates)
+        runs = [pool.submit(try_crate, crate) for crate in crates]
+        for _ in runs:
+            yield from iter(results.get, None)
+        for run in runs:
+            run.result()
 
 
 def most_at_once():

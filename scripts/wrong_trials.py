@@ -18,8 +18,8 @@ from sources import TOP, parts_of
 PARTS = ("src", "specs", "proofs")
 LINE = re.compile(r"^(file|old|new): ?(.*)$", re.M)
 SAID = re.compile(r"^fn (?P<symbol>\S+): (?P<words>.*)$", re.M)
-# said of a function because of others
-HIDDEN = re.compile(r"it calls .*, which (?:is|are) not proved")
+# said of a function that has nothing against it but others
+HIDDEN = "no proof: it calls "
 # what the prover says of a text that it can't read, where no contract was tried
 UNREAD = re.compile(
     r"is not in scope|has no field|is no name|operand is missing|expected the end|cannot continue"
@@ -213,7 +213,7 @@ class Room:
         found = {}
         for edit in edits:
             words = [said[symbol] for symbol in symbols[edit.name]]
-            own = words if len(edits) == 1 else [it for it in words if not HIDDEN.search(it)]
+            own = words if len(edits) == 1 else [it for it in words if not it.startswith(HIDDEN)]
             kind, why = verdict_by(own)
             if len(edits) == 1 or kind == REFUSED or kind == PROVED and own == words:
                 found[edit.name] = kind, why
@@ -267,16 +267,13 @@ def side_by_side(room, edits):
 
 
 def try_edits(graph, crate, edits):
-    """Tries edits of a crate: the verdict on each, and why, by its name."""
-    found = {}
+    """Tries edits of a crate: the verdicts of each check, and why, by their names."""
     with tempfile.TemporaryDirectory(prefix=f"wrong-{crate}-") as folder:
         room = Room(graph, crate, folder)
         left = list(edits)
         while left:
             now = side_by_side(room, left)
-            told = room.judge(now)
             # where each hides another, one is tried alone
-            told = told or room.judge(now[:1])
-            found |= told
+            found = room.judge(now) or room.judge(now[:1])
             left = [edit for edit in left if edit.name not in found]
-    return found
+            yield found

@@ -2,8 +2,8 @@
 
 use crate::fault::RunFault;
 use gx_cli::{CliFault, printed_path};
-use std::alloc::AllocError;
 use gx_place::{Patience, PlaceFault};
+use std::alloc::AllocError;
 use std::cell::Cell;
 use std::io::{self, ErrorKind, IsTerminal, Write};
 

@@ -243,8 +243,13 @@ fn set_ref_command<'a>(alloc: Global) -> Result<Command<'a>, AllocError>
 fn changed_command<'a>(alloc: Global) -> Result<Command<'a>, AllocError>
     ensures { say.Makes result say.changed_command }
 {
-    let name = any_word(alloc, "ref", "REF", "The name of a ref, as gx refs prints it")
-        .required_unless_present("stdin")?;
+    let name = any_word(
+        alloc,
+        "ref",
+        "REF",
+        "The name of a ref, as gx refs prints it",
+    )
+    .required_unless_present("stdin")?;
     let new = any_word(
         alloc,
         "new",

@@ -9,7 +9,8 @@ use std::fmt::Display;
 /// A heap that may be told to refuse a growth.
 pub(crate) type Heap = Refusing<Global>;
 
-/// The memory of a call, and its answer so far. An answer for which there is no memory lacks something, and so is another one.
+/// The memory of a call, and its answer so far. An answer for which there is no memory lacks
+/// something, and so is another one.
 #[derive(Drop)]
 pub(crate) struct Room<'a> {
     /// What answers are made of.

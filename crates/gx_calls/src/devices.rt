@@ -6,8 +6,9 @@ use crate::answers::{Room, first_word, number_of, parts_of};
 use gx_text::{Bytes, Failed, FromRead, Held, IntoWrite, Sink, Source, send};
 use std::io::{Error, ErrorKind, Read, Result as IoResult, Write};
 
-/// A reader and a writer that does what a text tells, one byte of it after the other: at a `!` it is interrupted, and at a `?` it
-/// fails. A digit is how many bytes a write takes at most. All other bytes are read, up to a comma.
+/// A reader and a writer that does what a text tells, one byte of it after the other: at a `!` it
+/// is interrupted, and at a `?` it fails. A digit is how many bytes a write takes at most. All
+/// other bytes are read, up to a comma.
 #[derive(Drop)]
 struct Turns<'a> {
     turns: &'a [u8],
@@ -104,7 +105,8 @@ fn pull<S: Source>(room: &mut Room<'_>, source: &mut S, most: usize) {
     }
 }
 
-/// What words are answered that are sent one after the other: that they are, or how many bytes of them.
+/// What words are answered that are sent one after the other: that they are, or how many bytes of
+/// them.
 fn send_all<S: Sink>(room: &mut Room<'_>, sink: &mut S, words: &[u8]) {
     for word in &parts_of(room.alloc, words, b' ') {
         match send(sink, word) {

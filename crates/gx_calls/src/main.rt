@@ -1,6 +1,6 @@
-//! Makes the calls of the files beside it on texts, devices, objects, stores, trees, repositories and revisions, and prints how many
-//! scripts and calls each file has. Names of files may be given. What comes otherwise is printed, with its file and line, and ends
-//! with status 1.
+//! Makes the calls of the files beside it on texts, devices, objects, stores, trees, repositories
+//! and revisions, and prints how many scripts and calls each file has. Names of files may be given.
+//! What comes otherwise is printed, with its file and line, and ends with status 1.
 #![tactic(auto)]
 
 mod answers;
@@ -56,7 +56,8 @@ fn put_name(rt: &HostRuntime, names: &mut Vec<String>, name: &str) -> Result<(),
     Ok(())
 }
 
-/// Follows the scripts of a file, and prints how many they are, or what comes otherwise first. Answers whether all comes so.
+/// Follows the scripts of a file, and prints how many they are, or what comes otherwise first.
+/// Answers whether all comes so.
 fn run_file(rt: &HostRuntime, name: &str, state: RandomState) -> io::Result<bool> {
     let text = fs::read_to_string(rt, name)?;
     let steps = steps_of(rt.alloc(), text.as_str())?;

@@ -1,4 +1,5 @@
-//! The notation of scripts: titles, calls with what they are given, and what is to be answered. docs/TESTING.md tells it.
+//! The notation of scripts: titles, calls with what they are given, and what is to be answered.
+//! docs/TESTING.md tells it.
 
 use gx_text::{cut, decimal};
 use std::alloc::{AllocError, Global};
@@ -45,8 +46,8 @@ impl<'a> Step<'a> {
         matches!(self.part, Part::Tried(_, _))
     }
 
-    /// Whether the step is taken in a script, where this is the tried call, and where a growth was refused before it, or the
-    /// tried call is the last before it that might be.
+    /// Whether the step is taken in a script, where this is the tried call, and where a growth was
+    /// refused before it, or the tried call is the last before it that might be.
     pub(crate) fn is_wanted(
         &self,
         script: usize,
@@ -160,7 +161,8 @@ pub(crate) fn steps_of<'a>(alloc: Global, text: &'a str) -> Result<Vec<Step<'a>>
     Ok(steps)
 }
 
-/// Puts the bytes that a line stands for: `\xHH` is the byte with these two digits, and `\xHH{N}` is N of them.
+/// Puts the bytes that a line stands for: `\xHH` is the byte with these two digits, and `\xHH{N}`
+/// is N of them.
 fn put_read(bytes: &mut Vec<u8>, line: &str) -> Result<(), AllocError> {
     let mut rest = line.as_bytes();
     for _ in 0..line.len() {
@@ -177,7 +179,8 @@ fn put_read(bytes: &mut Vec<u8>, line: &str) -> Result<(), AllocError> {
     bytes.extend_from_slice(rest)
 }
 
-/// Puts a byte as often as the braces behind it say, once where there are none, and answers what is behind.
+/// Puts a byte as often as the braces behind it say, once where there are none, and answers what is
+/// behind.
 fn put_times<'a>(bytes: &mut Vec<u8>, byte: u8, behind: &'a [u8]) -> Result<&'a [u8], AllocError> {
     let (count, rest) = match cut(behind.strip_prefix(b"{").unwrap_or(b""), b'}') {
         Some((digits, rest)) => (decimal(digits).unwrap_or(0), rest),

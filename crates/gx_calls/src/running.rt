@@ -18,7 +18,8 @@ enum Outcome {
     Wrong(String),
 }
 
-/// Follows each script of a file's steps, and once more for each growth of each tried call. What comes otherwise first is told.
+/// Follows each script of a file's steps, and once more for each growth of each tried call. What
+/// comes otherwise first is told.
 pub(crate) fn first_wrong(
     alloc: Global,
     steps: &[Step<'_>],

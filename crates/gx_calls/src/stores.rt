@@ -86,7 +86,8 @@ fn share<'a, N: Namer>(
     }
 }
 
-/// The bytes of a text from one place up to another; none where it ends before. The places stand before the text.
+/// The bytes of a text from one place up to another; none where it ends before. The places stand
+/// before the text.
 pub(crate) fn range_of<'a>(
     heap: &'a Heap,
     text: &[u8],
@@ -167,7 +168,8 @@ fn misses_each<N: Namer>(store: &Store<N, &Heap>, from: usize, to: usize) -> boo
     true
 }
 
-/// Whether each object is found by all its digits, and by so many of them as when all objects are gone through.
+/// Whether each object is found by all its digits, and by so many of them as when all objects are
+/// gone through.
 fn finds_each<N: Namer>(store: &Store<N, &Heap>, digits: usize) -> bool {
     for place in 0..store.len() {
         let Some((name, _, _)) = store.record(place) else {

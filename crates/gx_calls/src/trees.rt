@@ -1,7 +1,7 @@
 //! Calls on the files of a branch: edits, trees that are written and loaded.
 //!
-//! A file is its path, a `:`, the letter of its mode (`f`, `x`, `l` or `g`), and the byte that its name has twenty times, or the
-//! name's digits. The root is `.`.
+//! A file is its path, a `:`, the letter of its mode (`f`, `x`, `l` or `g`), and the byte that its
+//! name has twenty times, or the name's digits. The root is `.`.
 
 ghost use Rattle.std.specs.Prelude.{◌≢◌};
 ghost use Rattle.gx_model.specs.declared.objects.Mode.TheVariants as modes;
@@ -14,7 +14,8 @@ use gx_text::{TreePath, cut};
 use gx_tree::{Found, PathTree};
 use std::mem::swap;
 
-/// The files of a branch, a duplicate of them or others that were loaded, and the store into which trees are written.
+/// The files of a branch, a duplicate of them or others that were loaded, and the store into which
+/// trees are written.
 #[derive(Drop)]
 pub(crate) struct Branch<'a, N: Namer> {
     pub(crate) tree: PathTree<&'a Heap>,
@@ -155,7 +156,8 @@ fn fill<'a>(room: &mut Room<'a>, tree: &mut PathTree<&'a Heap>, files: &[u8]) {
     room.word("done");
 }
 
-/// Puts two copies of the directory `a` in its place, which then has twice as many files, so many times.
+/// Puts two copies of the directory `a` in its place, which then has twice as many files, so many
+/// times.
 fn double<'a>(room: &mut Room<'a>, tree: &mut PathTree<&'a Heap>, times: usize) {
     let (a, b) = (path_of(room.heap, b"a"), path_of(room.heap, b"b"));
     let (x, y) = (path_of(room.heap, b"b/x"), path_of(room.heap, b"b/y"));
@@ -225,7 +227,8 @@ fn write_twice<'a, N: Namer>(
     room.named(tree.write_shared(store));
 }
 
-/// Writes a tree, puts a file of sixes at a path, and writes it once more by the names that it remembers.
+/// Writes a tree, puts a file of sixes at a path, and writes it once more by the names that it
+/// remembers.
 fn write_again<'a, N: Namer>(
     room: &mut Room<'a>,
     tree: &mut PathTree<&'a Heap>,

@@ -30,6 +30,18 @@ def test_nothing_new(world: World, counted: Counted) -> None:
     assert [as_written(path) for path in paths] == before
 
 
+def test_what_a_run_takes(world: World, counted: Counted) -> None:
+    """A new commit, a forced branch, a new tag and a deleted branch: one look and one import."""
+    repository = world.repository
+    repository.delete(b"refs/heads/side")
+    repository.commit("new", repository.refs()[b"refs/heads/main"])
+    repository.git("tag", "-m", "Two", "v2", "main")
+    repository.git("update-ref", "refs/heads/main", "main~1")
+    world.follows(env=counted.environment)
+    assert counted.runs("gx") == ["refs", "import"]
+    assert counted.runs("git").count("fast-export") == 1
+
+
 def test_head(world: World) -> None:
     """FILE.HEAD has the text of git's HEAD, where that is symbolic."""
     head, repository = world.store.beside(".HEAD"), world.repository

@@ -4,6 +4,7 @@ pub(crate) mod files;
 mod host;
 mod next_text;
 mod process;
+mod push;
 mod put;
 mod stamp;
 
@@ -24,6 +25,7 @@ use gx_cli::{
 use gx_object::Sha1Namer;
 use gx_text::{FromRead, IntoWrite};
 use next_text::NextText;
+pub(crate) use push::push;
 pub(crate) use put::put;
 use std::alloc::Global;
 use std::fs::File;

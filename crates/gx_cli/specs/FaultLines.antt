@@ -7,16 +7,18 @@ use Rattle.gx_model.specs.Faults.StoreFaults as store
 use Rattle.gx_adapt.specs.AdaptFaults as adapt
 use Rattle.gx_blobs.specs.BlobsFaults as blobs
 use Rattle.gx_export.specs.Faults as export
+use Rattle.gx_push.specs.Faults as refs
 use Rattle.gx_rev.specs.RevFaults as rev
 use Rattle.gx_where.specs.Faults as place
 use Rattle.gx_cli.specs.declared.fault.CliFault.{CliFault}
-use Rattle.gx_cli.specs.declared.fault.CliFault.TheVariants.{Adapt, BadFormat, Blobs, Export, Import, Keep, OutOfMemory, ReadFailed, Revision, Store, StoreExists, Where, WriteFailed}
+use Rattle.gx_cli.specs.declared.fault.CliFault.TheVariants.{Adapt, BadFormat, Blobs, Export, Import, Keep, OutOfMemory, Push, ReadFailed, Revision, Store, StoreExists, Where, WriteFailed}
 
 -- the line of a refusal, without its line feed
 abbrev pub line_of : CliFault → Bytes
 line_of (Blobs fault) = codes "gx: " ++ blobs.refusal fault
 line_of (Import fault) = codes "gx: command " ++ decimal fault.command ++ codes ": " ++ word_of fault.kind
 line_of (Revision number kind) = codes "gx: revision " ++ decimal number ++ codes ": " ++ rev.word kind
+line_of (Push number kind) = codes "gx: push " ++ decimal number ++ codes ": " ++ refs.word kind
 line_of (Store fault) = codes "gx: store: " ++ store.word fault
 line_of (Export fault) = codes "gx: export: " ++ export.word fault
 line_of (Adapt fault) = codes "gx: adapt: " ++ word_of (adapt.fault_of fault)

@@ -19,6 +19,7 @@ pub mod LogRows
 pub mod Gathering
 pub mod Adapting
 pub mod Placing
+pub mod Pushing
 pub mod Forms
 pub mod Serving
 pub mod Again

@@ -2,7 +2,7 @@
 
 ghost use Rattle.std.specs.Prelude.{◌≡◌, Some};
 ghost use Rattle.gx_cli.specs.FaultLines.{line_of};
-ghost use Rattle.gx_cli.specs.Gathering.{of_archive, of_batch, of_format};
+ghost use Rattle.gx_cli.specs.Gathering.{of_archive, of_batch, of_format, of_push};
 ghost use Rattle.gx_cli.specs.declared.fault.CliFault.TheVariants.{OutOfMemory};
 
 use crate::BlobsFault;
@@ -13,6 +13,7 @@ use gx_batch::{BatchFault, FormatFault};
 use gx_export::ExportFault;
 use gx_file::FileFault;
 use gx_import::ImportFault;
+use gx_push::{PushFault, RefFault};
 use gx_rev::RevFault;
 use gx_where::WhereFault;
 use std::alloc::{AllocError, AllocFailed};
@@ -26,6 +27,8 @@ pub enum CliFault {
     Import(ImportFault),
     /// The number of the revision among the words, from 1, and why it is refused.
     Revision { number: u64, kind: RevFault },
+    /// The number of the line of a push, from 1, and what is against it.
+    Push { number: u64, kind: RefFault },
     /// Why the store's text isn't read.
     Store(FileFault),
     /// Why the store isn't exported as a whole.
@@ -57,6 +60,7 @@ impl fmt::Display for CliFault {
             CliFault::Blobs(fault) => write!(f, "gx: {fault}"),
             CliFault::Import(fault) => write!(f, "gx: command {}: {}", fault.command, fault.kind),
             CliFault::Revision { number, kind } => write!(f, "gx: revision {number}: {kind}"),
+            CliFault::Push { number, kind } => write!(f, "gx: push {number}: {kind}"),
             CliFault::Store(fault) => write!(f, "gx: store: {fault}"),
             CliFault::Export(fault) => write!(f, "gx: export: {fault}"),
             CliFault::Adapt(fault) => write!(f, "gx: adapt: {fault}"),
@@ -99,6 +103,18 @@ impl From<BatchFault> for CliFault {
             BatchFault::OutOfMemory => CliFault::OutOfMemory,
             BatchFault::ReadFailed => CliFault::ReadFailed,
             BatchFault::WriteFailed => CliFault::WriteFailed,
+        }
+    }
+}
+
+impl From<PushFault> for CliFault {
+    ghost from_gives = { λ from fault. fault ≡ of_push from };
+
+    fn from(fault: PushFault) -> CliFault {
+        match fault {
+            PushFault::Line { number, kind } => CliFault::Push { number, kind },
+            PushFault::Import(fault) => CliFault::Import(fault),
+            PushFault::OutOfMemory => CliFault::OutOfMemory,
         }
     }
 }

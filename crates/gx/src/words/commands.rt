@@ -2,7 +2,7 @@
 
 use crate::fault::RunFault;
 use crate::run::Run;
-use crate::stores::{collect, drop_refs, import, init, put};
+use crate::stores::{collect, drop_refs, import, init, push, put};
 use crate::streams::{Trial, adapt, answer_input, export, print, try_stream};
 use gx_cli::{CliFault, Features, Line};
 use std::hash::RandomState;
@@ -87,6 +87,17 @@ fn run_command(run: &Run<'_>, line: &Line<'_>, state: RandomState) -> Result<(),
         } => {
             run.explain_if(*explain);
             import(run, file, features(done, force), *report, state)
+        }
+        Line::Push {
+            file,
+            push: told,
+            done,
+            report,
+            explain,
+            ..
+        } => {
+            run.explain_if(*explain);
+            push(run, file, told, *done, *report, state)
         }
         _ => Ok(answer(run, line, state)?),
     }

@@ -1,0 +1,66 @@
+//! Pushes into a store file.
+
+use super::next_text::NextText;
+use super::told_lines;
+use crate::fault::RunFault;
+use crate::run::Run;
+use crate::streams::explanation::explained;
+use crate::streams::progress::{Beside, ProgressLine};
+use crate::streams::reports::{tell_changes, tell_import, tell_nameless, tell_typed_stream};
+use crate::streams::traced::Traced;
+use gx_cli::{CliFault, Explanation, Pushed, push_store};
+use gx_object::Sha1Namer;
+use gx_text::{FromRead, IntoWrite};
+use std::alloc::Global;
+use std::hash::RandomState;
+
+/// Imports standard input into a store file as a push, whose lines are in the file `told`. They are read before the store file is
+/// claimed. A refused push leaves that as it was. What is told of it comes once the store file is free.
+pub(crate) fn push(
+    run: &Run<'_>,
+    file: &str,
+    told: &str,
+    done: bool,
+    report: bool,
+    state: RandomState,
+) -> Result<(), RunFault> {
+    let lines = told_lines(run, told)?;
+    let mut next = NextText::claim_next(run, file)?;
+    let store = next.read_store()?;
+    tell_typed_stream(run);
+    let (pushed, nameless) = push_shown(run, store, lines.as_slice(), done, report, state);
+    let pushed = pushed?;
+    next.publish_store(&pushed.repo)?;
+    drop(next);
+    if report {
+        tell_changes(run, &pushed.changes);
+    }
+    tell_import(run, &pushed.report, report);
+    if report {
+        tell_nameless(run, nameless);
+    }
+    Ok(())
+}
+
+/// Pushes standard input, and shows how far it is. Where a report is asked for, identities without a name are counted.
+fn push_shown(
+    run: &Run<'_>,
+    store: Vec<u8>,
+    lines: &[Vec<u8>],
+    done: bool,
+    report: bool,
+    state: RandomState,
+) -> (Result<Pushed<Sha1Namer, Global>, CliFault>, u64) {
+    let alloc = run.rt.alloc();
+    let progress = ProgressLine::new(run);
+    let mut input = Traced::input(run, &progress, report);
+    let mut told = Explanation::none();
+    let mut sink = IntoWrite::new(Beside::new(&progress));
+    let source = FromRead::new(&mut input);
+    let pushed = push_store(
+        alloc, Sha1Namer, store, lines, source, &mut sink, done, state, &mut told,
+    );
+    progress.clear();
+    let nameless = input.trail().map_or(0, |trail| trail.nameless());
+    (explained(run, &input, pushed, &told), nameless)
+}

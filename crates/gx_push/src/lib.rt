@@ -1,0 +1,12 @@
+//! Changes of refs that hold only where the refs are what somebody saw: imports as pushes, and lists of refs to set.
+//! All of the changes are made, or none is.
+#![tactic(auto)]
+
+mod fault;
+mod forward;
+mod pushing;
+mod want;
+mod wants;
+
+pub use fault::{PushFault, RefFault};
+pub use pushing::{Pushed, push};

@@ -82,8 +82,8 @@ def test_fetch_sets_no_refs(world: World, monkeypatch: pytest.MonkeyPatch) -> No
         words = [world.gx, "export", "--changes", world.remote]
         repository.take(script.Program(words, stdout=PIPE), set(), None)
         folder = Path(repository.there["GIT_DIR"])
-        paths = [path for path in folder.glob("refs/**/*") if path.is_file()]
-        assert [path for path in paths if path.stat().st_size] == [] and not (folder / "packed-refs").exists()
+        paths = [folder / "packed-refs", *folder.glob("refs/**/*")]
+        assert [path for path in paths if path.is_file() and path.stat().st_size] == []
     digits = world.named().values()
     assert len(digits) == 69
     world.git("rev-list", "--objects", *digits)

@@ -103,6 +103,33 @@ def test_import_between(world: World, words: list[str]) -> None:
     assert named["refs/heads/side"] == world.git("rev-parse", "side")
 
 
+def test_let_go_between(world: World) -> None:
+    """What the store lets go meanwhile is sent again."""
+    world.started()
+    world.git("push", "-q", "origin", f"{world.commit({'file': 'gone'})}:refs/heads/gone")
+    above = world.commit({"file": "above"})
+    gone = f'"$gx" drop {world.remote} refs/heads/gone && "$gx" gc {world.remote}'
+    world.git("push", "-q", "origin", "main:above", more=world.before_import(gone))
+    assert world.named()["refs/heads/above"] == above
+
+
+@pytest.mark.parametrize("text, held", [("Tagged", "above"), ("Changed", "v2"), ("body", "v2")])
+def test_changed_on_the_way(world: World, text: str, held: str) -> None:
+    """A push never leaves other objects than git has, also where a stream is changed: the text of a
+    tag, of a commit or of a file. What isn't concerned goes."""
+    world.started()
+    world.git("tag", "-m", "Tagged", "v2")
+    world.git("checkout", "-q", "-b", "above")
+    world.commit({"file": "body\n"})
+    world.git("commit", "-q", "--amend", "-m", "Changed")
+    before = world.short_named()
+    changed = f"sed 's/^{text}$/{text.swapcase()}/'"
+    more = world.wrapped(f'[ "$2" != import ] || exec "$gx" "$@" < <({changed})')
+    done = world.run("push", "origin", "above", "v2", more=more)
+    assert done.status == 1 and b"UnknownObject" in done.err, done.err
+    assert world.short_named() == {**before, held: world.git("rev-parse", held)}
+
+
 def test_replaced(world: World) -> None:
     """gx itself looks whether a ref loses commits, where git takes a commit for another."""
     world.started()

@@ -25,10 +25,12 @@ use Rattle.gx_push.specs.Wants.{Refusal, Wanted, refs_of}
 module _ (before : List Ref) (old : Records) (wants : List Wanted) (forward : first_lost old 1 wants ≡ None) where
   pub refs_settled : (new : Records) (names : List Bytes) → are_kept (refs_of wants) before old.refs ≡ true → names ≡ vanishing old.refs wants → new.records ≡ old.records → dropped names old.refs ≡ Ok new.refs
       → (pushed before old wants ≡ Ok new.refs) × (new ≡ with_refs old new.refs)
-  refs_settled new names kept e records left =
-      (ap (unless_refused before old wants) forward
-      ∙ ap (λ b. if b then Ok (without (vanishing old.refs wants) old.refs) else Err (length wants + 1, RefMoved)) kept
-      ∙ ap (λ ns. Ok (without ns old.refs)) (sym e) ∙ ap Ok (sym (are_left names old.refs new.refs left)), rw (sym records) refl)
+  refs_settled new names kept e records left = (
+    ap (unless_refused before old wants) forward
+        ∙ ap (λ b. if b then Ok (without (vanishing old.refs wants) old.refs) else Err (length wants + 1, RefMoved)) kept
+        ∙ ap (λ ns. Ok (without ns old.refs)) (sym e) ∙ ap Ok (sym (are_left names old.refs new.refs left)),
+    rw (sym records) refl,
+  )
 
   pub others_moved : are_kept (refs_of wants) before old.refs ≡ false → pushed before old wants ≡ Err (length wants + 1, RefMoved)
   others_moved e = ap (unless_refused before old wants) forward ∙ ap (λ b. if b then Ok (without (vanishing old.refs wants) old.refs) else Err (length wants + 1, RefMoved)) e

@@ -58,6 +58,7 @@ module _ (refs : List Ref) where
         ≡ (if b then same_bytes w.ref n || is_among (vanishing refs ws) n else is_among (vanishing refs ws) n)
     step true = refl
     step false = refl
+
     by : (a b : Bool) → (a || is_among (refs_of ws) n) ≡ false → (is_among (refs_of ws) n ≡ false → is_among (vanishing refs ws) n ≡ false)
         → (if b then a || is_among (vanishing refs ws) n else is_among (vanishing refs ws) n) ≡ false
     by true b h k = absurd (true≢false h)

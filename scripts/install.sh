@@ -64,7 +64,7 @@ for_each_library_file() {
   "$1" 755 "$made/libginlarch.so" "$library/libginlarch.so"
   "$1" 644 "$made/ginlarch.pc" "$library/pkgconfig/ginlarch.pc"
   "$1" 644 "$root/include/ginlarch.h" "${INCLUDEDIR:-$prefix/include}/ginlarch.h"
-  for module in __init__ calls faults; do
+  for module in __init__ calls faults files; do
     "$1" 644 "$root/python/ginlarch/$module.py" "$python/ginlarch/$module.py"
   done
 }

@@ -60,8 +60,23 @@ fn file_of<'a>(line: &Line<'a>) -> Option<&'a str> {
     }
 }
 
+/// How many seconds a command waits for another run that writes its file, where that is told.
+fn wait_of(line: &Line<'_>) -> Option<u64> {
+    match line {
+        Line::Init { wait, .. }
+        | Line::Import { wait, .. }
+        | Line::Push { wait, .. }
+        | Line::Drop { wait, .. }
+        | Line::SetRef { wait, .. }
+        | Line::Put { wait, .. }
+        | Line::Gc { wait, .. } => *wait,
+        _ => None,
+    }
+}
+
 /// Runs a command on its file and on the standard streams.
 fn run_command(run: &Run<'_>, line: &Line<'_>, state: RandomState) -> Result<(), RunFault> {
+    run.wait_for_others(wait_of(line));
     match line {
         Line::Init { file, .. } => init(run, line, file, state),
         Line::Drop {

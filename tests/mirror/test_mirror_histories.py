@@ -13,7 +13,7 @@ from hypothesis import strategies as st
 from mirror_world import NOTHING, Repository, World, lines_of
 from programs import SCRIPTS, Program, run_program
 
-sys.path.insert(0, str(SCRIPTS))
+sys.path.append(str(SCRIPTS))
 
 from histories import History  # noqa: E402
 

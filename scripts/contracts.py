@@ -148,8 +148,7 @@ class Contracts:
             parts[owner].append(clause.text)
         for function in filter(lambda it: it.clauses, functions):
             said = [function.head, *(clause.text for clause in function.clauses)]
-            place = path.relative_to(self.top).as_posix()
-            self.clauses[crate].append((" ".join([place, function.owner, *said]), scope))
+            self.clauses[crate].append((" ".join([function.owner, *said]), scope))
             if function.owner.startswith("trait "):
                 parts[function.owner] += said
         for name, lines in types_of(text).items():

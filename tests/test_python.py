@@ -321,9 +321,9 @@ def test_store_is_saved_and_opened(ginlarch, repository, saved: Path, gx: Progra
         assert again.refs == repository.refs
         assert saved.read_bytes() == again.to_bytes()
         again.import_stream(MORE)
-        saved.chmod(0o640)
+        saved.chmod(0o444)
         again.save()
-        assert mode_of(saved) == 0o640
+        assert mode_of(saved) == 0o444
         again.import_stream(b"reset refs/heads/last\nfrom refs/heads/main\n\n")
         again.save()
     with ginlarch.Repository.open(saved) as last:
@@ -550,7 +550,8 @@ def test_left_out_permissions_warn(ginlarch, saved: Path, gx_path: Path, tmp_pat
 @pytest.mark.parametrize("page, shown", [("README.md", b"three\\n"), ("docs/LIBRARY.md", b"UnknownRef\n")])
 def test_example_of_a_page_runs(repository, history: Path, stream: bytes, environment: dict, shared: Path, page: str, shown: bytes) -> None:
     (history / "more").write_bytes(stream)
-    (history / "hello.gx").write_bytes(repository.to_bytes())
+    if page == "README.md":
+        (history / "hello.gx").write_bytes(repository.to_bytes())
     example = (TOP / page).read_text().split("```python\n")[1].split("```")[0].replace('"README.md"', '"doc/README"')
     paths = {"PYTHONPATH": str(TOP / "python"), "GINLARCH_LIBRARY": str(shared)}
     done = run_program([sys.executable, "-c", example], cwd=history, env={**environment, **paths})

@@ -162,7 +162,8 @@ class Handle:
 
     def _word(self) -> str:
         room = ctypes.create_string_buffer(64)
-        return room.raw[: _why(self._pointer(), room, 64)].decode("ascii")
+        length = _why(self._pointer(), room, 64)
+        return room.raw[:length].decode("ascii")
 
     def _want_own_thread(self) -> None:
         if threading.get_ident() != self._thread:

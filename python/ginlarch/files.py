@@ -49,14 +49,15 @@ def place(path: Path) -> str:
 
 def read(path: Path) -> Tuple[bytes, Stamp]:
     """The bytes of a regular file, and which one it was. To open a pipe doesn't wait."""
-    opened = os.open(path, os.O_RDONLY | os.O_CLOEXEC | os.O_NONBLOCK)
-    with os.fdopen(opened, "rb") as file:
-        found = os.fstat(opened)
-        if stat.S_ISDIR(found.st_mode):
-            raise IsADirectoryError(errno.EISDIR, os.strerror(errno.EISDIR), os.fsdecode(path))
+    with open(path, "rb", opener=_open) as file:
+        found = os.fstat(file.fileno())
         if not stat.S_ISREG(found.st_mode):
             raise OSError(errno.EINVAL, "not a regular file", os.fsdecode(path))
         return file.read(), Stamp.of(found)
+
+
+def _open(path: str, flags: int) -> int:
+    return os.open(path, flags | os.O_NONBLOCK)
 
 
 def put(path: str, pieces: Iterable[bytes], expected: Optional[Stamp], wait: Optional[int]) -> Stamp:

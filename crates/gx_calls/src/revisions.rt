@@ -80,12 +80,22 @@ fn put_each_parent(room: &mut Room<'_>, view: &CommitView<'_>) {
 
 /// The commits that a word lists; none where it is empty.
 fn put_walk<'a, N: Namer>(room: &mut Room<'a>, repo: &Repo<N, &'a Heap>, word: &[u8]) {
-    let mut ranges = Vec::new(room.heap);
-    if let Ok(range) = Range::read(room.heap, word) {
-        let _ = ranges.push(range);
+    if word.is_empty() {
+        return put_walked(room, repo, &[]);
     }
+    match Range::read(room.heap, word) {
+        Ok(range) => put_walked(room, repo, &[range]),
+        Err(fault) => room.told(fault),
+    }
+}
+
+fn put_walked<'a, N: Namer>(
+    room: &mut Room<'a>,
+    repo: &Repo<N, &'a Heap>,
+    ranges: &[Range<&'a Heap>],
+) {
     room.arm();
-    match walk(room.heap, repo, &ranges) {
+    match walk(room.heap, repo, ranges) {
         Ok(names) => put_names(room, &names),
         Err(fault) if fault.word == 0 => room.told(fault.kind),
         Err(fault) => room.told(fault),

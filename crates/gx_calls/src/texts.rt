@@ -71,12 +71,16 @@ fn put_quoted(room: &mut Room<'_>, text: &[u8]) {
     }
 }
 
-/// What a path prints behind another byte, which alone is there where that is refused.
+/// What a path prints.
 fn put_printed(room: &mut Room<'_>, text: &[u8]) {
-    let (Ok(mut out), Ok(path)) = (
-        Vec::from_slice(room.heap, b"="),
-        TreePath::read(room.heap, text),
-    ) else {
+    if let Ok(path) = TreePath::read(room.heap, text) {
+        put_behind(room, &path);
+    }
+}
+
+/// What a path prints behind another byte, which alone is there where that is refused.
+fn put_behind<'a>(room: &mut Room<'a>, path: &TreePath<&'a Heap>) {
+    let Ok(mut out) = Vec::from_slice(room.heap, b"=") else {
         return;
     };
     room.arm();

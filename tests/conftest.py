@@ -38,6 +38,9 @@ def pytest_addoption(parser: pytest.Parser) -> None:
         "--session", metavar="FILE", action="append", default=[], help="a file of sessions to run"
     )
     group.addoption(
+        "--stream", metavar="FILE", action="append", default=[], help="a stream to compare with git"
+    )
+    group.addoption(
         "--long", action="store_true", help="run what is marked long, and longer histories"
     )
 

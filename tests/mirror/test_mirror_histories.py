@@ -8,14 +8,11 @@ import shutil
 import sys
 
 import pytest
+from histories import History
 from hypothesis import given
 from hypothesis import strategies as st
 from mirror_world import NOTHING, Repository, World, lines_of
 from programs import SCRIPTS, Program, run_program
-
-sys.path.append(str(SCRIPTS))
-
-from histories import History  # noqa: E402
 
 CHANGE = re.compile(rb"^([0-9a-f]{40}) ([0-9a-f]{40}) (refs/.*)$", re.M)
 

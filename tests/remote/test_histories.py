@@ -8,14 +8,12 @@ from collections.abc import Callable
 from pathlib import Path
 
 import pytest
+from histories import History
 from hypothesis import given, note
 from hypothesis import strategies as st
+from places import Repository
 from programs import SCRIPTS, printed, run_program
 from remote_world import World
-
-sys.path.append(str(SCRIPTS))
-from histories import History  # noqa: E402
-from places import Repository  # noqa: E402
 
 ALL_REFS = [["--mirror", "origin"], ["--force", "--prune", "origin", "refs/*:refs/*"]]
 
@@ -23,7 +21,8 @@ ALL_REFS = [["--mirror", "origin"], ["--force", "--prune", "origin", "refs/*:ref
 def clones_of(world: World) -> list[Repository]:
     """Two empty repositories, which share their marks."""
     names = ("one.git", "two.git")
-    clones = [Repository(world.folder / name, world.folder / "marks") for name in names]
+    marks = world.folder / "marks"
+    clones = [Repository(world.folder / name, world.environment, marks) for name in names]
     for clone in clones:
         clone.git("remote", "add", "origin", world.url)
         clone.git("config", "remote.origin.fetch", "+refs/*:refs/*")

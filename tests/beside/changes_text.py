@@ -1,28 +1,35 @@
-"""A reader of streams as `gx export --changes` and `git fast-export` write them: for changes.py."""
+"""A reader of streams as `gx export --changes` and `git fast-export` write them."""
+
+from __future__ import annotations
 
 import re
+from collections.abc import Iterator
+
+LETTERS = {b"n": b"\n", b"t": b"\t", b"r": b"\r", b"a": b"\a", b"b": b"\b", b"f": b"\f"}
+LETTERS[b"v"] = b"\v"
 
 
 class Command:
     """A command. What it hasn't is None or empty."""
 
-    def __init__(self, word, ref):
+    def __init__(self, word: bytes, ref: bytes):
         self.word, self.ref = word, ref
-        self.mark = self.start = None
-        self.parents = []  # marks or digits
-        self.changes = []  # mode, mark or digits, and path of each M line, without the first two of each D line
-        self.shown = []  # each path, with the text that gives it
+        self.mark: bytes | None = None
+        self.start: bytes | None = None
+        self.parents: list[bytes] = []  # marks or digits
+        # mode, mark or digits, and path of each M line, without the first two of each D line
+        self.changes: list[tuple[bytes | None, bytes | None, bytes]] = []
+        self.shown: list[tuple[bytes, bytes]] = []  # each path, with the text that gives it
 
 
-def unquoted(text):
+def unquoted(text: bytes) -> bytes:
     """The path that a text gives, as git reads it."""
     if not text.startswith(b'"'):
         return text
-    letters = {b"n": b"\n", b"t": b"\t", b"r": b"\r", b"a": b"\a", b"b": b"\b", b"f": b"\f", b"v": b"\v"}
 
-    def byte(found):
-        given = found.group(1)
-        return bytes([int(given, 8)]) if given.isdigit() else letters.get(given, given)
+    def byte(found: re.Match[bytes]) -> bytes:
+        given = found[1]
+        return bytes([int(given, 8)]) if given.isdigit() else LETTERS.get(given, given)
 
     return re.sub(rb"\\([0-7]{3}|.)", byte, text[1:-1], flags=re.S)
 
@@ -30,10 +37,10 @@ def unquoted(text):
 class Lines:
     """The lines of a text, one after the other."""
 
-    def __init__(self, text):
+    def __init__(self, text: bytes):
         self.text, self.at = text, 0
 
-    def next(self):
+    def next(self) -> bytes | None:
         """The next line, or None at the end."""
         if self.at == len(self.text):
             return None
@@ -41,21 +48,22 @@ class Lines:
         line, self.at = self.text[self.at : end], end + 1
         return line
 
-    def take(self, *fronts):
-        """The front that the next line has, and what stands behind it; None twice if it has none of these."""
+    def take(self, *fronts: bytes) -> tuple[bytes | None, bytes | None]:
+        """The front that the next line has, and what stands behind it; None twice if it has none of
+        these."""
         for front in fronts:
             if self.text.startswith(front, self.at):
                 return front, self.next()[len(front) :]
         return None, None
 
-    def skip_block(self):
+    def skip_block(self) -> None:
         """A block of data, with a line feed behind it if there is one."""
         size = int(self.take(b"data ")[1])
         self.at += size
         self.take(b"\n")
 
 
-def read_commit(command, lines):
+def read_commit(command: Command, lines: Lines) -> None:
     """The lines of a commit behind its first."""
     command.mark = lines.take(b"mark ")[1]
     for front in (b"author ", b"committer ", b"encoding "):
@@ -71,7 +79,7 @@ def read_commit(command, lines):
         word, rest = lines.take(b"D ", b"M ")
 
 
-def read_text(text):
+def read_text(text: bytes) -> Iterator[Command]:
     """The commands of a text."""
     lines = Lines(text)
     while (line := lines.next()) is not None:

@@ -59,7 +59,6 @@ fn makes_text(line: &Line<'_>) -> bool {
             | Line::Import { .. }
             | Line::Push { .. }
             | Line::Drop { .. }
-            | Line::SetRef { .. }
             | Line::Put { .. }
             | Line::Gc { .. }
     )

@@ -40,7 +40,6 @@ fn file_of<'a>(line: &Line<'a>) -> Option<&'a str> {
         | Line::Push { file, .. }
         | Line::Batch { file, .. }
         | Line::Drop { file, .. }
-        | Line::SetRef { file, .. }
         | Line::Put { file, .. }
         | Line::Gc { file, .. }
         | Line::Export { file, .. }
@@ -67,7 +66,6 @@ fn wait_of(line: &Line<'_>) -> Option<u64> {
         | Line::Import { wait, .. }
         | Line::Push { wait, .. }
         | Line::Drop { wait, .. }
-        | Line::SetRef { wait, .. }
         | Line::Put { wait, .. }
         | Line::Gc { wait, .. } => *wait,
         _ => None,

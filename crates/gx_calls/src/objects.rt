@@ -13,18 +13,33 @@ use std::alloc::Global;
 pub(crate) fn answer<N: Namer>(room: &mut Room<'_>, namer: &N, call: &str, text: &[u8]) -> bool {
     let (first, body) = first_word(text);
     match call {
-        "name" => room.digits(&namer.name(kind_of(first), body)),
+        "name" => put_name(room, namer, kind_of(first), body),
         "digits" => room.found(Name::read(text)),
         "lower" => room.found(Name::read_lower(text)),
         "decode" => put_decoded(room, kind_of(first), body),
         "encode-commit" => encode_again(room, namer, text),
         "encode-tag" => encode_tag_again(room, namer, text),
         "tree-body" => put_tree(room, namer, text),
-        "order" => room.yes_or_no(is_canonical(&entries_of(room.alloc, text))),
-        "is-behind" => room.yes_or_no(compare_marked(first, b"/", body, b"").is_gt()),
+        "order" => put_order(room, text),
+        "is-behind" => put_behind(room, first, body),
         _ => return false,
     }
     true
+}
+
+fn put_name<N: Namer>(room: &mut Room<'_>, namer: &N, kind: Kind, body: &[u8]) {
+    room.digits(&namer.name(kind, body));
+}
+
+/// Whether entries stand in the order of a tree.
+fn put_order(room: &mut Room<'_>, lines: &[u8]) {
+    let entries = entries_of(room.alloc, lines);
+    room.yes_or_no(is_canonical(&entries));
+}
+
+/// Whether a directory stands behind a file.
+fn put_behind(room: &mut Room<'_>, directory: &[u8], file: &[u8]) {
+    room.yes_or_no(compare_marked(directory, b"/", file, b"").is_gt());
 }
 
 /// The parts of a body, each on a line; of a tree the number of its entries.

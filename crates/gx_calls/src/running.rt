@@ -102,7 +102,8 @@ fn follow<'a, N: Namer + Copy + Drop>(
         }
         if step.is_wanted(script, place == tried, is_refused, is_behind) {
             room.nth = if place == tried { nth } else { 0 };
-            match outcome_of(desk, room, step, place == tried)? {
+            let was_refused = is_refused_at(desk, room, step);
+            match outcome_of(room, step, was_refused)? {
                 Outcome::Done => {}
                 Outcome::Refused => is_refused = true,
                 wrong => return Ok(wrong),
@@ -116,24 +117,34 @@ fn follow<'a, N: Namer + Copy + Drop>(
     })
 }
 
-/// What comes of a step, whose call may be refused a growth where it is tried.
-fn outcome_of<'a, N: Namer + Copy + Drop>(
+/// Makes the call of a step. Answers whether a growth was refused to it.
+fn is_refused_at<'a, N: Namer + Copy + Drop>(
     desk: &mut Desk<'a, N>,
     room: &mut Room<'a>,
     step: &Step<'_>,
-    is_tried: bool,
-) -> Result<Outcome, AllocError> {
+) -> bool {
     room.answer.clear();
     desk.make(room, step.word, &step.given);
-    let was_refused = is_tried && !room.heap.is_waiting();
+    let is_refused = room.nth > 0 && !room.heap.is_waiting();
     room.heap.arm(0);
-    if was_refused && room.answer.as_slice() == b"OutOfMemory".as_slice() {
-        Ok(Outcome::Refused)
-    } else if !was_refused && step.is_answer(&room.answer) {
-        Ok(Outcome::Done)
+    is_refused
+}
+
+/// What comes of a step with this answer, to whose call a growth was refused or not.
+fn outcome_of(room: &Room<'_>, step: &Step<'_>, is_refused: bool) -> Result<Outcome, AllocError> {
+    let is_wanted = if is_refused {
+        room.answer.as_slice() == b"OutOfMemory".as_slice()
     } else {
-        Ok(Outcome::Wrong(wrong_of(room.alloc, step, room.nth, &room.answer)?))
+        step.is_answer(&room.answer)
+    };
+    if !is_wanted {
+        return Ok(Outcome::Wrong(wrong_of(room.alloc, step, room.nth, &room.answer)?));
     }
+    Ok(if is_refused {
+        Outcome::Refused
+    } else {
+        Outcome::Done
+    })
 }
 
 /// What is told of a step of which something else comes.

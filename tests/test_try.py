@@ -78,10 +78,9 @@ def made(environment: dict[str, str], *words: str) -> Done:
 @needs_make
 def test_make_tells_what_there_is(environment) -> None:
     done = made(environment)
-    targets = re.findall(r"^  make (\w+) +\S", done.out.decode(), re.M)
+    targets = re.findall(r"^  make (\S+) +\S", done.out.decode(), re.M)
     assert done.status == 0
-    wanted = ["help", "try", "test", "prove", "gate", "bench", "docs", "install", "library"]
-    assert targets == wanted
+    assert targets == "help try test prove gate bench docs install library library-try".split()
 
 
 @needs_make

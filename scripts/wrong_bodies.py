@@ -85,6 +85,10 @@ def write_lines(lines):
     TABLE.write_text("\n".join([HEAD, *("\t".join(row) for row in rows)]) + "\n")
 
 
+def path_of(key):
+    return TOP / "crates" / key[0] / "wrong" / f"{key[1]}.edit"
+
+
 def edits_below(pattern):
     return [Edit(path) for path in sorted(TOP.glob(pattern))]
 
@@ -213,7 +217,7 @@ def try_them(tree, at_once, words):
             kinds[kind] += 1
         # another run may have written lines meanwhile
         tree.lines = read_lines() | new
-        write_lines({key: line for key, line in tree.lines.items() if key in tree.edits})
+        write_lines({key: line for key, line in tree.lines.items() if path_of(key).exists()})
     write_counts()
     figures(tree, tree.stale(), f"; {sum(kinds.values())} tried, {minutes()}")
     return 0 if kinds.keys() <= {REFUSED, LIMIT} else 1

@@ -21,16 +21,20 @@ $ where|18446744073709551615 % Where(18446744073709551615)
 $ where|--fault % WhereFault { done: false, force: false }
 $ where|--done|--fault % WhereFault { done: true, force: false }
 $ where|--fault|--force|--done % WhereFault { done: true, force: true }
-$ init|f % Init { file: \"f\" }
-$ import|f % Import { file: \"f\", done: false, force: false, report: false, explain: false }
-$ import|--force|f|--done % Import { file: \"f\", done: true, force: true, report: false, explain: false }
-$ import|f|--report % Import { file: \"f\", done: false, force: false, report: true, explain: false }
-$ import|f|--explain % Import { file: \"f\", done: false, force: false, report: false, explain: true }
-$ drop|f|refs/heads/a|b % Drop { file: \"f\", refs: [\"refs/heads/a\", \"b\"], stdin: false }
-$ drop|f|--stdin % Drop { file: \"f\", refs: [], stdin: true }
-$ drop|--stdin|f|a % Drop { file: \"f\", refs: [\"a\"], stdin: true }
-$ gc|f % Gc { file: \"f\", report: false }
-$ gc|--report|f % Gc { file: \"f\", report: true }
+$ init|f % Init { file: \"f\", wait: None }
+$ import|f % Import { file: \"f\", done: false, force: false, report: false, explain: false, wait: None }
+$ import|--force|f|--done % Import { file: \"f\", done: true, force: true, report: false, explain: false, wait: None }
+$ import|f|--report % Import { file: \"f\", done: false, force: false, report: true, explain: false, wait: None }
+$ import|f|--explain % Import { file: \"f\", done: false, force: false, report: false, explain: true, wait: None }
+$ import|--wait|3|f % Import { file: \"f\", done: false, force: false, report: false, explain: false, wait: Some(3) }
+$ import|--push=p|f|--done % Push { file: \"f\", push: \"p\", done: true, report: false, explain: false, wait: None }
+$ put|f|--expect-stamp=new % Put { file: \"f\", stamp: \"new\", wait: None }
+$ drop|f|refs/heads/a|b % Drop { file: \"f\", refs: [\"refs/heads/a\", \"b\"], stdin: false, wait: None }
+$ drop|f|--stdin % Drop { file: \"f\", refs: [], stdin: true, wait: None }
+$ drop|--stdin|f|a % Drop { file: \"f\", refs: [\"a\"], stdin: true, wait: None }
+$ gc|f % Gc { file: \"f\", report: false, keep: None, wait: None }
+$ gc|--report|f % Gc { file: \"f\", report: true, keep: None, wait: None }
+$ gc|--keep|k|f|--wait=0 % Gc { file: \"f\", report: false, keep: Some(\"k\"), wait: Some(0) }
 $ export|f % Export { form: FullTree, file: \"f\" }
 $ export|--changes|f % Export { form: Changes { done: true }, file: \"f\" }
 $ export|f|--no-done|--changes % Export { form: Changes { done: false }, file: \"f\" }
@@ -105,6 +109,10 @@ $ where % refused
 $ where|x % refused
 $ where|18446744073709551616 % refused
 $ where|1|f % refused
+$ import|--push=p|--force|f % refused
+$ import|f|--push % refused
+$ put|f % refused
+$ gc|f|--wait=x % refused
 $ where|1|--fault % refused
 $ where|--fault|--fault % refused
 $ where|--done % refused
@@ -185,9 +193,11 @@ Usage: gx adapt [OPTIONS]
 $ where|--help % help %
 Usage: gx where [OPTIONS] [N]
 $ init|--help % help %
-Usage: gx init <FILE>
+Usage: gx init [OPTIONS] <FILE>
 $ drop|--help % help %
 Usage: gx drop [OPTIONS] <FILE> [REF]...
+$ put|--help % help %
+Usage: gx put [OPTIONS] --expect-stamp <S> <FILE>
 $ gc|--help % help %
 Usage: gx gc [OPTIONS] <FILE>
 $ export|--help % help %
@@ -195,7 +205,7 @@ Usage: gx export [OPTIONS] <FILE> [RANGE]...
 $ import|--help % help %
 Usage: gx import [OPTIONS] <FILE>
 $ import|-h % help %
-      --report   Tells the refs that changed%
+      --report          Tells the refs that changed%
 $ show|--help % help %
 Usage: gx show <FILE> <REV>
 $ ls|--help % help %

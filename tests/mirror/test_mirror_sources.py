@@ -110,5 +110,5 @@ def test_command_line(world: World) -> None:
     for words in [], ["one"], ["--keep-days=x", "one", "two"], ["one", "two", "three"]:
         done = run_program([*MIRROR, *words], env=world.environment)
         assert (done.status, done.out) == (USAGE, b""), done
-    done = run_program([SCRIPTS / "mirror.sh", "--help"], env=world.environment)
+    done = run_program([SCRIPTS / "gx-mirror", "--help"], env=world.environment)
     assert done.status == 0 and b"--allow-empty" in done.out

@@ -260,3 +260,16 @@ def test_checked(world: World) -> None:
     world.git(*checks, "fetch", "-q", where="clone")
     world.git("fsck", where="checked")
     assert world.git("rev-parse", "good", where="clone") == world.git("rev-parse", "good")
+
+
+def test_url(world: World) -> None:
+    """By URL a push goes where the store has a ref that git hasn't: what is pushed isn't taken for
+    what both sides have. A fetch by URL has what it was asked for."""
+    world.started()
+    there = world.commit({"file": "5\n"}, where="clone")
+    world.git("push", "-q", "origin", "HEAD:refs/heads/there", where="clone")
+    here = world.commit({"file": "6\n"})
+    world.git("push", "-q", world.url, "main:refs/heads/here")
+    assert world.short_named()["here"] == here and world.short_named()["there"] == there
+    world.git("fetch", "-q", world.url, "there:refs/heads/there")
+    assert world.git("rev-parse", "there") == there

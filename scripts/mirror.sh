@@ -1,1 +1,0 @@
-gx-mirror

@@ -204,13 +204,32 @@ class History:
 
 
 @st.composite
-def most_of(draw: st.DrawFn, elements: st.SearchStrategy[Element], count: int) -> list[Element]:
-    """Most of so many elements, and at least two: each behind the first seven times of eight.
+def one_more(
+    draw: st.DrawFn, elements: st.SearchStrategy[Element], mean: int
+) -> list[Element]:
+    """One element, or none once in so many times and one."""
+    return [draw(elements)] if draw(st.integers(0, mean)) else []
 
-    hypothesis begins with the simplest, and would be content with one where few are tried.
+
+@st.composite
+def several(
+    draw: st.DrawFn, elements: st.SearchStrategy[Element], most: int, mean: int
+) -> list[Element]:
+    """Up to so many elements, `mean` in the mean if there were no end.
+
+    Each is drawn by itself, so that hypothesis can leave out any of them.
     """
-    others = (draw(elements) for _ in range(count - 1) if draw(st.integers(0, 7)))
-    found = [draw(elements), *others]
+    found: list[Element] = []
+    while len(found) < most and (more := draw(one_more(elements, mean))):
+        found += more
+    return found
+
+
+@st.composite
+def many(draw: st.DrawFn, elements: st.SearchStrategy[Element], most: int) -> list[Element]:
+    """Often so many elements, and at least two: hypothesis begins with the simplest, and would be
+    content with one where few are tried."""
+    found = draw(several(elements, most, 2 * most))
     assume(len(found) > 1)
     return found
 
@@ -219,4 +238,4 @@ def most_of(draw: st.DrawFn, elements: st.SearchStrategy[Element], count: int) -
 def histories(draw: st.DrawFn, most: int, kind: type[History] = History) -> list[Step]:
     """The steps of a history."""
     history = kind(draw(st.randoms(use_true_random=False)))
-    return draw(most_of(st.builds(history.step), most))
+    return draw(many(st.builds(history.step), most))

@@ -13,7 +13,7 @@ import random
 import re
 import subprocess
 
-from histories import Step, histories, most_of
+from histories import Step, histories, many
 from hypothesis import given
 from hypothesis import strategies as st
 from places import MakePlaces, Places, Repository, Store, same
@@ -214,7 +214,7 @@ def test_batch(
         store, git = both(steps, places)
         if not git.refs():
             return
-        lines = data.draw(most_of(st.builds(Lines(git, chance).one), 60), label="lines")
+        lines = data.draw(many(st.builds(Lines(git, chance).one), 60), label="lines")
         plain = [line for line in lines if b"\n" not in line and b"\r" not in line]
         whole = [line for line in lines if b"\0" not in line]
         asked = Asked(store, git)

@@ -7,6 +7,7 @@ from __future__ import annotations
 import os
 import random
 import shutil
+import sys
 import tempfile
 from collections import Counter
 from collections.abc import Callable, Iterator
@@ -46,6 +47,8 @@ def pytest_addoption(parser: pytest.Parser) -> None:
 
 
 def pytest_configure(config: pytest.Config) -> None:
+    # scripts run by the Python that runs the tests
+    os.environ["PATH"] = f"{Path(sys.executable).parent}:{os.environ['PATH']}"
     config.addinivalue_line(
         "markers", "quick: run by `make test` and by the gate, as all that isn't long"
     )

@@ -23,7 +23,9 @@ __gx_operands() {
   operands=()
   for ((i = 2; i < ${#words[@]} - 1; i++)); do
     case ${words[i]} in
-      --max-count | -n | --prefix | --format | --keep) i=$((i + 1)) ;;
+      --max-count | -n | --prefix | --format | --keep | --push | --expect-stamp | --wait)
+        i=$((i + 1))
+        ;;
       -?*) ;;
       *) operands+=("${words[i]}") ;;
     esac
@@ -93,23 +95,26 @@ __gx_options() {
     ls) __gx_answer '' "$1" -r --recursive --help ;;
     archive) __gx_answer '' "$1" --prefix --help ;;
     where) __gx_answer '' "$1" --fault --done --force --help ;;
-    drop) __gx_answer '' "$1" --stdin --help ;;
+    drop) __gx_answer '' "$1" --stdin --wait --help ;;
+    put) __gx_answer '' "$1" --expect-stamp --wait --help ;;
+    init) __gx_answer '' "$1" --wait --help ;;
     batch) __gx_answer '' "$1" --check --command --format -z --help ;;
     adapt) __gx_answer '' "$1" --drop-signatures --help ;;
-    import) __gx_answer '' "$1" --done --force --report --explain --help ;;
+    import) __gx_answer '' "$1" --done --force --push --report --explain --wait --help ;;
     try | check) __gx_answer '' "$1" --done --force --explain --help ;;
-    gc) __gx_answer '' "$1" --keep --report --help ;;
+    gc) __gx_answer '' "$1" --keep --report --wait --help ;;
     export) __gx_answer '' "$1" --changes --no-done --help ;;
     log) __gx_answer '' "$1" --all --stdin --format --reverse --max-count -n --parents --help ;;
     *) __gx_answer '' "$1" --help ;;
   esac
 }
 
-# Answers what may stand behind an option that takes a value: a list's format is one of a few, and what is to be kept is in a file.
+# Answers what may stand behind an option that takes a value: a list's format is one of a few, and what is to be kept or pushed is in
+# a file.
 __gx_value() {
   if [[ ${words[1]}:${words[-2]} == log:--format ]]; then
     __gx_answer '' "$1" oneline raw subject author dates
-  elif [[ ${words[1]}:${words[-2]} == gc:--keep ]]; then
+  elif [[ ${words[1]}:${words[-2]} =~ ^(gc:--keep|import:--push)$ ]]; then
     __gx_files "$1"
   fi
 }
@@ -119,13 +124,13 @@ __gx_words_of_command() {
   local -a operands
   __gx_operands
   case ${words[1]}:${#operands[@]} in
-    init:0 | import:0 | drop:0 | gc:0 | export:0 | show:0 | ls:0 | archive:0 | batch:0 | refs:0 | log:0 | rev-parse:0) __gx_files "$last" ;;
+    init:0 | import:0 | drop:0 | put:0 | gc:0 | export:0 | show:0 | ls:0 | archive:0 | batch:0 | refs:0 | log:0 | rev-parse:0) __gx_files "$last" ;;
     show:1 | ls:1 | archive:1 | drop:[1-9]* | export:[1-9]* | log:[1-9]* | rev-parse:[1-9]*) __gx_revisions "$last" ;;
   esac
 }
 
 _gx() {
-  local -a words commands=(blobs try check adapt where init import drop gc export show ls archive batch refs log rev-parse)
+  local -a words commands=(blobs try check adapt where init import drop put gc export show ls archive batch refs log rev-parse)
   COMPREPLY=()
   # behind < and > bash completes files by itself
   [[ ${COMP_WORDS[COMP_CWORD - 1]} != *[\<\>]* ]] || return 0

@@ -23,6 +23,7 @@ ENUMS = {
         "gx_tree/src/fault.rt TreeFault",
         "gx_store/src/fault.rt StoreFault",
     ],
+    "Pushes": ["gx_push/src/fault.rt RefFault"],
     "Revisions": ["gx_rev/src/fault.rt RevFault"],
     "Stores": ["gx_model/src/store_faults.rt FileFault", "gx_repo/src/fault.rt AddFault"],
     "Exports": ["gx_export/src/fault.rt ExportFault"],
@@ -41,6 +42,8 @@ ENUMS = {
 # the enum whose texts have a number and a word, and the part that explains these, by what stands before the number
 NUMBERED = "gx_cli/src/fault.rt"
 PARTS = {"keep": "Objects to keep"}
+# what no line of a push is refused for, since its objects come from the stream
+UNTOLD = {("Pushes", word) for word in ("BadRefName", "UnknownObject", "WrongKind")}
 
 
 def words_of(place):
@@ -62,7 +65,10 @@ def numbered():
 
 def standing():
     """The faults of the sources, as pairs of a part and a word."""
-    return numbered() | {(part, word) for part, places in ENUMS.items() for place in places for word in words_of(place)}
+    told = {
+        (part, word) for part, places in ENUMS.items() for place in places for word in words_of(place)
+    }
+    return numbered() | told - UNTOLD
 
 
 def headings(text):

@@ -39,7 +39,7 @@ from queue import SimpleQueue
 
 from contracts import Contracts, checksum
 from sources import TOP
-from wrong_trials import LIMIT, REFUSED, Edit, Graph, try_edits
+from wrong_trials import BAD, LIMIT, REFUSED, Edit, Graph, try_edits
 
 TABLE = TOP / "docs" / "tried.tsv"
 PAGE = TOP / "docs" / "WRONG_BODIES.md"
@@ -211,7 +211,9 @@ def try_them(tree, at_once, words):
     keys = asked(tree, words) if words else tree.stale().keys() | tree.moved()
     kinds = Counter()
     for told in tried(tree, keys, at_once):
-        new = {key: tree.today(key, kind, commit_of(key[0])) for key, (kind, _) in told.items()}
+        # one that can't be read tells nothing, and gets no line
+        judged = {key: kind for key, (kind, _) in told.items() if kind != BAD}
+        new = {key: tree.today(key, kind, commit_of(key[0])) for key, kind in judged.items()}
         for key, (kind, why) in sorted(told.items()):
             print(f"{kind} {'/'.join(key)}: {why[:200]}", flush=True)
             kinds[kind] += 1

@@ -143,7 +143,7 @@ _gx() {
     __gx_answer '' "$last" "${commands[@]}" help --help
   elif [[ ${words[1]} == help ]]; then
     __gx_answer '' "$last" "${commands[@]}"
-  elif [[ ${words[-2]} =~ ^(-n|--(max-count|prefix|format|keep))$ ]]; then
+  elif [[ ${words[-2]} =~ ^(-n|--(max-count|prefix|format|keep|push|wait|expect-stamp))$ ]]; then
     __gx_value "$last"
   elif [[ ${words[1]} == log && $last == --format=* ]]; then
     __gx_answer '' "$last" --format={oneline,raw,subject,author,dates}

@@ -42,7 +42,8 @@ def synopsis():
         if words[:1] == ["gx"] and len(words) > 1 and re.fullmatch(r"[a-z-]+", words[1]):
             rest = " ".join(words[2:])
             options = set(re.findall(r"(?<![\w-])--?[a-z][a-z-]*", rest))
-            operands = re.sub(r"\[-[^][]*(\[-[^][]*\])?\]", "", rest).split()
+            bare = re.sub(r"\[-[^][]*(\[-[^][]*\])?\]", "", rest)
+            operands = bare.replace("=", " ").split()
             if words[1] != "help" and not words[1].startswith("-"):
                 found[words[1]] = (options, operands)
     return found

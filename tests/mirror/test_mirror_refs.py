@@ -104,6 +104,17 @@ def test_no_refs_of_a_store(world: World) -> None:
     assert first in world.store.names()
 
 
+def test_replaced_by_a_signed_commit(world: World) -> None:
+    """The commit comes as it was made, and only the ref of what replaces it stays."""
+    last = world.repository.commit("main")
+    signed = world.repository.signed(last)
+    world.repository.git("replace", last, signed)
+    done = world.mirror()
+    told = b"gx-mirror: refs/replace/%s stays as it is: Unsupported: gpgsig of commit %s"
+    assert (done.status, told % (last, signed) in done.err) == (STAYS, True)
+    assert world.store.refs()[b"refs/heads/main"] == last
+
+
 def test_ref_that_became_symbolic(world: World) -> None:
     """Its file is there, and git lists it, but not as a ref of its own."""
     world.repository.git("symbolic-ref", "refs/heads/side", "refs/heads/main")

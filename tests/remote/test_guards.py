@@ -152,6 +152,8 @@ def test_atomic(world: World) -> None:
     told = "main -> main (atomic push failure)"
     for wrong in (world.signed(), world.early()):
         world.refused(*atomic, f"{wrong}:refs/heads/wrong", told=told)
+    blob = world.git("rev-parse", "main:file")
+    world.refused(*atomic, f"{blob}:refs/tags/blob", told=told)
     world.refused(*atomic, "main:refs/heads/main/below", told=told)
     theirs = f"GX=$gx git -C {world.folder}/clone push -q -f origin main~1:light"
     world.git("tag", "-f", "light", "main")

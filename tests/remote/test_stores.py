@@ -115,6 +115,18 @@ def test_missing(world: World) -> None:
     world.refused("fetch", world.url, where="long", told=told)
 
 
+def test_below_a_shallow_boundary(world: World) -> None:
+    """A shallow repository gets the history that it lacks below what it has."""
+    first = world.commit({"file": "1\n"})
+    world.commit({"file": "2\n"})
+    world.git("push", "-q", "origin", "main", "main~1:refs/heads/old")
+    place = f"file://{world.folder}/work"
+    world.git("clone", "-q", "--depth", "1", "--branch", "main", place, "shallow", where=".")
+    world.git("fetch", "-q", world.url, "old", where="shallow")
+    assert world.git("rev-parse", "FETCH_HEAD", where="shallow") == first
+    assert world.git("show", "FETCH_HEAD:file", where="shallow") == "1"
+
+
 def test_named(world: World) -> None:
     """Odd names: of the file, of refs that only a store has, and of what gx can't be told."""
     commit = world.commit({"file": "1\n"})

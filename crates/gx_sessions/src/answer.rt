@@ -63,12 +63,17 @@ impl Answer {
     }
 }
 
-/// Whether lines on standard error end with a refusal. Those of a report end with a number, or with how a stream ended.
+/// Whether lines on standard error end with a refusal. Those of a report end with a number, with how a stream ended, or with what
+/// it lost.
 fn is_refusal(told: &[u8]) -> bool {
     match told.strip_suffix(b"\n") {
-        Some(line) => !line.ends_with(b" done") && !ends_with_digit(line),
+        Some(line) => !is_report(line),
         None => false,
     }
+}
+
+fn is_report(line: &[u8]) -> bool {
+    line.ends_with(b" done") || line.ends_with(b" are lost") || ends_with_digit(line)
 }
 
 fn ends_with_digit(line: &[u8]) -> bool {

@@ -41,7 +41,8 @@ pub(crate) fn serve_line(
     } else {
         ended(alloc, Sha1Namer, line, store, source, &mut sink, pass)
     };
-    let is_refused = outcome.status != 0;
+    // a stream that lost lines is adapted, with a status of its own
+    let is_refused = outcome.status == 1;
     Ok(Ending {
         printed: Vec::from_slice(alloc, sink.bytes())?,
         told: told_text(alloc, outcome.fault, report)?,

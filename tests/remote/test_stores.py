@@ -229,6 +229,13 @@ def test_head(world: World) -> None:
     assert world.git("ls-remote", "--symref", "origin", "HEAD").startswith("ref: refs/heads/main\t")
 
 
+def test_head_of_what_is_pushed_as_head(world: World) -> None:
+    """What is checked out may come by the name of HEAD, and under another name."""
+    world.commit({"file": "1\n"})
+    world.git("push", "-q", "origin", "main~0:refs/heads/a", "HEAD:refs/heads/topic")
+    assert (world.folder / "store.gx.HEAD").read_text() == "ref: refs/heads/topic\n"
+
+
 def test_long_name(world: World) -> None:
     """Where FILE.HEAD can't be made for a new store, this is told, and the push is done."""
     world.git("checkout", "-q", "-b", "trunk")
@@ -259,12 +266,13 @@ def test_checked(world: World) -> None:
         world.refused("-c", f"{key}=true", "fetch", "origin", where="clone", told="hasDotgit")
         assert world.run("cat-file", "-e", commit, where="clone").status != 0
         assert list((world.folder / "clone/.git/objects").glob("tmp_objdir*")) == []
+    unchecked = ["-c", "transfer.fsckObjects=true", "-c", "fetch.fsckObjects=0"]
+    world.git(*unchecked, "clone", "-q", world.url, "unchecked", where=".")
+    assert world.git("rev-parse", "origin/bad", where="unchecked") == commit
     checks = ["-c", "fetch.fsckObjects=true"]
     world.git(*checks, "-c", "fetch.fsck.hasDotgit=ignore", "fetch", "-q", "origin", where="clone")
     assert world.git("rev-parse", "origin/bad", where="clone") == commit
     world.git("push", "-q", "origin", ":bad")
-    unchecked = ["-c", "transfer.fsckObjects=true", "-c", "fetch.fsckObjects=0"]
-    world.git(*unchecked, "fetch", "-q", "origin", where="clone")
     world.commit({"file": "5\n"})
     world.git("tag", "-m", "Good", "good")
     world.git("push", "-q", "origin", "main", "good")

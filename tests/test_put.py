@@ -9,7 +9,7 @@ from pathlib import Path
 
 import pytest
 
-from programs import EMPTY_STORE, Done
+from programs import EMPTY_STORE, Done, Program
 from store_files import NEW, OLD, STREAM, StoreFile, refused
 
 SECOND = 10**9
@@ -90,3 +90,38 @@ def test_wait(store: StoreFile, words: list[str], text: bytes | None) -> None:
     done = store.run(command, "--wait=0", *rest, stdin=given)
     assert (done.status, done.err) == (0, b"")
     assert text is None or store.holds_alone(text)
+
+
+def test_missing_file_is_a_change(store: StoreFile) -> None:
+    before = stamp_of(store.path)
+    store.path.unlink()
+    assert put(store, before) == Done(1, b"", b"gx: store changed\n")
+    assert list(store.folder.iterdir()) == []
+
+
+@pytest.mark.parametrize("length", [0, 1, 40, len(NEW) - 1])
+def test_text_that_is_cut_off_is_no_store(store: StoreFile, length: int) -> None:
+    done = put(store, stamp_of(store.path), NEW[:length])
+    assert (done.status, done.out, done.err[:10]) == (1, b"", b"gx: store:")
+    assert store.holds_alone(OLD)
+
+
+@pytest.mark.parametrize("length", [251, 252, 255])
+@pytest.mark.parametrize("word", ["init", "import", "drop", "gc", "put"])
+def test_long_name_is_told(gx: Program, tmp_path: Path, word: str, length: int) -> None:
+    """FILE.new would have more bytes than a name may have. Nothing is made, and FILE can be read."""
+    path = tmp_path / ("s" * length)
+    if word != "init":
+        path.write_bytes(OLD)
+    stamp = [f"--expect-stamp={stamp_of(path)}"] if word == "put" else []
+    refs = ["refs/heads/main"] if word == "drop" else []
+    given = NEW if word == "put" else STREAM
+    done = gx("--explain", word, *stamp, path, *refs, stdin=given)
+    if length == 251:
+        assert (done.status, done.err) == (0, b"")
+        return
+    cause = "FILE.new would have more bytes than the 255 of a name"
+    assert done == Done(1, b"", f"gx: name too long\ngx: {path}: {cause}\n".encode())
+    assert [made.read_bytes() for made in tmp_path.iterdir()] == ([] if word == "init" else [OLD])
+    if word != "init":
+        assert gx("refs", path).status == 0

@@ -22,7 +22,7 @@ WHO = b"committer A <a@x> 1 +0000\n"
 # that end in each way
 FRONT = (
     b"# a comment\nblob\nmark :1\ndata 13\nblob\ncommit x\n\nblob\n# between\nmark :2\ndata <<END\n"
-    b"commit refs/heads/y\nENDED\n\nEND\n\n"
+    b"commit refs/heads/y\nENDED\nblob\n\nEND\n\n"
     b"blob\nmark :3\ndata 0\nprogress p\ncommit refs/heads/main\nmark :4\n"
     + WHO
     + b"data 2\nm\nM 100644 :1 a\n"

@@ -18,7 +18,8 @@ STREAM = (
     b"commit refs/heads/main\ncommitter A <a@x> 1 +0000\ndata 2\nv1\n"
     b"M 100644 inline test.txt\ndata 10\nversion 1\n\ndone\n"
 )
-VALGRIND = ["valgrind", "-q", "--error-exitcode=1", "--leak-check=full", "--errors-for-leak-kinds=all"]
+LEAKS = ["--leak-check=full", "--errors-for-leak-kinds=all"]
+VALGRIND = ["valgrind", "-q", "--error-exitcode=1", *LEAKS]
 SANITIZED = ["-fsanitize=address,undefined", "-fno-sanitize-recover=undefined"]
 SHOWN = Done(0, b"version 1\n", b"")
 
@@ -33,8 +34,8 @@ def compiled(built: Path, tmp_path: Path) -> Callable[..., Path]:
 
     def compile_source(source: str, *words: Word) -> Path:
         program = tmp_path / Path(source).stem
-        command = [os.environ.get("CC", "cc"), "-std=c99", "-Wall", "-Wextra", "-Werror", "-O1", "-g"]
-        command += ["-I", TOP / "include", "-o", program, TOP / source, *words]
+        command = [os.environ.get("CC", "cc"), "-std=c99", "-Wall", "-Wextra", "-Werror"]
+        command += ["-O1", "-g", "-I", TOP / "include", "-o", program, TOP / source, *words]
         printed(run_program(command, timeout=120), command)
         return program
 
@@ -59,14 +60,18 @@ def test_example_in_c_keeps_nothing(built: Path, compiled: Callable[..., Path]) 
     assert run_program([*VALGRIND, example, "main", "test.txt"], STREAM, **over(built)) == SHOWN
 
 
-def test_calls_at_random_stay_in_bounds(built: Path, compiled: Callable[..., Path], seed: int) -> None:
+def test_calls_at_random_stay_in_bounds(
+    built: Path, compiled: Callable[..., Path], seed: int
+) -> None:
     fuzz = compiled("tests/library/fuzz.c", *SANITIZED, built / "libginlarch.a")
     words = [fuzz, str(seed), "10000"]
     printed(run_program(words, timeout=300), words)
 
 
 @needs("valgrind")
-def test_calls_at_random_keep_nothing(built: Path, compiled: Callable[..., Path], seed: int) -> None:
+def test_calls_at_random_keep_nothing(
+    built: Path, compiled: Callable[..., Path], seed: int
+) -> None:
     fuzz = compiled("tests/library/fuzz.c", built / "libginlarch.a")
     words = [*VALGRIND, fuzz, str(seed), "1000"]
     printed(run_program(words, timeout=300), words)
@@ -87,7 +92,9 @@ def test_example_in_rust_lists_refs(built: Path, tmp_path: Path) -> None:
     assert (done.status, done.out) == (0, DIGITS + b" refs/heads/main\n")
 
 
-def test_installed_library_is_found(built: Path, compiled: Callable[..., Path], tmp_path: Path) -> None:
+def test_installed_library_is_found(
+    built: Path, compiled: Callable[..., Path], tmp_path: Path
+) -> None:
     """By pkg-config(1) and by Python; and all of it goes again."""
     place = tmp_path / "place"
     environment = {**os.environ, "PREFIX": str(place)}
@@ -95,7 +102,8 @@ def test_installed_library_is_found(built: Path, compiled: Callable[..., Path], 
     printed(run_program(words, env=environment), words)
     if shutil.which("pkg-config"):
         asked = {**os.environ, "PKG_CONFIG_PATH": str(place / "lib/pkgconfig")}
-        flags = subprocess.check_output(["pkg-config", "--cflags", "--libs", "ginlarch"], env=asked, text=True)
+        words = ["pkg-config", "--cflags", "--libs", "ginlarch"]
+        flags = subprocess.check_output(words, env=asked, text=True)
         example = compiled("examples/library.c", *flags.split())
         assert run_program([example, "main", "test.txt"], STREAM, **over(place / "lib")) == SHOWN
     modules = {**over(place / "lib")["env"], "PYTHONPATH": str(place / "lib/python3/dist-packages")}

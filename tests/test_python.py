@@ -1,4 +1,6 @@
-"""The Python module beside git, over histories that git exports, and what becomes of the stores that it saves."""
+"""The Python module beside git, over histories that git exports, and what becomes of stores that
+it saves.
+"""
 
 from __future__ import annotations
 
@@ -24,14 +26,16 @@ from store_files import mode_of, needs_users
 
 # a commit with an encoding, a submodule, a name with odd bytes, and a message without an LF
 ODD = (
-    b"commit refs/heads/odd\ncommitter C <c@x> 1700000009 -0230\nencoding ISO-8859-1\ndata 3\n\xe4\n\n"
+    b"commit refs/heads/odd\ncommitter C <c@x> 1700000009 -0230\nencoding ISO-8859-1\n"
+    b"data 3\n\xe4\n\n"
     b"M 160000 1111111111111111111111111111111111111111 sub\n"
     b'M 100644 inline "d/\\303\\244\\377\\t\\n"\ndata 0\n\n'
     b"commit refs/heads/odd\ncommitter C <c@x> 1700000010 -0230\ndata 4\nlast\n"
 )
 MORE = b"reset refs/heads/more\nfrom refs/heads/main\n\n"
-REVISIONS = ["main", "topic", "v1", "v1^{}", "main^2", "main~2", "main:doc", "main:doc/README", "main^{tree}"]
-RANGES = [["main"], ["v1..main"], ["main", "^topic"], ["main...topic"], ["main^!"], ["topic", "v1"]]
+REVISIONS = "main topic v1 v1^{} main^2 main~2 main:doc main:doc/README main^{tree}".split()
+RANGES = ["main", "v1..main", "main ^topic", "main...topic", "main^!", "topic v1"]
+LISTED = ["main", "topic", "v1", "main:doc", "main~2^{tree}", "odd"]
 
 # a call of git in the history's folder
 Git = Callable[..., bytes]
@@ -91,9 +95,9 @@ def saved(repository, tmp_path: Path) -> Path:
 def test_objects_are_those_of_git(ginlarch, git: Git, history: Path, stream: bytes) -> None:
     repository = ginlarch.Repository()
     report = repository.import_stream(stream, done=True)
-    listed = git("cat-file", "--batch-all-objects", "--batch-check", cwd=history).decode().splitlines()
-    assert report.objects == len(listed)
-    for line in listed:
+    listed = git("cat-file", "--batch-all-objects", "--batch-check", cwd=history).decode()
+    assert report.objects == listed.count("\n")
+    for line in listed.splitlines():
         name, kind, size = line.split(" ")
         shown = repository[name]
         assert (shown.kind, shown.name, len(shown.body)) == (kind, name, int(size))
@@ -105,9 +109,10 @@ def test_revision_is_that_of_git(repository, git: Git, history: Path, revision: 
     assert repository.name(revision) == git("rev-parse", revision, cwd=history).decode().strip()
 
 
-@pytest.mark.parametrize("words", RANGES, ids=" ".join)
-def test_log_is_that_of_git(repository, git: Git, history: Path, words: list[str]) -> None:
-    assert sorted(repository.log(*words)) == sorted(git("rev-list", *words, cwd=history).decode().split())
+@pytest.mark.parametrize("words", RANGES)
+def test_log_is_that_of_git(repository, git: Git, history: Path, words: str) -> None:
+    listed = git("rev-list", *words.split(), cwd=history).decode().split()
+    assert sorted(repository.log(*words.split())) == sorted(listed)
 
 
 def test_refs_are_those_of_git(repository, git: Git, history: Path) -> None:
@@ -120,14 +125,20 @@ def test_files_are_those_of_git(repository, git: Git, history: Path) -> None:
         front, path = line.split("\t")
         mode, _, name = front.split(" ")
         entry = repository.entry("main", path)
-        assert (entry.mode, entry.data) == (int(mode, 8), git("cat-file", "blob", name, cwd=history))
+        data = git("cat-file", "blob", name, cwd=history)
+        assert (entry.mode, entry.data) == (int(mode, 8), data)
 
 
 @pytest.mark.parametrize("recursive", [False, True])
-@pytest.mark.parametrize("revision", ["main", "topic", "v1", "main:doc", "main~2^{tree}", "odd"])
-def test_listing_is_that_of_git(repository, git: Git, history: Path, revision: str, recursive: bool) -> None:
+@pytest.mark.parametrize("revision", LISTED)
+def test_listing_is_that_of_git(
+    repository, git: Git, history: Path, revision: str, recursive: bool
+) -> None:
     listed = git("ls-tree", "-z", *(["-r"] if recursive else []), revision, cwd=history)
-    shown = [f"{entry.mode:06o} {entry.kind} {entry.name}\t{entry.path}\0" for entry in repository.ls(revision, recursive)]
+    shown = [
+        f"{entry.mode:06o} {entry.kind} {entry.name}\t{entry.path}\0"
+        for entry in repository.ls(revision, recursive)
+    ]
     assert "".join(shown).encode("utf-8", "surrogateescape") == listed
 
 
@@ -135,15 +146,21 @@ def test_commits_are_those_of_git(repository, git: Git, history: Path) -> None:
     for revision in git("rev-list", "--all", cwd=history).decode().split() + ["v1", "odd"]:
         made = repository.commit(revision)
         head, message = git("cat-file", "commit", revision, cwd=history).split(b"\n\n", 1)
-        lines = [f"tree {made.tree}".encode(), *(f"parent {name}".encode() for name in made.parents)]
+        lines = [f"tree {made.tree}".encode()]
+        lines += [f"parent {name}".encode() for name in made.parents]
         lines += [b"author " + made.author, b"committer " + made.committer]
         lines += [] if made.encoding is None else [b"encoding " + made.encoding.encode()]
         assert (b"\n".join(lines), made.message) == (head, message)
 
 
-@pytest.mark.parametrize("words", [[], ["main", "topic", "v1", "odd"], None], ids=["all", "words", "files"])
-def test_export_comes_back_in_git(repository, git: Git, history: Path, tmp_path: Path, words: list[str] | None) -> None:
-    exported = repository.export(changes=False) if words is None else repository.export(None, *words)
+@pytest.mark.parametrize("words", ["", "main topic v1 odd", None], ids=["all", "words", "files"])
+def test_export_comes_back_in_git(
+    repository, git: Git, history: Path, tmp_path: Path, words: str | None
+) -> None:
+    if words is None:
+        exported = repository.export(changes=False)
+    else:
+        exported = repository.export(None, *words.split())
     git("init", "-q", "--bare", cwd=tmp_path)
     git("fast-import", "--quiet", cwd=tmp_path, stdin=exported)
     assert git("show-ref", cwd=tmp_path) == git("show-ref", cwd=history)
@@ -164,9 +181,12 @@ def test_refusals_have_their_words(ginlarch, repository) -> None:
     with pytest.raises(faults.UnknownRef) as caught:
         repository.log("main", "gone")
     assert caught.value.number == 2
-    for revision, fault in [("a..b", faults.BadRevision), ("main^9", faults.NoParent), ("main:gone", faults.NoSuchPath)]:
-        with pytest.raises(fault):
-            repository[revision]
+    with pytest.raises(faults.BadRevision):
+        repository["a..b"]
+    with pytest.raises(faults.NoParent):
+        repository["main^9"]
+    with pytest.raises(faults.NoSuchPath):
+        repository["main:gone"]
     with pytest.raises(faults.WrongKind):
         repository.ls("main:run")
     with pytest.raises(faults.WrongKind):
@@ -175,7 +195,8 @@ def test_refusals_have_their_words(ginlarch, repository) -> None:
         repository.import_stream(b"progress hello\n", done=True)
     with pytest.raises(ginlarch.Refused) as caught:
         repository.import_stream(b"checkpoint\nnonsense\n")
-    assert (caught.value.word, caught.value.number, caught.value.checkpoints) == ("UnknownCommand", 2, 1)
+    told = caught.value
+    assert (told.word, told.number, told.checkpoints) == ("UnknownCommand", 2, 1)
     with pytest.raises(faults.BadMagic):
         ginlarch.Repository.from_bytes(b"no store\n")
 
@@ -231,7 +252,9 @@ def test_only_texts_are_revisions(repository, revision) -> None:
     ids=repr,
 )
 @pytest.mark.parametrize("call", ["log", "export"])
-def test_words_of_a_refused_call_are_dropped(repository, call: str, words: list, raised: type) -> None:
+def test_words_of_a_refused_call_are_dropped(
+    repository, call: str, words: list, raised: type
+) -> None:
     before = repository.log("topic"), repository.export(None, "topic")
     ask = repository.log if call == "log" else lambda *words: repository.export(None, *words)
     with pytest.raises(raised):
@@ -241,23 +264,28 @@ def test_words_of_a_refused_call_are_dropped(repository, call: str, words: list,
 
 @pytest.mark.parametrize("raised", [KeyboardInterrupt, MemoryError, SystemExit])
 @pytest.mark.parametrize("at", ["word", "walk", "range", "answer"])
-def test_words_of_an_ended_call_are_dropped(ginlarch, repository, monkeypatch, raised: type, at: str) -> None:
-    """Whatever ends a call, behind its first word, in its last step, or while the answer is read."""
+def test_words_of_an_ended_call_are_dropped(
+    ginlarch, repository, monkeypatch, raised: type, at: str
+) -> None:
+    """Whatever ends a call: behind its second word, before its last step, or behind that."""
     before = repository.log("topic"), repository.export(None, "topic")
     real, words = ginlarch.calls.Handle._call, []
 
     def ending(handle, name: str, *arguments) -> None:
         words.append(name)
-        real(handle, name, *arguments) if name == "word" or at == "answer" else None
-        if at == name == "word" and words.count("word") < 2:
-            return
-        if at in (name, "answer") and name != "word" or at == name:
+        is_last = name != "word"
+        if not is_last or at == "answer":
+            real(handle, name, *arguments)
+        if is_last or (at == "word" and len(words) == 2):
             raise raised(name)
 
     with monkeypatch.context() as patched:
         patched.setattr(ginlarch.calls.Handle, "_call", ending)
         with pytest.raises(raised):
-            repository.log("main", "odd") if at != "range" else repository.export(None, "main", "odd")
+            if at == "range":
+                repository.export(None, "main", "odd")
+            else:
+                repository.log("main", "odd")
     assert (repository.log("topic"), repository.export(None, "topic")) == before
 
 
@@ -288,8 +316,9 @@ def asked(library: Path, answer: int, code: str, **variables: str) -> Done:
 
 @pytest.mark.parametrize("size", [0, 1, 2**31 - 1, 2**31, 2**32, 2**32 + 100])
 def test_answer_comes_whole(false_library: Path, size: int) -> None:
-    done = asked(false_library, size, "r = Repository()\nprint(len(r.to_bytes()), len(r.archive('x')), len(r.export()), len(r.file('x', 'y')))")
-    assert (done.status, done.out) == (0, f"{size} {size} {size} {size}\n".encode())
+    code = "r = Repository()\nprint(*map(len, (r.to_bytes(), r.archive('x'), r.file('x', 'y'))))"
+    done = asked(false_library, size, code)
+    assert (done.status, done.out) == (0, f"{size} {size} {size}\n".encode())
 
 
 def test_saved_text_is_whole(false_library: Path, tmp_path: Path) -> None:
@@ -310,7 +339,8 @@ def test_saved_text_is_whole(false_library: Path, tmp_path: Path) -> None:
 
 def test_answer_that_is_short_is_refused(false_library: Path) -> None:
     done = asked(false_library, 10, "Repository().to_bytes()", GINLARCH_GIVEN="7")
-    assert (done.status, done.err.splitlines()[-1]) == (1, b"RuntimeError: libginlarch gave 7 bytes where 10 were told")
+    told = b"RuntimeError: libginlarch gave 7 bytes where 10 were told"
+    assert (done.status, done.err.splitlines()[-1]) == (1, told)
 
 
 # ---- store files
@@ -369,9 +399,14 @@ def test_left_over_of_a_killed_run_is_removed(repository, tmp_path: Path) -> Non
     assert os.listdir(tmp_path) == ["s.gx"]
 
 
-@pytest.mark.parametrize("opened", ["s.gx", "./s.gx", "../{}/s.gx", "{}", b"s.gx", "link", Path("s.gx")], ids=repr)
-@pytest.mark.parametrize("written", ["s.gx", "./s.gx", "{}", b"s.gx", "link"], ids=repr)
-def test_spellings_of_a_file_are_one(ginlarch, repository, tmp_path: Path, monkeypatch, opened, written) -> None:
+SPELLINGS = ["s.gx", "./s.gx", "../{}/s.gx", "{}", b"s.gx", "link", Path("s.gx")]
+
+
+@pytest.mark.parametrize("opened", SPELLINGS, ids=repr)
+@pytest.mark.parametrize("written", SPELLINGS, ids=repr)
+def test_spellings_of_a_file_are_one(
+    ginlarch, repository, tmp_path: Path, monkeypatch, opened, written
+) -> None:
     def spelled(path):
         whole = tmp_path.name if "/" in str(path) else tmp_path / "s.gx"
         return path.format(whole) if isinstance(path, str) else path
@@ -470,8 +505,9 @@ def test_save_waits_no_longer_than_it_is_told(ginlarch, saved: Path) -> None:
 
 
 def access_list(owner: int, group: int, mask: int, others: int, **users: int) -> bytes:
-    """Named users' rights beside those of a mode. Source: acl(5), and the kernel's posix_acl_xattr.h."""
-    entries = [(1, owner, -1), *((2, rights, int(user[1:])) for user, rights in users.items()), (4, group, -1), (16, mask, -1), (32, others, -1)]
+    """Named users' rights beside those of a mode. Source: acl(5), and Linux' posix_acl_xattr.h."""
+    named = [(2, rights, int(user[1:])) for user, rights in users.items()]
+    entries = [(1, owner, -1), *named, (4, group, -1), (16, mask, -1), (32, others, -1)]
     return struct.pack("<I", 2) + b"".join(struct.pack("<HHi", *entry) for entry in entries)
 
 
@@ -479,15 +515,19 @@ def access_list(owner: int, group: int, mask: int, others: int, **users: int) ->
 def save_as(shared: Path, gx_of_all: Path, saved: Path) -> Callable[..., Done]:
     """Saves the store with one more ref as another user, who is in these groups."""
     folder = saved.parent / "module"
-    shutil.copytree(TOP / "python/ginlarch", folder / "ginlarch", ignore=shutil.ignore_patterns("__pycache__"))
+    left_out = shutil.ignore_patterns("__pycache__")
+    shutil.copytree(TOP / "python/ginlarch", folder / "ginlarch", ignore=left_out)
     shutil.copy(shared, folder / "ginlarch/libginlarch.so")
     saved.parent.chmod(0o777)
-    code = f"from ginlarch import Repository\nr = Repository.open({str(saved)!r})\nr.import_stream({MORE!r})\nr.save()"
+    code = (
+        f"from ginlarch import Repository\nr = Repository.open({str(saved)!r})\n"
+        f"r.import_stream({MORE!r})\nr.save()"
+    )
+    paths = {"PYTHONPATH": str(folder), "PYTHONDONTWRITEBYTECODE": "1", "GX": str(gx_of_all)}
 
     def save(user: int, group: int, *groups: int, umask: int = 0o022) -> Done:
-        environment = {**os.environ, "PYTHONPATH": str(folder), "PYTHONDONTWRITEBYTECODE": "1", "GX": str(gx_of_all)}
-        words = [sys.executable, "-c", code]
-        return run_program(words, env=environment, user=user, group=group, extra_groups=list(groups), umask=umask)
+        who = {"user": user, "group": group, "extra_groups": list(groups), "umask": umask}
+        return run_program([sys.executable, "-c", code], env={**os.environ, **paths}, **who)
 
     return save
 
@@ -510,7 +550,9 @@ def save_as(shared: Path, gx_of_all: Path, saved: Path) -> Callable[..., Done]:
     ],
     ids=str,
 )
-def test_rights_never_widen(saved: Path, save_as: Callable[..., Done], mode: int, saver: tuple, rights: tuple) -> None:
+def test_rights_never_widen(
+    saved: Path, save_as: Callable[..., Done], mode: int, saver: tuple, rights: tuple
+) -> None:
     os.chown(saved, 1001, 2001)
     saved.chmod(mode)
     done = save_as(*saver)
@@ -521,7 +563,7 @@ def test_rights_never_widen(saved: Path, save_as: Callable[..., Done], mode: int
 
 @needs_users
 def test_access_list_opens_nothing_to_the_group(saved: Path, save_as: Callable[..., Done]) -> None:
-    """The group bits of a file with a list are its mask: 0660 here, where the group may do nothing."""
+    """The group bits of a file with a list are its mask: 0660, where the group may do nothing."""
     os.chown(saved, 1001, 2001)
     os.setxattr(saved, "system.posix_acl_access", access_list(6, 0, 6, 0, u1002=6))
     assert mode_of(saved) == 0o660
@@ -530,12 +572,14 @@ def test_access_list_opens_nothing_to_the_group(saved: Path, save_as: Callable[.
     assert b"permissions were left out" in done.err
 
 
-def test_left_out_permissions_warn(ginlarch, saved: Path, gx_path: Path, tmp_path: Path, monkeypatch) -> None:
-    writer = tmp_path / "writer"
-    writer.write_text(f'#!/bin/sh\necho "gx: {saved}: permissions were left out" >&2\nexec {gx_path} "$@"\n')
+def test_left_out_permissions_warn(
+    ginlarch, saved: Path, gx_path: Path, tmp_path: Path, monkeypatch
+) -> None:
+    writer, told = tmp_path / "writer", "permissions were left out"
+    writer.write_text(f'#!/bin/sh\necho "gx: {saved}: {told}" >&2\nexec {gx_path} "$@"\n')
     writer.chmod(0o755)
     monkeypatch.setenv("GX", str(writer))
-    with ginlarch.Repository.open(saved) as opened, pytest.warns(UserWarning, match="permissions were left out"):
+    with ginlarch.Repository.open(saved) as opened, pytest.warns(UserWarning, match=told):
         opened.save()
     with warnings.catch_warnings():
         warnings.simplefilter("error")
@@ -547,12 +591,23 @@ def test_left_out_permissions_warn(ginlarch, saved: Path, gx_path: Path, tmp_pat
 # ---- the pages
 
 
-@pytest.mark.parametrize("page, shown", [("README.md", b"three\\n"), ("docs/LIBRARY.md", b"UnknownRef\n")])
-def test_example_of_a_page_runs(repository, history: Path, stream: bytes, environment: dict, shared: Path, page: str, shown: bytes) -> None:
+@pytest.mark.parametrize(
+    "page, shown", [("README.md", b"three\\n"), ("docs/LIBRARY.md", b"UnknownRef\n")]
+)
+def test_example_of_a_page_runs(
+    repository,
+    history: Path,
+    stream: bytes,
+    environment: dict,
+    shared: Path,
+    page: str,
+    shown: bytes,
+) -> None:
     (history / "more").write_bytes(stream)
     if page == "README.md":
         (history / "hello.gx").write_bytes(repository.to_bytes())
-    example = (TOP / page).read_text().split("```python\n")[1].split("```")[0].replace('"README.md"', '"doc/README"')
+    example = (TOP / page).read_text().split("```python\n")[1].split("```")[0]
+    example = example.replace('"README.md"', '"doc/README"')
     paths = {"PYTHONPATH": str(TOP / "python"), "GINLARCH_LIBRARY": str(shared)}
     done = run_program([sys.executable, "-c", example], cwd=history, env={**environment, **paths})
     (history / "hello.gx").unlink(missing_ok=True)

@@ -104,7 +104,10 @@ class Handle:
         return Answer(self._data(), _number(self._pointer()), _count(self._pointer()))
 
     def ask_range(self, name: str, words: Sequence[bytes], *arguments: bool) -> Answer:
-        """What a call answers of the commits that range words list. The next such call has its own words alone, whatever ends this one."""
+        """What a call answers of the commits that range words list.
+
+        The next such call has its own words alone, whatever ends this one.
+        """
         self._drop_words()
         self._may_have_words = True
         for word in words:

@@ -60,13 +60,17 @@ def _open(path: str, flags: int) -> int:
     return os.open(path, flags | os.O_NONBLOCK)
 
 
-def put(path: str, pieces: Iterable[bytes], expected: Optional[Stamp], wait: Optional[int]) -> Stamp:
-    """Has gx put a store's text, which comes in pieces, in the place of the file that is expected, or of none.
+def put(
+    path: str, pieces: Iterable[bytes], expected: Optional[Stamp], wait: Optional[int]
+) -> Stamp:
+    """Has gx put a store's text, which comes in pieces, in the place of the file that is expected,
+    or of none.
 
-    StoreChanged: another one stands there. StoreLocked: another run wrote it for longer than `wait` seconds.
-    OSError: what stands behind can't be read or written.
+    StoreChanged: another one stands there. StoreLocked: another run wrote it for longer than `wait`
+    seconds. OSError: what stands behind can't be read or written.
     """
-    words = [_program(), "--explain", "put", f"--expect-stamp={_NOTHING if expected is None else expected}"]
+    stamp = _NOTHING if expected is None else expected
+    words = [_program(), "--explain", "put", f"--expect-stamp={stamp}"]
     words += [] if wait is None else [f"--wait={wait}"]
     pipe = subprocess.PIPE
     with subprocess.Popen([*words, path], stdin=pipe, stdout=pipe, stderr=pipe) as running:
@@ -87,7 +91,8 @@ def put(path: str, pieces: Iterable[bytes], expected: Optional[Stamp], wait: Opt
 def _program() -> str:
     found = os.environ.get("GX") or shutil.which("gx")
     if found is None:
-        raise FileNotFoundError(errno.ENOENT, "a store is saved by the program gx, which GX names, or PATH has", "gx")
+        told = "a store is saved by the program gx, which GX names, or PATH has"
+        raise FileNotFoundError(errno.ENOENT, told, "gx")
     return found
 
 

@@ -4,7 +4,7 @@ import ctypes
 import ctypes.util
 import os
 import threading
-from typing import Iterator, List, NamedTuple, Sequence, Union
+from typing import Iterator, List, NamedTuple, Optional, Sequence, Union
 
 from .faults import Closed, Refused, refusal
 
@@ -21,10 +21,16 @@ class _Store(ctypes.Structure):
     _fields_ = [("is_open", ctypes.c_bool), ("held", ctypes.c_void_p)]
 
 
+def _places() -> Iterator[Optional[str]]:
+    yield os.path.join(os.path.dirname(os.path.abspath(__file__)), "libginlarch.so")
+    yield os.environ.get("GINLARCH_LIBRARY")
+    yield "libginlarch.so"
+    # runs programs, so it comes last
+    yield ctypes.util.find_library("ginlarch")
+
+
 def _load() -> ctypes.CDLL:
-    beside = os.path.join(os.path.dirname(os.path.abspath(__file__)), "libginlarch.so")
-    places = [beside, os.environ.get("GINLARCH_LIBRARY"), ctypes.util.find_library("ginlarch"), "libginlarch.so"]
-    for place in places:
+    for place in _places():
         if place and (not os.path.isabs(place) or os.path.exists(place)):
             try:
                 return ctypes.CDLL(place)

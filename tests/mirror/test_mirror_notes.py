@@ -91,3 +91,15 @@ def test_lines_of_another_form(world: World, line: bytes) -> None:
     world.store.beside(".dropped").write_bytes(line)
     world.repository.delete(b"refs/heads/side")
     world.stops(FAILED, "line 1 isn't SECONDS DIGITS REF")
+
+
+@pytest.mark.parametrize("to", ["2>/dev/full", "2>&-", "2> >(exec true)"])
+def test_nothing_can_be_told(world: World, to: str) -> None:
+    """A full or closed standard error, as of a daemon, keeps neither a ref nor a note."""
+    held = world.store.refs()
+    world.repository.delete(b"refs/heads/side")
+    script = world.folder / "silent"
+    script.write_text(f'#!/bin/bash\nexec "$@" {to}\n')
+    script.chmod(0o755)
+    world.follows(front=[str(script)])
+    assert world.store.notes() == [(held[b"refs/heads/side"], b"refs/heads/side")]

@@ -7,6 +7,7 @@ import os
 import shutil
 from pathlib import Path
 
+from programs import run_program
 from remote_world import World
 
 
@@ -293,3 +294,14 @@ def test_url(world: World) -> None:
     assert world.short_named()["here"] == here and world.short_named()["there"] == there
     world.git("fetch", "-q", world.url, "there:refs/heads/there")
     assert world.git("rev-parse", "there") == there
+
+
+def test_nothing_can_be_told(world: World) -> None:
+    """Where standard error is full, a push tells of each ref what came of it."""
+    world.started()
+    here = world.commit({"file": "7\n"})
+    words = ["git", "push", "--porcelain", "origin", "main", ":side"]
+    silent = ["bash", "-c", 'exec "$@" 2> /dev/full', "bash", *words]
+    done = run_program(silent, cwd=world.folder / "work", env=world.environment)
+    assert done.status == 0 and b"rejected" not in done.out, done
+    assert world.short_named()["main"] == here and "side" not in world.short_named()

@@ -257,7 +257,7 @@ def test_adapt(run) -> None:
     front = b"commit refs/heads/m\ncommitter <a@b> -1 +0000\ndata 0\n"
     stream = front + b'M 100644 :1 "a\nN :1 :2\nfeature import-marks=m\nget-mark :1\n'
     done = run("adapt", stdin=stream)
-    assert done.status == 0
+    assert done.status == 3
     assert done.err.splitlines() == [
         b"gx: identities that got a space: 1",
         b"gx: paths put in quotes: 1",
@@ -265,6 +265,8 @@ def test_adapt(run) -> None:
         b"gx: notes that an import refuses: 1",
         b"gx: dates before 1970 that an import refuses: 1",
         b"gx: adapt: the stream ended without done",
+        b"gx: adapt: lost: feature import-marks=m",
+        b"gx: adapt: no done went out, since lines are lost",
     ]
     assert (
         done.out == b"commit refs/heads/m\ncommitter  <a@b> -1 +0000\ndata 0\n\n"

@@ -276,8 +276,8 @@ impl<S: System> NextText<S> {
     }
 
     /// Makes what was written durable, puts it into the store file's place, and makes that durable, too. Answers the stamp of what stands
-    /// there then. It doesn't go on where either file is another one by now: a text that would replace a file that wasn't read stays
-    /// beside it.
+    /// there then. It doesn't go on where either file is another one by now, or is gone: a text that would replace a file that wasn't
+    /// read stays beside it.
     pub fn put_in_place(&mut self) -> Result<Stamp, PlaceFault> {
         let (store, next) = (self.place.store(), self.place.next());
         let expected = self.expected;
@@ -292,6 +292,12 @@ impl<S: System> NextText<S> {
             Err(PlaceFault::Changed) if !self.is_copied => {
                 self.stays = true;
                 Err(PlaceFault::Overtaken)
+            }
+            // the store file is gone
+            Err(PlaceFault::Unwritten(Subject::Store, error))
+                if error.kind() == ErrorKind::NotFound => {
+                self.stays = !self.is_copied;
+                Err(PlaceFault::Unwritten(Subject::Store, error))
             }
             answer => answer,
         }

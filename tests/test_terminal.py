@@ -253,7 +253,7 @@ TAGS = b"blob\nmark :1\ndata 1\nx\ntag a\nmark :2\nfrom :1\ndata 1\na\ntag b\nfr
 
 
 def test_adapt(run) -> None:
-    """Adapt tells what it did in a file, too, and prints the stream alone."""
+    """Adapt tells what it did and lost in a file, too, and prints the stream alone."""
     front = b"commit refs/heads/m\ncommitter <a@b> -1 +0000\ndata 0\n"
     stream = front + b'M 100644 :1 "a\nN :1 :2\nfeature import-marks=m\nget-mark :1\n'
     done = run("adapt", stdin=stream)

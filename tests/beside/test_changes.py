@@ -25,7 +25,7 @@ from collections.abc import Iterable
 import pytest
 from changes_check import check_paths, check_text
 from histories import Step, histories
-from hypothesis import given
+from hypothesis import given, settings
 from hypothesis import strategies as st
 from places import MakePlaces, Places, Repository, Store, same
 
@@ -158,6 +158,8 @@ def follow(steps: list[Step], chance: random.Random, places: Places, with_whole:
 RANDOMS = st.randoms(use_true_random=False)
 
 
+# a drawn history is often short: so there are more of them than the profile asks for
+@settings(max_examples=2 * settings().max_examples)
 @given(steps=histories(20), chance=RANDOMS)
 def test_histories(steps: list[Step], chance: random.Random, new_places: MakePlaces) -> None:
     with new_places() as places:

@@ -1,0 +1,4 @@
+pub mod Faults
+pub mod GrowingLaws
+pub mod GrowingReading
+pub mod GrowingText

@@ -1,0 +1,7 @@
+//! The definitions and laws of growing stores: texts that take what is new behind what they have, with their tables of names
+//! inside. As in gx_model, a law is the contract of a public function with an empty body.
+#![tactic(auto)]
+
+mod fault;
+
+pub use fault::GrowingFault;

@@ -116,6 +116,46 @@ CASES = [
     ),
     ("UnknownMark", LONG + b"@@M 100644 :77 bad\n", b"gx: change 1: bad\ngx: asked for :77\n"),
     ("WrongKind", b"@@tag v1\nfrom :1\ntagger A <a@x> 1 +0000\ndata 0\n", b"gx: asked for :1\n"),
+    (
+        "UnknownMark",
+        COMMIT + b"M 100644 inline f\ndata 1\nx\n@@M 100644 :9 d/g\nD f\n",
+        b"gx: change 2: d/g\ngx: asked for :9\n",
+    ),
+    (
+        "NoSuchPath",
+        COMMIT + b"M 100644 inline f\ndata 1\nx\ndeleteall\nD f\n@@C f g\n",
+        b"gx: change 4: f\n",
+    ),
+    (
+        "RootNotTree",
+        COMMIT + b'M 100644 inline d/f\ndata 1\nx\n@@R d/f ""\n',
+        b"gx: change 2: d/f\n",
+    ),
+    ("UnknownMark", b"@@" + COMMIT + b"from :77\nM 100644 :9 f\n", b"gx: asked for :77\n"),
+    (
+        "UnknownMark",
+        b"commit refs/heads/a\nmark :5\n"
+        + WHO
+        + b"data 0\n@@commit refs/heads/b\n"
+        + WHO
+        + b"data 0\nmerge :5\nmerge :6\n",
+        b"gx: asked for :6\n",
+    ),
+    (
+        "UnknownRef",
+        b"@@" + COMMIT + b"from refs/heads/gone~2\n",
+        b"gx: asked for refs/heads/gone~2\n",
+    ),
+    (
+        "UnknownRef",
+        b"@@reset refs/heads/a\nfrom refs/heads/gone\n",
+        b"gx: asked for refs/heads/gone\n",
+    ),
+    (
+        "UnknownObject",
+        COMMIT + b"@@M 100644 E93f5633c0be6fb3012fdb2b8315937292aa7005 f\n",
+        b"gx: change 1: f\ngx: asked for E93f5633c0be6fb3012fdb2b8315937292aa7005\n",
+    ),
 ]
 NAMES = [f"{number} {kind}" for number, (kind, _, _) in enumerate(CASES, 1)]
 
@@ -258,6 +298,29 @@ def test_loss_at_a_checkpoint(explainer: Explainer) -> None:
     stream, told = place(OTHER, b"\n@@checkpoint\nblob\ndata 0\n")
     wanted = Done(1, b"", b"gx: command 2: NotFastForward\n" + told + line)
     assert explainer.run(["import", "--explain", "store"], stream, 7) == wanted
+
+
+# a branch is published, and then moved to a commit without parents; with the names of both by git
+MOVED = (
+    b"commit refs/heads/a\nmark :1\n"
+    + WHO
+    + b"data 0\ncheckpoint\ncommit refs/heads/b\nmark :2\ncommitter A <a@x> 2 +0000\ndata 0\n"
+    + b"reset refs/heads/a\nfrom :2\n"
+)
+MOVED_LINE = (
+    b"gx: refs/heads/a: from e93f5633c0be6fb3012fdb2b8315937292aa7005"
+    b" to 2e884416ca1267c7508749948938123767b1ca46\n"
+)
+
+
+def test_loss_of_what_the_stream_published(explainer: Explainer) -> None:
+    explainer.fresh()
+    done = explainer.run(["import", "--explain", "store"], MOVED, 7)
+    assert done == Done(1, b"", b"gx: command 5: NotFastForward\n" + MOVED_LINE)
+    explainer.fresh()
+    stream, told = place(MOVED, b"\n@@checkpoint\n")
+    done = explainer.run(["import", "--explain", "store"], stream, 7)
+    assert done == Done(1, b"", b"gx: command 5: NotFastForward\n" + told + MOVED_LINE)
 
 
 @pytest.mark.parametrize(

@@ -606,7 +606,8 @@ def test_example_of_a_page_runs(
     (history / "more").write_bytes(stream)
     if page == "README.md":
         (history / "hello.gx").write_bytes(repository.to_bytes())
-    example = (TOP / page).read_text().split("```python\n")[1].split("```")[0]
+    shown_there = (TOP / page).read_text().split("```python\n")[1:]
+    example = "".join(part.split("```")[0] for part in shown_there)
     example = example.replace('"README.md"', '"doc/README"')
     paths = {"PYTHONPATH": str(TOP / "python"), "GINLARCH_LIBRARY": str(shared)}
     done = run_program([sys.executable, "-c", example], cwd=history, env={**environment, **paths})

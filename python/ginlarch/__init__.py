@@ -9,6 +9,7 @@ It needs the shared library libginlarch.so, which is looked for beside this file
 GINLARCH_LIBRARY says, then where the system has libraries. To save a store it needs the program gx, which
 the variable GX names, or PATH has. Nothing else is needed but Python 3.8.
 """
+import contextlib
 from dataclasses import dataclass
 from typing import BinaryIO, Dict, Iterator, List, NamedTuple, Optional, Tuple, Union
 
@@ -97,6 +98,7 @@ class Repository:
     def __init__(self) -> None:
         """An empty repository."""
         self._place: Optional[str] = None
+        self._held_place: Optional[str] = None
         self._stamp: Optional[files.Stamp] = None
         self._handle = calls.Handle()
 
@@ -108,6 +110,30 @@ class Repository:
         repository = cls.from_bytes(text)
         repository._place, repository._stamp = place, stamp
         return repository
+
+    @classmethod
+    @contextlib.contextmanager
+    def change(cls, path: files.Path, wait: Optional[int] = None) -> Iterator["Repository"]:
+        """The repository of a store file, which is written at the end of the `with`: the refs that were set
+        meanwhile, with what they reach. Where the `with` is left by an exception, the file stays as it was.
+
+        Nothing else writes the file in between. Runs of gx wait, and this waits for them as `save` does.
+        OSError, StoreLocked: as of `open` and `save`.
+        """
+        place = files.place(path)
+        with files.held(place, wait) as give, cls.open(place) as repository:
+            repository._held_place = place
+            before = repository.refs
+            yield repository
+            stream = repository._export_since(before)
+            if stream:
+                give([stream, b"done\n"])
+
+    def _export_since(self, before: Dict[str, str]) -> bytes:
+        """A stream of what refs reach that are others than before."""
+        new = {digits for ref, digits in self.refs.items() if before.get(ref) != digits}
+        old = ("^" + digits for digits in set(before.values()))
+        return self.export(None, *new, *old, done=False) if new else b""
 
     @classmethod
     def from_bytes(cls, text: Bytes) -> "Repository":
@@ -232,6 +258,8 @@ class Repository:
         place = self._place if path is None else files.place(path)
         if place is None:
             raise ValueError("this repository was opened from no file")
+        if place == self._held_place:
+            raise ValueError("this repository is saved at the end of its `with`")
         expected = self._stamp if place == self._place else None
         self._stamp = files.put(place, self._handle.pieces("text"), expected, wait)
         self._place = place

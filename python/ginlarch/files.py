@@ -1,4 +1,5 @@
 """Store files. The program gx writes them: the variable GX names it, or it is the gx in PATH."""
+import contextlib
 import errno
 import os
 import re
@@ -6,7 +7,7 @@ import shutil
 import stat
 import subprocess
 import warnings
-from typing import BinaryIO, Iterable, NamedTuple, NoReturn, Optional, Tuple, Union
+from typing import BinaryIO, Callable, Iterable, Iterator, NamedTuple, NoReturn, Optional, Tuple, Union
 
 Path = Union[str, bytes, "os.PathLike[str]", "os.PathLike[bytes]"]
 
@@ -70,22 +71,60 @@ def put(
     seconds. OSError: what stands behind can't be read or written.
     """
     stamp = _NOTHING if expected is None else expected
-    words = [_program(), "--explain", "put", f"--expect-stamp={stamp}"]
-    words += [] if wait is None else [f"--wait={wait}"]
-    pipe = subprocess.PIPE
-    with subprocess.Popen([*words, path], stdin=pipe, stdout=pipe, stderr=pipe) as running:
-        try:
+    with _begun(path, wait, "put", f"--expect-stamp={stamp}") as running:
+        # a text that was cut off is no store, so nothing is replaced
+        with _killed_by_exceptions(running):
             _write(running.stdin, pieces)
-            printed, told = running.communicate()
-        except BaseException:
-            # a text that was cut off is no store, so nothing is replaced
-            running.kill()
-            raise
+            return Stamp.read(_end(running, path))
+
+
+@contextlib.contextmanager
+def held(path: str, wait: Optional[int]) -> Iterator[Callable[[Iterable[bytes]], None]]:
+    """Has gx hold the lock of a store file, so that nothing else writes it. What this gives takes the
+    pieces of a stream, and has that imported. Without one the file stays, and so it does where one is
+    cut off: it ends with `done`.
+
+    StoreLocked, OSError: as of `put`.
+    """
+    with _begun(path, wait, "import", "--done", "--force") as running:
+        with _killed_by_exceptions(running):
+            # what is told back is told behind the lock
+            _write(running.stdin, [b"progress held\n"])
+            if not running.stdout.readline():
+                _end(running, path)
+
+        def give(pieces: Iterable[bytes]) -> None:
+            _write(running.stdin, pieces)
+            _end(running, path)
+
+        yield give
+
+
+def _begun(path: str, wait: Optional[int], *words: str) -> "subprocess.Popen[bytes]":
+    waits = [] if wait is None else [f"--wait={wait}"]
+    pipe = subprocess.PIPE
+    command = [_program(), "--explain", *words, *waits, "--", path]
+    return subprocess.Popen(command, stdin=pipe, stdout=pipe, stderr=pipe)
+
+
+@contextlib.contextmanager
+def _killed_by_exceptions(running: "subprocess.Popen[bytes]") -> Iterator[None]:
+    try:
+        yield
+    except BaseException:
+        running.kill()
+        raise
+
+
+def _end(running: "subprocess.Popen[bytes]", path: str) -> bytes:
+    """What a run prints, at its end. One that was refused is raised."""
+    printed, said = running.communicate()
+    told = said.decode("utf-8", "replace").strip()
     if running.returncode != 0:
-        _refuse(path, told.decode("utf-8", "replace"))
+        _refuse(path, told or f"gx ended with {running.returncode}")
     if told:
-        warnings.warn(told.decode("utf-8", "replace").strip(), stacklevel=3)
-    return Stamp.read(printed)
+        warnings.warn(told, stacklevel=4)
+    return printed
 
 
 def _program() -> str:
@@ -120,4 +159,4 @@ def _refuse(path: str, told: str) -> NoReturn:
     number = re.search(r"\(os error (\d+)\)", rest)
     if number is not None:
         raise OSError(int(number[1]), os.strerror(int(number[1])), path)
-    raise OSError(errno.EIO, told.strip(), path)
+    raise OSError(errno.EIO, told, path)

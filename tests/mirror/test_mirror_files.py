@@ -3,11 +3,14 @@
 from __future__ import annotations
 
 import os
+import shutil
 import struct
 from pathlib import Path
 
 import pytest
-from mirror_world import FAILED, Counted, World
+from mirror_world import FAILED, Counted, Repository, Store, World
+from programs import SCRIPTS, Done, Program, run_program
+from store_files import needs_strace, needs_users
 
 
 def as_written(path: Path) -> tuple[int, ...]:
@@ -108,7 +111,7 @@ def test_file_of_another_kind(world: World, ending: str, kind: str) -> None:
     assert (world.store.refs(), other.exists()) == (held, False)
 
 
-@pytest.mark.skipif(os.geteuid() != 0, reason="only root can be several users")
+@needs_users
 def test_lock_of_another_user(world: World) -> None:
     """A file of another's isn't waited for."""
     beside = world.store.beside(".dropped")
@@ -140,3 +143,84 @@ def test_store_by_a_link(world: World) -> None:
     world.follows()
     assert (link.is_symlink(), os.listdir(link.parent)) == (True, ["t.gx"])
     assert target.with_name("s.gx.dropped").exists()
+
+
+@needs_users
+@pytest.mark.parametrize("mode", [0o664, 0o640], ids=oct)
+def test_store_of_a_group(
+    tmp_path: Path, gx_of_all: Path, environment: dict[str, str], mode: int
+) -> None:
+    """Where the members of a group may put another store in the place of one, each of them may run
+    the mirror, and nobody else may read or lock what it notes."""
+    folder, scripts = tmp_path / "shared", tmp_path / "scripts"
+    for made in (folder, scripts):
+        made.mkdir()
+    for name in ("gx-mirror", "git-remote-gx"):
+        shutil.copy(SCRIPTS / name, scripts / name)
+    more = {"GX": str(gx_of_all), "HOME": str(tmp_path), "GIT_CONFIG_GLOBAL": "/dev/null"}
+    safe = {"COUNT": "1", "KEY_0": "safe.directory", "VALUE_0": "*"}
+    more |= {f"GIT_CONFIG_{name}": value for name, value in safe.items()}
+    env = {**environment, **more}
+    repository = Repository(tmp_path / "project", env)
+    os.chown(folder, 1001, 2001)
+    folder.chmod(0o2775)
+    store = Store(folder / "s.gx", Program(gx_of_all, env))
+
+    def mirror(user: int, group: int = 2001) -> Done:
+        who = {"user": user, "group": user, "extra_groups": [group], "umask": 0o002}
+        words = ["python3", scripts / "gx-mirror", repository.path, store.path]
+        return run_program(words, env={**env, "TMPDIR": "/tmp"}, **who)
+
+    for number, user in enumerate([1001, 1002, 1003, 1002, 1001]):
+        repository.commit("main")
+        repository.commit(f"new{number}")
+        if number:
+            repository.delete(b"refs/heads/new%d" % (number - 1))
+        done = mirror(user)
+        assert done.status == 0, done
+        assert store.refs() == repository.refs()
+        assert len(store.notes()) == number
+        store.path.chmod(mode)
+        rights = {path.name: mode_of(path) for path in folder.iterdir()}
+        assert rights.get("s.gx.dropped", 0o660) == 0o660
+    noted = store.beside(".dropped")
+    assert noted.stat().st_gid == 2001
+    before = noted.read_bytes()
+    repository.delete(b"refs/heads/new4")
+    assert mirror(1004, 2002).status == FAILED
+    assert noted.read_bytes() == before
+
+
+@needs_strace
+@pytest.mark.parametrize("ending", [".dropped", ".HEAD"])
+def test_full_disk(world: World, ending: str) -> None:
+    """It is told which file couldn't be written, and nothing of it is left."""
+    world.repository.delete(b"refs/heads/side")
+    world.repository.git("symbolic-ref", "HEAD", "refs/heads/none")
+    new = f"{world.store.beside(ending)}.new"
+    front = ["strace", "-f", "-qq", "-o", os.devnull, "-P", new, "-e"]
+    done = world.mirror(front=[*front, "inject=write:error=ENOSPC"])
+    told = f"gx-mirror: [Errno 28] No space left on device: '{new}'\n"
+    assert done.status == FAILED and told.encode() in done.err, done
+    assert not list(world.folder.glob("s.gx*.new"))
+    world.follows()
+
+
+def test_long_name(world: World) -> None:
+    """One beside which not all files can stand is refused before anything is written."""
+    world.store.path = world.folder / ("s" * 244)
+    world.stops(FAILED, "the name of FILE has more than 243 bytes")
+    world.store.path = world.folder / ("s" * 243)
+    world.follows()
+    world.repository.delete(b"refs/heads/side")
+    world.follows()
+    assert {".dropped", ".HEAD"} <= {name[243:] for name in world.store.files()}
+
+
+def test_lost_rights_are_told(world: World, counted: Counted) -> None:
+    """Of an import, and of a gc."""
+    lost = f"gx: {world.store.path}: permissions were left out"
+    counted.write("gx", f'case "$2$1" in *import*|*gc*) echo "{lost}" >&2;; esac')
+    world.repository.delete(b"refs/heads/side")
+    done = world.follows("--keep-days=0", env=counted.environment)
+    assert done.err.count(lost.encode()) == 2, done

@@ -3,8 +3,10 @@ missing, odd names, partial clones, HEAD, and what is checked."""
 
 from __future__ import annotations
 
+import fcntl
 import os
 import shutil
+import time
 from pathlib import Path
 
 from programs import run_program
@@ -305,3 +307,49 @@ def test_nothing_can_be_told(world: World) -> None:
     done = run_program(silent, cwd=world.folder / "work", env=world.environment)
     assert done.status == 0 and b"rejected" not in done.out, done
     assert world.short_named()["main"] == here and "side" not in world.short_named()
+
+
+def test_refs_that_are_set_all_the_same(world: World) -> None:
+    """Where gx fails behind the publication, as by a folder that can't be synced, git is told that
+    the refs are set, with a warning; where it fails before, that they aren't."""
+    world.started()
+    here = world.commit({"file": "7\n"})
+    fails = 'if [ "$2" = import ]; then %secho "gx: write failed" >&2; exit 1; fi'
+    push = ["push", "--porcelain", "origin", "main", ":side"]
+    more = world.wrapped(fails % "")
+    world.refused(*push, told="", more=more)
+    done = world.run(*push, more=world.wrapped(fails % '"$gx" "$@"; '))
+    assert done.status == 0 and b"rejected" not in done.out, done
+    assert b"warning: the refs are set, but gx: write failed" in done.err, done
+    assert world.short_named()["main"] == here and "side" not in world.short_named()
+
+
+def test_lost_rights_are_told(world: World) -> None:
+    world.started()
+    world.commit({"file": "8\n"})
+    lost = f"gx: {world.remote}: permissions were left out"
+    more = world.wrapped(f'if [ "$2" = import ]; then echo "{lost}" >&2; fi')
+    done = world.run("push", "origin", "main", more=more)
+    assert done.status == 0 and f"warning: {lost}\n".encode() in done.err, done
+
+
+def test_folders_of_killed_pushes(world: World) -> None:
+    """The next push removes those that are an hour old, but none whose run is at work."""
+    world.started()
+    left, old = world.folder / "left", time.time() - 2 * 3600
+    world.commit({"file": "9\n"})
+    killed = world.wrapped('if [ "$2" = import ]; then kill -9 $PPID; fi')
+    assert world.run("push", "origin", "main", more=killed).status != 0
+    (folder,) = left.glob("git-remote-gx-*")
+    for name in ("at-work", "git-remote-gx-at-work", "git-remote-gx-link"):
+        (left / name).mkdir() if "link" not in name else (left / name).symlink_to("at-work")
+        os.utime(left / name, (old, old))
+    lock = os.open(left / "git-remote-gx-at-work", os.O_RDONLY)
+    fcntl.flock(lock, fcntl.LOCK_EX)
+    world.git("push", "-q", "origin", "main")
+    assert folder.exists(), "it may be of a run that begins"
+    os.utime(folder, (old, old))
+    world.git("push", "-q", "origin", "main:more")
+    os.close(lock)
+    kept = {"at-work", "git-remote-gx-at-work", "git-remote-gx-link"}
+    assert {path.name for path in left.iterdir()} == kept

@@ -175,3 +175,29 @@ def test_archives_are_those_of_git(
     assert len(text) % 10240 == 0
     done = gx("archive", store, HELLO)
     assert (done.status, done.out, done.err) == (1, b"", b"gx: revision 1: WrongKind\n")
+
+
+EMPTY_TREE = "4b825dc642cb6eb9a060e54bf8d69288fbee4904"
+
+
+def commit_body(parents: list[str], time: int) -> bytes:
+    """The body of a commit without files, as the format of objects says."""
+    lines = [f"tree {EMPTY_TREE}", *(f"parent {name}" for name in parents)]
+    lines += [f"author A <a@x> {time} +0000", f"committer A <a@x> {time} +0000", "", ""]
+    return "\n".join(lines).encode()
+
+
+@pytest.mark.parametrize("merges", [17, 100, 10_000])
+def test_any_number_of_parents(gx: Program, new_store, merges: int) -> None:
+    marks = range(1, merges + 2)
+    parents = [named("commit", commit_body([], mark)) for mark in marks]
+    stream = "".join(
+        f"commit refs/heads/b\nmark :{mark}\ncommitter A <a@x> {mark} +0000\ndata 0\n"
+        "reset refs/heads/b\n"
+        for mark in marks
+    )
+    stream += COMMIT.format(0) + "from :1\n"
+    stream += "".join(f"merge :{mark}\n" for mark in marks[1:]) + "D a\n"
+    store = new_store(stream.encode())
+    assert gx.prints("show", store, "main") == commit_body(parents, 0)
+    assert gx.prints("rev-parse", store, f"main^{merges + 1}").decode() == f"{parents[-1]}\n"

@@ -119,14 +119,14 @@ pub record Front : Type 0 where
   pub records : List Record
   -- their names and places
   pub rows : List Row
-  -- where the last tail begins, and what it says
-  pub tail : ℕ
+  -- the last tail with what stands behind it, and what it says
+  pub tail : Bytes
   pub runs : List Run
   pub refs : List (Bytes × Bytes)
 
 -- nothing
 abbrev pub no_front : Front
-no_front = record { records = []; rows = []; tail = 0; runs = []; refs = [] }
+no_front = record { records = []; rows = []; tail = []; runs = []; refs = [] }
 
 -- the refs of a tail with these records, its runs, and what follows it
 abbrev pub next_tail : List Record → Bytes → Stored ((List Run × List (Bytes × Bytes)) × Bytes)
@@ -138,14 +138,14 @@ next_tail records text = do
   rest ← after_end named.1
   Ok ((runs.0, named.0), rest)
 
-module _ (name : Kind → Bytes → Bytes) (ends : ℕ) where
-  -- where what is left begins
-  abbrev pub place_of : Bytes → ℕ
-  place_of text = ends - length text
+-- where what is left of a text begins
+abbrev pub place_of : ℕ → Bytes → ℕ
+place_of ends text = ends - length text
 
+module _ (name : Kind → Bytes → Bytes) (ends : ℕ) where
   -- the rows with those of the records that are new, the first of which stands where this text begins
   abbrev pub with_places : Front → List Record → Bytes → List Row
-  with_places seen records text = seen.rows ++ placed (place_of text) (drop (length seen.records) records)
+  with_places seen records text = seen.rows ++ placed (place_of ends text) (drop (length seen.records) records)
 
   -- what was read with one more segment, and what follows it
   abbrev pub next_segment : Front → Bytes → Stored (Front × Bytes)
@@ -155,7 +155,7 @@ module _ (name : Kind → Bytes → Bytes) (ends : ℕ) where
     rows ← stored_count (codes "rows") records.1
     table ← stored_body (table_length rows.0) rows.1
     tail ← next_tail records.0 table.1
-    Ok (record { records = records.0; rows = with_places seen records.0 objects.1; tail = place_of table.1; runs = tail.0.0; refs = tail.0.1 }, tail.1)
+    Ok (record { records = records.0; rows = with_places seen records.0 objects.1; tail = table.1; runs = tail.0.0; refs = tail.0.1 }, tail.1)
 
   -- what was read with all segments that come next, of which there is one or more
   abbrev pub next_segments : ℕ → Front → Bytes → Stored Front
@@ -166,8 +166,8 @@ module _ (name : Kind → Bytes → Bytes) (ends : ℕ) where
 abbrev pub front_of : (Kind → Bytes → Bytes) → Bytes → Stored (Slot × Front)
 front_of name text = do
   head ← head_of text
-  front ← next_segments name head.0.ends (length text) no_front (take (head.0.ends - head_length) head.1)
-  begun ← only_if (nat_eq front.tail head.0.tail) fault.BadRecord
+  front ← next_segments name head.0.ends head.0.ends no_front (take (head.0.ends - head_length) head.1)
+  begun ← only_if (nat_eq (place_of head.0.ends front.tail) head.0.tail) fault.BadRecord
   Ok (head.0, front)
 
 -- ---- rows
@@ -198,7 +198,7 @@ module _ (digest : Bytes → Bytes) where
   -- whether the last tail of a text has the digest of its slot, and the rows of its live runs are those of the records
   abbrev pub has_rows : Bytes → Slot → Front → Bool
   has_rows text slot front =
-      same_bytes slot.digest (digest (drop slot.tail text)) && list_all (is_standing text) front.runs
+      same_bytes slot.digest (digest front.tail) && list_all (is_standing text) front.runs
       && same_rows (sorted_rows (live_rows text front.runs)) (sorted_rows front.rows)
 
   -- what was read, where its rows are right

@@ -245,15 +245,15 @@ module _ (name : Kind → Bytes → Bytes) (digest : Bytes → Bytes) where
 abbrev pub no_slot : Slot
 no_slot = record { ends = 0; tail = 0; digest = replicate 32 0 }
 
+-- where the rows of the first segment stand
+abbrev pub rows_place : List Record → ℕ
+rows_place records = first_place head_length records + length (flat_map (stored_record Two) records) + length (line (codes "rows") (number_text (length records)))
+
+-- the bytes of the rows of the first segment
+abbrev pub first_rows : List Record → Bytes
+first_rows records = flat_map row_text (sorted_rows (placed (first_place head_length records) records))
+
 module _ (digest : Bytes → Bytes) where
-  -- where the rows of the first segment stand
-  abbrev pub rows_place : List Record → ℕ
-  rows_place records = first_place head_length records + length (flat_map (stored_record Two) records) + length (line (codes "rows") (number_text (length records)))
-
-  -- the bytes of the rows of the first segment
-  abbrev pub first_rows : List Record → Bytes
-  first_rows records = flat_map row_text (sorted_rows (placed (first_place head_length records) records))
-
   -- the one run, and none where there are no records
   abbrev pub first_runs : List Record → List Run
   first_runs [] = []

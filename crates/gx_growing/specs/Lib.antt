@@ -1,4 +1,5 @@
 pub mod Faults
 pub mod GrowingLaws
 pub mod GrowingReading
+pub mod GrowingRows
 pub mod GrowingText

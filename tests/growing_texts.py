@@ -1,0 +1,113 @@
+"""The texts of growing stores, written by a hand of its own: what docs and definitions say of them is held to it."""
+
+import hashlib
+from collections.abc import Callable, Iterable, Iterator
+from dataclasses import dataclass, field
+
+HEAD = 226
+ROW = 28
+PAGE = 585 * ROW
+
+Digest = Callable[[bytes], bytes]
+
+
+def sha256(text: bytes) -> bytes:
+    """The digest of a growing text."""
+    return hashlib.sha256(text).digest()
+
+
+@dataclass(frozen=True)
+class Record:
+    """An object: its kind, its name in 20 bytes, and its body."""
+
+    kind: bytes
+    name: bytes
+    body: bytes
+
+    def text(self) -> bytes:
+        return b"%s %d %s\n%s\n" % (self.kind, len(self.body), self.name.hex().encode(), self.body)
+
+
+@dataclass(frozen=True)
+class Run:
+    """Where rows begin, how many they are, and the digest of their pages' digests."""
+
+    place: int
+    count: int
+    digest: bytes
+
+    def line(self) -> bytes:
+        return b"%d %d %s\n" % (self.place, self.count, self.digest.hex().encode())
+
+
+def slot(ends: int, tail: int, digest: bytes) -> bytes:
+    """A slot in 106 bytes."""
+    return b"%020d %020d %s" % (ends, tail, digest.hex().encode())
+
+
+UNUSED = slot(0, 0, bytes(32))
+
+
+def head(pick: bytes, first: bytes, second: bytes) -> bytes:
+    """The first 226 bytes."""
+    return b"\n".join((b"gxstore 3", pick, first, second, b""))
+
+
+def page_digests(rows: bytes, digest: Digest) -> bytes:
+    """The digests of the pages of rows, one behind the other."""
+    return b"".join(digest(rows[at : at + PAGE]) for at in range(0, len(rows), PAGE))
+
+
+def tail(runs: list[Run], refs: dict[bytes, bytes]) -> bytes:
+    """The last part of a segment; refs lead from names to objects' names."""
+    lines = [b"runs %d\n" % len(runs), *(run.line() for run in runs), b"refs %d\n" % len(refs)]
+    lines += [b"%s %s\n" % (refs[ref].hex().encode(), ref) for ref in sorted(refs)]
+    return b"".join(lines) + b"end\n"
+
+
+@dataclass
+class GrowingText:
+    """A growing text, and what its next segment needs of it."""
+
+    digest: Digest = sha256
+    slots: list[bytes] = field(default_factory=lambda: [UNUSED, UNUSED])
+    picked: int = 1
+    segments: bytes = b""
+    runs: list[Run] = field(default_factory=list)
+    refs: dict[bytes, bytes] = field(default_factory=dict)
+
+    def text(self) -> bytes:
+        return head(b"ab"[self.picked : self.picked + 1], *self.slots) + self.segments
+
+    def rows_of(self, run: Run) -> bytes:
+        at = run.place - HEAD
+        return self.segments[at : at + run.count * ROW]
+
+    def append(self, records: Iterable[Record], refs: dict[bytes, bytes]) -> None:
+        """Writes a segment behind the end, and picks the other slot. Its run takes in the last one of at most twice its rows."""
+        self.refs |= refs
+        start = HEAD + len(self.segments)
+        held = list(records)
+        segment = b"objects %d\n" % len(held)
+        rows = []
+        for record in held:
+            rows.append(record.name + (start + len(segment)).to_bytes(8, "big"))
+            segment += record.text()
+        while self.runs and rows and self.runs[-1].count <= 2 * len(rows):
+            rows += cut_rows(self.rows_of(self.runs.pop()))
+        table = b"".join(sorted(rows))
+        segment += b"rows %d\n" % len(rows)
+        pages = page_digests(table, self.digest)
+        if rows:
+            self.runs.append(Run(start + len(segment), len(rows), self.digest(pages)))
+        segment += table + pages + b"\n"
+        last = tail(self.runs, self.refs)
+        ends = start + len(segment) + len(last)
+        self.segments += segment + last
+        self.picked = 1 - self.picked
+        self.slots[self.picked] = slot(ends, start + len(segment), self.digest(last))
+
+
+def cut_rows(rows: bytes) -> Iterator[bytes]:
+    """Rows of 28 bytes, one by one."""
+    return (rows[at : at + ROW] for at in range(0, len(rows), ROW))

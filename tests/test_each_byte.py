@@ -85,7 +85,7 @@ def at_command(number: int) -> Told:
 
 @dataclass(frozen=True)
 class Case:
-    """A command, STORE being that of a stream, what it reads, and what is told where it can't write."""
+    """A command over a stream's store, what it reads, and what is told where it can't write."""
 
     words: str
     stream: bytes = b""

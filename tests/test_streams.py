@@ -1,5 +1,5 @@
-"""Standard streams that are closed, answers that go out before more is read, and names of files in
-what is told.
+"""Standard streams that are closed or come in pieces, answers that go out before more is read, and
+names of files in what is told.
 """
 
 from __future__ import annotations
@@ -8,9 +8,9 @@ import select
 import socket
 import struct
 import subprocess
+from collections.abc import Iterator
 from contextlib import contextmanager
 from pathlib import Path
-from typing import Iterator
 
 import pytest
 
@@ -227,7 +227,9 @@ COMMIT_LINES = b"commit refs/heads/main\ncommitter A <a@x> 1 +0000\n"
 
 
 @pytest.mark.parametrize("size", range(1, 7))
-@pytest.mark.parametrize("front", [b"blob\n", COMMIT_LINES, COMMIT_LINES + b"data 0\nM 644 inline f\n"])
+@pytest.mark.parametrize(
+    "front", [b"blob\n", COMMIT_LINES, COMMIT_LINES + b"data 0\nM 644 inline f\n"]
+)
 def test_length_takes_no_room(gx: Program, new_store, front: bytes, size: int) -> None:
     """A length that no memory has, with one byte behind it."""
     store = new_store()

@@ -63,7 +63,7 @@ class Ledger:
 
     def made(self, digits: str, parent: str | None) -> None:
         with self.lock:
-            self.parents[digits] = parent
+            self.parents.setdefault(digits, parent)
 
     def reached(self, tips: set[str]) -> set[str]:
         """The commits that these reach, by what the actors made."""
@@ -210,6 +210,7 @@ class Pusher(Actor):
 
     def __init__(self, storm: Storm, name: str):
         super().__init__(storm, name)
+        self.sent: dict[str, bool] = {}  # whether each commit was forced
         self.folder = storm.folder / name
         self.git("init", "-q", self.folder, cwd=storm.folder)
         self.git("hash-object", "-t", "tree", "-w", "--stdin")
@@ -229,11 +230,13 @@ class Pusher(Actor):
         new = self.made(self.storm.ledger.parents[old] if is_forced and old else old)
         sent = f"{'+' if is_forced else ''}{new}:{self.ref}"
         words = ["git", "-C", self.folder, "push", "-q", f"gx::{self.storm.path}", sent]
+        self.sent[new] = is_forced
         if self.storm.run("pushes", words).status == 0:
             self.storm.ledger.published.add(new)
+        # where git-remote-gx was killed gx may still be at work: then this is so the next time
         self.head = self.storm.refs().get(self.ref)
-        assert self.head in (old, new, *self.storm.mirrored), "what a push leaves"
-        if is_forced and old and self.head == new:
+        assert self.head in (old, *self.sent, *self.storm.mirrored), "what a push leaves"
+        if old and self.head != old and self.sent.get(self.head):
             self.storm.ledger.let_go.add(old)
 
 

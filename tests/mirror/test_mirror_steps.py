@@ -112,3 +112,22 @@ def test_import_meanwhile(world: World, counted: Counted) -> None:
     brought = {row.split()[0] for row in world.repository.objects()}
     (mine,) = world.store.names() - before - brought
     assert world.store.notes() == [(mine, b"refs/heads/main")]
+
+
+def test_imports_all_the_time(world: World, counted: Counted) -> None:
+    """Where another program sets a branch before each of its imports, a mirror looks at the refs
+    again behind the lock, and comes in. What went is noted."""
+    stream, brought = world.folder / "stream", world.folder / "brought"
+    stream.write_bytes(
+        b"commit refs/heads/main\ncommitter A <a@x> 1 +0000\ndata 4\nmine\n"
+        b"from refs/heads/main^0\n\n"
+    )
+    other = f"{world.store.gx.path} import --report {world.store.path} < {stream} 2>> {brought}"
+    counted.write("gx", f'[ "$2" != import ] || {other}')
+    world.repository.commit("main")
+    world.follows(env=counted.environment)
+    rows = [line.split() for line in brought.read_bytes().splitlines()]
+    made = {row[1] for row in rows if row[2:] == [b"refs/heads/main"]}
+    assert len(made) == 2
+    noted = {digits for digits, _ in world.store.notes()}
+    assert noted <= made <= world.store.names() and len(noted) == 1, "the last one, and all before"

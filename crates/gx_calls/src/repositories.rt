@@ -71,10 +71,7 @@ fn is_added<'a, N: Namer>(
         "child" => add_child(room, repo, first, rest),
         "tag" => add_tag(room, repo, first, rest),
         "publish" => publish(room, repo, text),
-        "drop" => {
-            let names = parts_of(room.alloc, text, b' ');
-            room.done(repo.drop_refs(&names));
-        }
+        "drop" => drop_refs(room, repo, text),
         "cut-records" => cut_records(room, repo, number_of(text)),
         "prune" => prune(room, repo, text),
         _ => return is_asked(room, repo, call, text),
@@ -293,6 +290,12 @@ fn publish<'a, N: Namer>(room: &mut Room<'a>, repo: &mut Repo<N, &'a Heap>, line
     }
     room.arm();
     room.done(repo.publish(&changes));
+}
+
+/// Drops the refs of these names.
+fn drop_refs<'a, N: Namer>(room: &mut Room<'a>, repo: &mut Repo<N, &'a Heap>, text: &[u8]) {
+    let names = parts_of(room.alloc, text, b' ');
+    room.done(repo.drop_refs(&names));
 }
 
 /// Keeps the first records alone, where there are no refs.

@@ -157,19 +157,16 @@ fn fill<'a>(room: &mut Room<'a>, tree: &mut PathTree<&'a Heap>, files: &[u8]) {
 }
 
 /// Puts two copies of the directory `a` in its place, which then has twice as many files, so many
-/// times.
+/// times. Answers whether all of that was done.
 fn double<'a>(room: &mut Room<'a>, tree: &mut PathTree<&'a Heap>, times: usize) {
-    let (a, b) = (path_of(room.heap, b"a"), path_of(room.heap, b"b"));
-    let (x, y) = (path_of(room.heap, b"b/x"), path_of(room.heap, b"b/y"));
     for _ in 0..times {
-        if tree.copy(&a, &x).is_err()
-            || tree.copy(&a, &y).is_err()
-            || tree.rename(&b, &a).is_err()
-        {
-            room.word("not ");
-        }
+        is_edited(room, tree, "copy", b"a b/x");
+        is_edited(room, tree, "copy", b"a b/y");
+        is_edited(room, tree, "rename", b"b a");
     }
-    room.word("done");
+    let len = room.answer.len();
+    room.answer.clear();
+    room.yes_or_no(len / 12 == times);
 }
 
 /// The number and the files of a tree.

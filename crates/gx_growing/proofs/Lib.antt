@@ -1,3 +1,10 @@
 pub mod Fields
+pub mod ReadFronts
+pub mod ReadSegments
+pub mod ReadTexts
 pub mod RowTests
+pub mod RunLines
+pub mod SortedRows
+pub mod StandingRuns
 pub mod TextLengths
+pub mod WrittenTexts

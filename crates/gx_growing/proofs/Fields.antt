@@ -1,6 +1,6 @@
 -- Slots and lines of runs: each is read again from its text, and whatever is read is spelled so.
 use Rattle.std.proofs.Common.{◌≡◌, ℕ, zero, suc, ◌+◌, ◌*◌, ◌-◌, ◌%◌, ◌/◌, ◌≤◌, ◌<◌, ◌^◌, Bool, true, false, cond, refl, sym, ap, subst, ◌∙◌, List, [], ◌∷◌, ◌++◌, length, replicate, map, Option, None, Some, Ok, arith, append_assoc, eq-eqb, eqb→eq}
-use Rattle.std.specs.Prelude.{T, ◌&&◌, nat_eq, nat_lt, nat_le}
+use Rattle.std.specs.Prelude.{T, ◌&&◌, nat_eq, nat_lt}
 use Rattle.std.specs.Bool.{passes}
 use Rattle.std.specs.Char.{digit_value, is_ascii_digit}
 use Rattle.std.specs.Fmt.{decimal}
@@ -21,10 +21,10 @@ use Rattle.gx_model.specs.Faults.{◌>>=◌}
 use Rattle.gx_model.specs.Objects.{hex, hex_digit, unhex}
 use Rattle.gx_model.specs.Stores.StoreReading.{Stored, if_written_so, stored_line, stored_number}
 use Rattle.gx_model.proofs.Texts.PathTests.{all_append, both, first, is_true, second}
-use Rattle.gx_model.proofs.Texts.Cuts.{cut_after, cut_spelled, map_some, some_is}
+use Rattle.gx_model.proofs.Texts.Cuts.{cut_after, cut_spelled, map_some}
 use Rattle.gx_model.proofs.Texts.Decimals.{AreDigits, numerals, text_digits, text_is_decimal}
 use Rattle.gx_model.proofs.Texts.HexDigits.{one_unhex}
-use Rattle.gx_model.proofs.Texts.LineTexts.{digits_are_line, line_append}
+use Rattle.gx_model.proofs.Texts.LineTexts.{line_append}
 use Rattle.gx_model.proofs.Streams.CommandFields.{number_no_space}
 use Rattle.gx_model.proofs.ObjectTexts.BodiesReadBack.{unhex_hex}
 use Rattle.gx_model.proofs.ObjectTexts.OneTree.{unhex_long}

@@ -1,4 +1,5 @@
 pub mod Fields
+pub mod OnlyTexts
 pub mod ReadFronts
 pub mod ReadSegments
 pub mod ReadTexts

@@ -1,6 +1,6 @@
 -- What is read of a growing text in front of its rows is spelled so: its head, and the segments up to the end that the picked slot says.
-use Rattle.std.proofs.Common.{◌≡◌, ℕ, suc, ◌+◌, ◌-◌, ◌≤◌, ◌<◌, Bool, true, false, cond, refl, sym, ap, subst, ◌∙◌, List, [], ◌∷◌, ◌++◌, length, take, drop, Option, Some, Ok, codes, arith, append_assoc, length-append, eqb→eq}
-use Rattle.std.specs.Prelude.{T, nat_eq, nat_le}
+use Rattle.std.proofs.Common.{◌≡◌, ℕ, suc, ◌+◌, ◌-◌, ◌≤◌, true, refl, sym, ap, subst, ◌∙◌, List, [], ◌∷◌, ◌++◌, length, take, drop, Some, Ok, codes, arith, append_assoc, length-append, eqb→eq}
+use Rattle.std.specs.Prelude.{nat_eq, nat_le}
 use Rattle.std.specs.Bool.{passes}
 use Rattle.std.specs.List.{flat_map}
 use Rattle.std.specs.Option.{ok_or}
@@ -12,14 +12,13 @@ use Rattle.gx_model.specs.Texts.{Bytes, same_bytes}
 use Rattle.gx_model.specs.Texts.Numbers.{number_text}
 use Rattle.gx_model.specs.Faults.{◌>>=◌}
 use Rattle.gx_model.specs.Objects.{IsNamer, line}
-use Rattle.gx_model.specs.Histories.{Record, Records}
 use Rattle.gx_model.specs.Records.Sound.{IsSound}
 use Rattle.gx_model.specs.Stores.StoreReading.{Stored, after_word, only_if, stored_body, stored_line}
-use Rattle.gx_model.proofs.Texts.PathTests.{is_same, is_true, same_is}
-use Rattle.gx_model.proofs.Stores.StoreTexts.{body_of, body_read, both_steps, if_there, line_of, line_text, ok_is, unless_holds, word_line_read, word_of, word_read}
-use Rattle.gx_growing.specs.GrowingText.{AreSegments, IsHead, Row, Run, Segment, Slot, head_length, head_text, picked, placed_rows, records_of, segment_text, tail_text}
+use Rattle.gx_model.proofs.Texts.PathTests.{same_is}
+use Rattle.gx_model.proofs.Stores.StoreTexts.{body_of, body_read, both_steps, if_there, line_of, line_text, ok_is, unless_holds, word_line_read, word_of}
+use Rattle.gx_growing.specs.GrowingText.{AreSegments, IsHead, Run, Segment, Slot, head_length, head_text, picked, placed_rows, records_of, segment_text, tail_text}
 use Rattle.gx_growing.specs.GrowingReading.{Front, after_third, front_of, head_of, next_segments, no_front, place_of, slot_in, slots_of}
-use Rattle.gx_growing.proofs.ReadSegments.{AreRead, segments_of_text}
+use Rattle.gx_growing.proofs.ReadSegments.{segments_of_text}
 
 -- ---- the head
 

@@ -1,6 +1,6 @@
 -- What is read of a growing text in front of its rows is spelled so: the segments, one behind the other.
-use Rattle.std.proofs.Common.{◌≡◌, ℕ, zero, suc, ◌+◌, ◌-◌, ◌≤◌, ◌<◌, Bool, true, false, cond, refl, sym, ap, subst, ◌∙◌, List, [], ◌∷◌, ◌++◌, length, take, drop, None, Ok, codes, arith, append_assoc, append-nil, length-append, eqb→eq}
-use Rattle.std.specs.Prelude.{T, nat_eq, IsTrue}
+use Rattle.std.proofs.Common.{◌≡◌, ℕ, zero, suc, ◌+◌, ◌-◌, ◌≤◌, Bool, true, false, cond, refl, sym, ap, subst, ◌∙◌, List, [], ◌∷◌, ◌++◌, length, drop, None, Ok, codes, arith, append_assoc, append-nil, length-append, eqb→eq}
+use Rattle.std.specs.Prelude.{nat_eq}
 use Rattle.std.specs.Bool.{passes}
 use Rattle.std.specs.List.{AllByRecursion, flat_map}
 use Rattle.std.proofs.lemmas.List.{drop_at}
@@ -18,7 +18,7 @@ use Rattle.gx_model.proofs.Texts.PathTests.{is_true}
 use Rattle.gx_model.proofs.Stores.StoreTexts.{body_of, both_steps, count_of, ok_is}
 use Rattle.gx_model.proofs.Stores.StoredRecords.{records_of_text}
 use Rattle.gx_model.proofs.Stores.StoredRefs.{refs_of_text, targets_of}
-use Rattle.gx_growing.specs.GrowingText.{AreSegments, IsRun, IsSegment, Row, Run, Segment, first_place, placed, placed_rows, records_of, run_text, segment_text, table_length, tail_text}
+use Rattle.gx_growing.specs.GrowingText.{AreSegments, IsRun, IsSegment, Run, Segment, first_place, placed, placed_rows, records_of, run_text, segment_text, table_length, tail_text}
 use Rattle.gx_growing.specs.GrowingReading.{Front, after_end, next_runs, next_segment, next_segments, next_tail, with_places}
 use Rattle.gx_growing.proofs.RunLines.{after_end_of, runs_of_text}
 

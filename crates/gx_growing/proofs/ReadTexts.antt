@@ -1,5 +1,5 @@
 -- A growing text is read as its repository.
-use Rattle.std.proofs.Common.{◌≡◌, ℕ, zero, suc, ◌+◌, ◌*◌, ◌-◌, ◌≤◌, ◌<◌, ◌^◌, Bool, true, false, cond, refl, sym, ap, subst, ◌∙◌, List, [], ◌∷◌, ◌++◌, length, take, drop, None, Some, Ok, Err, codes, arith, append_assoc, append-nil, length-append, eq-eqb}
+use Rattle.std.proofs.Common.{◌≡◌, ℕ, zero, suc, ◌+◌, ◌-◌, ◌≤◌, ◌<◌, ◌^◌, true, false, cond, refl, sym, ap, subst, ◌∙◌, List, [], ◌∷◌, ◌++◌, length, take, None, Ok, Err, codes, arith, append_assoc, append-nil, length-append, eq-eqb}
 use Rattle.std.specs.Prelude.{T, nat_eq, nat_le}
 use Rattle.std.specs.Bool.{passes}
 use Rattle.std.specs.List.{AllByRecursion, flat_map}
@@ -16,17 +16,17 @@ use Rattle.gx_model.specs.Objects.{IsNamer, line}
 use Rattle.gx_model.specs.Histories.{Record, Records}
 use Rattle.gx_model.specs.Records.Sound.{IsSound}
 use Rattle.gx_model.specs.Stores.StoreText.{stored_record, stored_ref}
-use Rattle.gx_model.specs.Stores.StoreReading.{Stored, after_word, next_records, next_refs, only_if, stored_body, stored_count, stored_line}
+use Rattle.gx_model.specs.Stores.StoreReading.{Stored, after_word, next_records, next_refs, only_if, stored_body, stored_count}
 use Rattle.gx_model.proofs.Texts.PathTests.{both, is_same, is_true}
-use Rattle.gx_model.proofs.Stores.StoreTexts.{body_read, count_read, line_read, word_line_read, word_read}
+use Rattle.gx_model.proofs.Stores.StoreTexts.{body_read, count_read, line_read, word_line_read}
 use Rattle.gx_model.proofs.Stores.StoredRecords.{records_read}
 use Rattle.gx_model.proofs.Stores.StoredRefs.{refs_read, targets_name, targets_test}
 use Rattle.gx_growing.specs.declared.fault.GrowingFault.TheVariants.{BadRows}
-use Rattle.gx_growing.specs.GrowingText.{AreSegments, IsGrowingText, IsDigester, IsHead, IsRun, IsSegment, Run, Segment, Slot, first_place, head_length, head_text, is_digest, picked, placed, placed_rows, records_of, rows_text, run_text, segment_text, slot_text, table_length, tail_text}
+use Rattle.gx_growing.specs.GrowingText.{AreSegments, IsGrowingText, IsDigester, IsHead, IsRun, IsSegment, Run, Segment, Slot, first_place, head_length, head_text, is_digest, picked, placed, placed_rows, records_of, run_text, segment_text, slot_text, table_length, tail_text}
 use Rattle.gx_growing.specs.GrowingReading.{Front, Grown, after_end, after_third, front_of, grown_of, has_rows, head_of, lifted, next_runs, next_segment, next_segments, next_tail, no_front, place_of, slot_in, slots_of, with_places, with_rows}
 use Rattle.gx_growing.proofs.Fields.{AreFields, next_runs_read, slot_read}
 use Rattle.gx_growing.proofs.RowTests.{are_rows, are_standing}
-use Rattle.gx_growing.proofs.TextLengths.{AreShort, back_short, front_short, many_bytes, segment_short, segment_some, tail_counts}
+use Rattle.gx_growing.proofs.TextLengths.{back_short, front_short, many_bytes, segment_short, segment_some, tail_counts}
 
 -- ---- tails
 

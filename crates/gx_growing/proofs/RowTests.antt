@@ -1,5 +1,5 @@
 -- The tests of live runs and their rows tell what they test.
-use Rattle.std.proofs.Common.{◌≡◌, ℕ, ◌+◌, ◌*◌, ◌≤◌, Bool, true, false, cond, refl, sym, ap, ◌∙◌, List, [], ◌∷◌, length, Ok, arith, eq-eqb, eqb→eq}
+use Rattle.std.proofs.Common.{◌≡◌, ◌+◌, ◌*◌, true, refl, sym, ap, ◌∙◌, List, [], ◌∷◌, length, arith, eq-eqb, eqb→eq}
 use Rattle.std.specs.Prelude.{T, ◌&&◌, nat_eq, nat_le}
 use Rattle.std.specs.Bool.{passes}
 use Rattle.std.specs.List.{AllByRecursion, list_all}

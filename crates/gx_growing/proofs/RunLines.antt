@@ -1,5 +1,5 @@
 -- The lines of a tail: whatever is read as runs, or as the last line, is spelled so.
-use Rattle.std.proofs.Common.{◌≡◌, ℕ, zero, suc, ◌+◌, ◌*◌, ◌/◌, ◌%◌, ◌≤◌, ◌<◌, ◌^◌, Bool, true, false, cond, refl, sym, ap, subst, ◌∙◌, List, [], ◌∷◌, ◌++◌, length, Option, None, Some, Ok, codes, arith, append_assoc, eqb→eq, eq-eqb, inl, inr}
+use Rattle.std.proofs.Common.{◌≡◌, ℕ, zero, suc, ◌+◌, ◌*◌, ◌/◌, ◌%◌, ◌<◌, ◌^◌, Bool, true, false, cond, refl, sym, ap, subst, ◌∙◌, List, [], ◌∷◌, ◌++◌, length, Option, None, Some, Ok, codes, arith, append_assoc, eqb→eq, eq-eqb, inl, inr}
 use Rattle.std.specs.Prelude.{T, ◌&&◌, nat_eq, nat_lt, IsTrue}
 use Rattle.std.specs.Bool.{passes}
 use Rattle.std.specs.Fmt.{decimal}
@@ -14,7 +14,7 @@ use Rattle.gx_model.specs.Texts.Digits.{is_lower_digit}
 use Rattle.gx_model.specs.Texts.Numbers.{decimal_of, is_number, number_text}
 use Rattle.gx_model.specs.Faults.{◌>>=◌}
 use Rattle.gx_model.specs.Objects.{digit_value, hex, hex_digit, unhex}
-use Rattle.gx_model.specs.Stores.StoreReading.{Stored, if_written_so, only_if, stored_line, stored_number}
+use Rattle.gx_model.specs.Stores.StoreReading.{if_written_so, only_if, stored_line, stored_number}
 use Rattle.gx_model.proofs.Texts.PathTests.{both, first, is_true, same_is, second}
 use Rattle.gx_model.proofs.Texts.Cuts.{cut_spelled}
 use Rattle.gx_model.proofs.Texts.HexDigits.{IsDigit, digit_is, value_is}

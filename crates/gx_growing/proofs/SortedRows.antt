@@ -1,8 +1,7 @@
 -- Rows in the order of their names: those of records whose names differ are sorted, and sorted ones stay as they are.
-use Rattle.std.proofs.Common.{◌≡◌, ℕ, ◌+◌, ◌<◌, Bool, true, false, cond, refl, sym, ap, subst, ◌∙◌, List, [], ◌∷◌, ◌++◌, length, map, Option, None, Some, arith}
-use Rattle.std.specs.Prelude.{T, ⊤, ◌&&◌, ◌||◌}
-use Rattle.std.specs.Bool.{passes}
-use Rattle.std.specs.List.{AllByRecursion, flat_map, list_any}
+use Rattle.std.proofs.Common.{◌≡◌, ℕ, ◌+◌, Bool, true, false, cond, refl, sym, ap, subst, ◌∙◌, List, [], ◌∷◌, length, map, None, Some, arith}
+use Rattle.std.specs.Prelude.{T, ⊤, ◌||◌}
+use Rattle.std.specs.List.{AllByRecursion, list_any}
 use Rattle.std.specs.Ordering.{eq_by_cmp, is_eq, is_lt, nat_cmp, ordering_reverse, ordering_then}
 use Rattle.std.specs.declared.cmp.Ordering.{Ordering}
 use Rattle.std.specs.declared.cmp.Ordering.TheVariants.{Less, Equal, Greater}
@@ -13,7 +12,7 @@ use Rattle.gx_model.specs.declared.store_versions.Version.TheVariants.{Two}
 use Rattle.gx_model.specs.Texts.{Bytes, byte_cmp, same_bytes}
 use Rattle.gx_model.specs.Histories.{AreDistinct, Record}
 use Rattle.gx_model.specs.Stores.StoreText.{stored_record}
-use Rattle.gx_model.proofs.Texts.PathTests.{first, is_true, second}
+use Rattle.gx_model.proofs.Texts.PathTests.{first, second}
 use Rattle.gx_growing.specs.GrowingText.{Row, placed, row_cmp, sorted_rows, with_row}
 
 -- no row has the name of another

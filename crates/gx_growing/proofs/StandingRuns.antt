@@ -1,6 +1,6 @@
 -- A table of rows that stands in a text is a run of these rows.
-use Rattle.std.proofs.Common.{◌≡◌, ℕ, zero, suc, ◌+◌, ◌*◌, ◌≤◌, ◌<◌, ◌^◌, refl, sym, ap, subst, ◌∙◌, List, [], ◌∷◌, ◌++◌, length, take, drop, arith, append_assoc, length-append, eqb→eq}
-use Rattle.std.specs.Prelude.{T, IsTrue, nat_eq}
+use Rattle.std.proofs.Common.{◌≡◌, ℕ, zero, suc, ◌+◌, ◌*◌, ◌≤◌, ◌<◌, ◌^◌, refl, sym, ap, subst, ◌∙◌, List, [], ◌∷◌, ◌++◌, length, take, drop, arith, append_assoc, length-append}
+use Rattle.std.specs.Prelude.{IsTrue}
 use Rattle.std.specs.Bool.{passes}
 use Rattle.std.specs.List.{AllByRecursion, flat_map}
 use Rattle.std.specs.Int.{w64, from_be_bytes, to_be_bytes}
@@ -8,8 +8,7 @@ use Rattle.std.specs.FinMap.Entries.{is_sorted}
 use Rattle.std.proofs.lemmas.List.{drop_at, take_at}
 use Rattle.std.proofs.lemmas.Nat.{from_be_bytes-to_be_bytes_8}
 use Rattle.gx_model.specs.Texts.{Bytes, byte_cmp}
-use Rattle.gx_model.proofs.Texts.PathTests.{first, is_true}
-use Rattle.gx_growing.specs.GrowingText.{IsDigester, Row, Run, StandsIn, digests_length, digests_of, head_length, page_count, page_digests, part, row_text, rows_in, run_bytes, run_rows, table_length}
+use Rattle.gx_growing.specs.GrowingText.{IsDigester, Row, Run, StandsIn, digests_length, digests_of, head_length, page_count, page_digests, part, row_text, rows_in, run_bytes, run_rows}
 use Rattle.gx_growing.proofs.Fields.{digest_long}
 
 -- a name of 20 bytes, and a place below 2^64

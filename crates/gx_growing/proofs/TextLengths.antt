@@ -1,5 +1,5 @@
 -- The parts of a text are no longer than the text.
-use Rattle.std.proofs.Common.{◌≡◌, ℕ, ◌+◌, ◌*◌, ◌≤◌, ◌<◌, ◌^◌, refl, List, [], ◌∷◌, ◌++◌, length, codes, arith, length-append}
+use Rattle.std.proofs.Common.{◌≡◌, ℕ, ◌+◌, ◌*◌, ◌≤◌, ◌<◌, List, [], ◌∷◌, ◌++◌, length, codes, arith, length-append}
 use Rattle.std.specs.List.{AllByRecursion, flat_map}
 use Rattle.gx_model.specs.declared.store_versions.Version.TheVariants.{Two}
 use Rattle.gx_model.specs.Texts.{Bytes}
@@ -8,7 +8,7 @@ use Rattle.gx_model.specs.Objects.{hex, line}
 use Rattle.gx_model.specs.Objects.Naming.{kind_word}
 use Rattle.gx_model.specs.Histories.{Record}
 use Rattle.gx_model.specs.Stores.StoreText.{length_text, stored_record, stored_ref}
-use Rattle.gx_growing.specs.GrowingText.{IsSegment, Run, Segment, digests_length, rows_text, run_text, segment_text, table_length, tail_text}
+use Rattle.gx_growing.specs.GrowingText.{IsSegment, Run, Segment, digests_length, rows_text, run_text, segment_text, tail_text}
 
 -- ---- two parts
 

@@ -1,5 +1,5 @@
 -- The text that a writer makes anew is a growing one of its repository.
-use Rattle.std.proofs.Common.{◌≡◌, ℕ, suc, ◌+◌, ◌*◌, ◌-◌, ◌≤◌, ◌<◌, ◌^◌, refl, sym, ap, subst, ◌∙◌, List, [], ◌∷◌, ◌++◌, length, take, replicate, codes, arith, append_assoc, append-nil, length-append, eqb→eq}
+use Rattle.std.proofs.Common.{◌≡◌, ℕ, suc, ◌+◌, ◌*◌, ◌-◌, ◌≤◌, ◌<◌, ◌^◌, refl, sym, ap, subst, ◌∙◌, List, [], ◌∷◌, ◌++◌, length, take, codes, arith, append_assoc, append-nil, length-append, eqb→eq}
 use Rattle.std.specs.Prelude.{T, nat_eq}
 use Rattle.std.specs.Bool.{passes}
 use Rattle.std.specs.List.{AllByRecursion, flat_map}
@@ -16,7 +16,7 @@ use Rattle.gx_model.specs.Stores.StoreText.{stored_record}
 use Rattle.gx_model.proofs.Texts.PathTests.{first, is_true}
 use Rattle.gx_model.proofs.ObjectTexts.TreePaths.{name_is_name}
 use Rattle.gx_model.proofs.Records.ReadRecords.{hex_long}
-use Rattle.gx_growing.specs.GrowingText.{IsDigester, IsGrowingText, IsHead, IsRun, Row, Run, Segment, Slot, StandsIn, first_place, first_rows, first_runs, first_segment, first_slot, growing_text, head_length, head_text, live_rows, long_number, no_slot, page_digests, placed, placed_rows, rows_place, run_rows, segment_text, slot_text, sorted_rows, table_length, tail_text}
+use Rattle.gx_growing.specs.GrowingText.{IsDigester, IsGrowingText, IsHead, IsRun, Row, Run, Segment, Slot, StandsIn, first_place, first_rows, first_runs, first_segment, first_slot, growing_text, head_length, head_text, live_rows, long_number, no_slot, page_digests, placed, rows_place, run_rows, segment_text, slot_text, sorted_rows, table_length, tail_text}
 use Rattle.gx_growing.proofs.Fields.{AreFields, digest_long, long_length}
 use Rattle.gx_growing.proofs.ReadTexts.{head_long}
 use Rattle.gx_growing.proofs.SortedRows.{placed_apart, placed_long, rows_sorted, sorted_again, sorted_all, sorted_long}

@@ -3,5 +3,6 @@
 #![tactic(auto)]
 
 mod fault;
+pub mod growing_laws;
 
 pub use fault::GrowingFault;

@@ -4,6 +4,7 @@ names of files in what is told.
 
 from __future__ import annotations
 
+import hashlib
 import select
 import socket
 import struct
@@ -238,3 +239,24 @@ def test_length_takes_no_room(gx: Program, new_store, front: bytes, size: int) -
         done = in_pieces(gx, "import", store, text=text, size=size)
         assert done == Done(1, b"", b"gx: command 1: TruncatedData\n")
         assert store.read_bytes() == EMPTY_STORE
+
+
+def test_large_blocks_are_whole_with_what_follows(gx: Program, new_store) -> None:
+    """Blocks of many pieces, one behind the other, by the names that hashlib gives."""
+    lengths = [(1 << 20) - 1, 1 << 20, (1 << 20) + 1, 5, 3 << 20, 0, 2 << 20]
+    blobs = [(b"%d line\n" % number) * (length // 7 + 1) for number, length in enumerate(lengths)]
+    blobs = [blob[:length] for blob, length in zip(blobs, lengths, strict=True)]
+    stream = b"".join(
+        b"blob\nmark :%d\ndata %d\n%s\n" % (mark, len(blob), blob)
+        for mark, blob in enumerate(blobs, 1)
+    )
+    delimited = b"a line of a delimited block\n" * 50000
+    stream += b"commit refs/heads/main\ncommitter A <a@b> 1 +0000\ndata <<END\nm\nEND\n"
+    stream += b"".join(b"M 100644 :%d f%d\n" % (mark, mark) for mark in range(1, 8))
+    stream += b"M 100644 inline f8\ndata <<END\n%sEND\nM 100644 inline f9\ndata 1\nx\n" % delimited
+    names = [
+        hashlib.sha1(b"blob %d\0%s" % (len(blob), blob)).hexdigest()
+        for blob in [*blobs, delimited, b"x"]
+    ]
+    listed = gx.prints("ls", new_store(stream), "main").decode().splitlines()
+    assert [line.split()[2] for line in listed] == names

@@ -59,8 +59,8 @@ __gx_files() {
   compopt -o filenames 2> /dev/null
 }
 
-# Answers the refs of the store, by their whole names and by the shorter ones that find them, which `drop` doesn't take. After ^ or
-# .. a new revision begins.
+# Answers the refs of the store, by their whole names and by the shorter ones that find them, which `drop` and
+# `set-ref` don't take. After ^ or .. a new revision begins.
 __gx_revisions() {
   local file last=$1 front='' name
   local -a names=()
@@ -72,7 +72,7 @@ __gx_revisions() {
   fi
   while read -r _ name; do
     names+=("$name")
-    [[ ${words[1]} != drop ]] || continue
+    [[ ! ${words[1]} =~ ^(drop|set-ref)$ ]] || continue
     case $name in
       refs/heads/* | refs/tags/* | refs/remotes/*) names+=("${name#refs/*/}") ;;
     esac
@@ -96,6 +96,7 @@ __gx_options() {
     archive) __gx_answer '' "$1" --prefix --help ;;
     where) __gx_answer '' "$1" --fault --done --force --help ;;
     drop) __gx_answer '' "$1" --stdin --wait --help ;;
+    set-ref) __gx_answer '' "$1" --force --stdin --wait --help ;;
     put) __gx_answer '' "$1" --expect-stamp --wait --help ;;
     init) __gx_answer '' "$1" --wait --help ;;
     batch) __gx_answer '' "$1" --check --command --format -z --help ;;
@@ -124,13 +125,13 @@ __gx_words_of_command() {
   local -a operands
   __gx_operands
   case ${words[1]}:${#operands[@]} in
-    init:0 | import:0 | drop:0 | put:0 | gc:0 | export:0 | show:0 | ls:0 | archive:0 | batch:0 | refs:0 | log:0 | rev-parse:0) __gx_files "$last" ;;
-    show:1 | ls:1 | archive:1 | drop:[1-9]* | export:[1-9]* | log:[1-9]* | rev-parse:[1-9]*) __gx_revisions "$last" ;;
+    init:0 | import:0 | drop:0 | set-ref:0 | put:0 | gc:0 | export:0 | show:0 | ls:0 | archive:0 | batch:0 | refs:0 | log:0 | rev-parse:0) __gx_files "$last" ;;
+    show:1 | ls:1 | archive:1 | drop:[1-9]* | set-ref:1 | export:[1-9]* | log:[1-9]* | rev-parse:[1-9]*) __gx_revisions "$last" ;;
   esac
 }
 
 _gx() {
-  local -a words commands=(blobs try check adapt where init import drop put gc export show ls archive batch refs log rev-parse)
+  local -a words commands=(blobs try check adapt where init import drop set-ref put gc export show ls archive batch refs log rev-parse)
   COMPREPLY=()
   # behind < and > bash completes files by itself
   [[ ${COMP_WORDS[COMP_CWORD - 1]} != *[\<\>]* ]] || return 0

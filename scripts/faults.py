@@ -28,6 +28,7 @@ ENUMS = {
     "Stores": ["gx_model/src/store_faults.rt FileFault", "gx_repo/src/fault.rt AddFault"],
     "Exports": ["gx_export/src/fault.rt ExportFault"],
     "Adapted streams": ["gx_adapt/src/fault.rt AdaptFault"],
+    "Changes of refs": ["gx_push/src/fault.rt RefFault"],
     "Places of commands": ["gx_where/src/fault.rt WhereFault"],
     "Files and memory": [
         "gx_cli/src/fault.rt CliFault",

@@ -46,8 +46,8 @@ _gx
 LINES = [
     (
         "gx ",
-        "blobs try check adapt where init import drop put gc export show ls archive batch refs log"
-        " rev-parse help --help",
+        "blobs try check adapt where init import drop set-ref put gc export show ls archive batch"
+        " refs log rev-parse help --help",
     ),
     ("gx -", "--help --explain --version"),
     ("gx --explain im", "import"),
@@ -104,6 +104,11 @@ LINES = [
     ("gx init su", "sub"),
     ("gx ex", "export"),
     ("gx d", "drop"),
+    ("gx set-ref -", "--force --stdin --wait --help"),
+    ("gx set-ref --force st", "store"),
+    ("gx set-ref store m", ""),
+    ("gx set-ref store refs/heads/t", "refs/heads/topic"),
+    ("gx set-ref store refs/heads/topic r", ""),
     ("gx drop su", "sub"),
     ("gx drop -", "--stdin --wait --help"),
     ("gx init -", "--wait --help"),

@@ -158,6 +158,25 @@ def test_file_of_lines(pushed: Pushed, tmp_path: Path) -> None:
     assert done.status == 2 and b"cannot be used with '--force'" in done.err
 
 
+def test_explained(pushed: Pushed) -> None:
+    """A refused line tells its ref, what it has to hold, and what it holds."""
+    a, b = pushed.refs()["refs/heads/a"], pushed.refs()["refs/heads/b"]
+    first = f"{b} refs/heads/b\n"
+    second = f"{first}{ZEROS} refs/heads/a\n"
+    cases = [
+        (second, "2: RefMoved", f"refs/heads/a: expected {ZEROS}, found {a}"),
+        (f"+{b} refs/heads/a\n", "1: RefMoved", f"refs/heads/a: expected {b}, found {a}"),
+        (f"-{a} refs/x\t\n", "1: RefMoved", f'"refs/x\\t": expected {a}, found {ZEROS}'),
+        (f"{first}{first}", "2: BadLine", f"refs/heads/b: expected {b}, found {b}"),
+    ]
+    for lines, told, explained in cases:
+        pushed.refused(lines, ON_A, f"push {told}\ngx: {explained}", "--explain")
+        pushed.refused(lines, ON_A, f"push {told}")
+    pushed.refused(first + "x\n", ON_A, "push 2: BadLine", "--explain")
+    # no line has the ref
+    pushed.refused("", ON_A, "push 1: RefMoved", "--explain")
+
+
 def test_pushes_at_once(pushed: Pushed, tmp_path: Path) -> None:
     """Of pushers that saw the same, one is taken, and the others are told."""
     a = pushed.refs()["refs/heads/a"]

@@ -43,9 +43,12 @@ impl fmt::Display for RunFault {
 }
 
 impl RunFault {
-    /// Whether the stream that is imported is at fault.
-    pub(crate) fn is_of_stream(&self) -> bool {
-        matches!(self, RunFault::Command(CliFault::Import(_)))
+    /// Whether the stream that is imported, or a line of its push, is at fault.
+    pub(crate) fn is_of_import(&self) -> bool {
+        matches!(
+            self,
+            RunFault::Command(CliFault::Import(_) | CliFault::Push { .. })
+        )
     }
 
     /// Whether standard output didn't take what a command is there to print.

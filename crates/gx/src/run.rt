@@ -182,7 +182,7 @@ impl<'a> Run<'a> {
     }
 
     /// Tells why the run is refused, in a line. Where it is to be explained, further ones tell where the fault of a stream stands and
-    /// what it is about, and the file and the system's cause of what couldn't be read, written or locked. Whoever closed the pipe that is written into isn't told.
+    /// what it or a line of a push is about, and the file and the system's cause of what couldn't be read, written or locked. Whoever closed the pipe that is written into isn't told.
     pub(crate) fn tell(&self, fault: &RunFault, file: Option<&str>) {
         let cause = self.cause.get();
         let is_cut_off = has_closed_pipe(&cause);
@@ -190,7 +190,7 @@ impl<'a> Run<'a> {
             return;
         }
         let _ = eprintln!(self.rt; "{fault}");
-        if fault.is_of_stream() {
+        if fault.is_of_import() {
             self.tell_explanation();
         }
         if let Some(cause) = &cause {

@@ -6,6 +6,7 @@ mod next_text;
 mod process;
 mod push;
 mod put;
+mod set_ref;
 mod stamp;
 
 use crate::fault::RunFault;
@@ -27,6 +28,7 @@ use gx_text::{FromRead, IntoWrite};
 use next_text::NextText;
 pub(crate) use push::push;
 pub(crate) use put::put;
+pub(crate) use set_ref::set_ref;
 use std::alloc::Global;
 use std::fs::File;
 use std::hash::RandomState;

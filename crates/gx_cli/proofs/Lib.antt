@@ -23,6 +23,7 @@ pub mod GatheredLines
 pub mod SentRanges
 pub mod RoomlessLines
 pub mod DroppedStores
+pub mod SetStores
 pub mod CollectedStores
 pub mod ReportedImports
 pub mod FormsAgain

@@ -10,16 +10,19 @@ use Rattle.gx_text.specs.Devices.{Coming}
 use Rattle.gx_line.specs.declared.command_line.BatchForm.{BatchForm}
 use Rattle.gx_line.specs.declared.command_line.Line.{Line}
 use Rattle.gx_line.specs.declared.command_line.Line.TheVariants as line
+use Rattle.gx_line.specs.declared.command_line.RefChange.{RefChange}
 use Rattle.gx_cli.specs.Serving.{EndsAnswered, EndsOpened, IsAnswered, IsWritten, Serves, ServesExported, ServesOpened, without_room}
 use Rattle.gx_cli.specs.declared.serving.Outcome.{Outcome}
 
 module _ (name : Kind → Bytes → Bytes) {A : Type 0} (o : Outcome A) (coming : Option Coming) (was now : Option Taken) where
   -- a command that leaves no text is answered
   pub asked_opened : (l : Line) (r : Records) → ((file : Bor Bytes) (words : Vec (Bor Bytes) Global) (stdin : Bool) (wait : Option ℕ) → l ≡ line.Drop file words stdin wait → ⊥)
-      → ((file : Bor Bytes) (report : Bool) (keep : Option (Bor Bytes)) (wait : Option ℕ) → l ≡ line.Gc file report keep wait → ⊥) → EndsAnswered (IsAnswered name l r coming was now) o → ServesOpened name l r coming was now o
-  asked_opened (line.Drop file words stdin wait) r d g h = absurd (d file words stdin wait refl)
-  asked_opened (line.Gc file report keep wait) r d g h = absurd (g file report keep wait refl)
-  asked_opened l r d g h = h
+      → ((file : Bor Bytes) (report : Bool) (keep : Option (Bor Bytes)) (wait : Option ℕ) → l ≡ line.Gc file report keep wait → ⊥)
+      → ((file : Bor Bytes) (change : Option RefChange) (force : Bool) (wait : Option ℕ) → l ≡ line.SetRef file change force wait → ⊥) → EndsAnswered (IsAnswered name l r coming was now) o → ServesOpened name l r coming was now o
+  asked_opened (line.Drop file words stdin wait) r d g s h = absurd (d file words stdin wait refl)
+  asked_opened (line.Gc file report keep wait) r d g s h = absurd (g file report keep wait refl)
+  asked_opened (line.SetRef file change force wait) r d g s h = absurd (s file change force wait refl)
+  asked_opened l r d g s h = h
 
   -- a command that reads a store's text, and neither imports into it nor answers lines of it, reads it first
   pub opened_served : (l : Line) (store : Bytes) → IsSome (without_room l) → ((file : Bor Bytes) (done force report explain : Bool) (wait : Option ℕ) → l ≡ line.Import file done force report explain wait → ⊥)

@@ -11,7 +11,7 @@ use Rattle.gx_push.specs.Faults as refs
 use Rattle.gx_rev.specs.RevFaults as rev
 use Rattle.gx_where.specs.Faults as place
 use Rattle.gx_cli.specs.declared.fault.CliFault.{CliFault}
-use Rattle.gx_cli.specs.declared.fault.CliFault.TheVariants.{Adapt, BadFormat, Blobs, Export, Import, Keep, OutOfMemory, Push, ReadFailed, Revision, Store, StoreExists, Where, WriteFailed}
+use Rattle.gx_cli.specs.declared.fault.CliFault.TheVariants.{Adapt, BadFormat, Blobs, Export, Import, Keep, OutOfMemory, Push, ReadFailed, Ref, Revision, Store, StoreExists, Where, WriteFailed}
 
 -- the line of a refusal, without its line feed
 abbrev pub line_of : CliFault → Bytes
@@ -19,6 +19,7 @@ line_of (Blobs fault) = codes "gx: " ++ blobs.refusal fault
 line_of (Import fault) = codes "gx: command " ++ decimal fault.command ++ codes ": " ++ word_of fault.kind
 line_of (Revision number kind) = codes "gx: revision " ++ decimal number ++ codes ": " ++ rev.word kind
 line_of (Push number kind) = codes "gx: push " ++ decimal number ++ codes ": " ++ refs.word kind
+line_of (Ref number kind) = codes "gx: ref " ++ decimal number ++ codes ": " ++ refs.word kind
 line_of (Store fault) = codes "gx: store: " ++ store.word fault
 line_of (Export fault) = codes "gx: export: " ++ export.word fault
 line_of (Adapt fault) = codes "gx: adapt: " ++ word_of (adapt.fault_of fault)

@@ -20,9 +20,11 @@ use Rattle.gx_batch.specs.declared.fault.FormatFault.{FormatFault}
 use Rattle.gx_batch.specs.declared.fault.FormatFault.TheVariants as format
 use Rattle.gx_push.specs.declared.fault.PushFault.{PushFault}
 use Rattle.gx_push.specs.declared.fault.PushFault.TheVariants as push
+use Rattle.gx_push.specs.declared.fault.SetFault.{SetFault}
+use Rattle.gx_push.specs.declared.fault.SetFault.TheVariants as set
 use Rattle.gx_cli.specs.Words.{refused_at}
 use Rattle.gx_cli.specs.declared.fault.CliFault.{CliFault}
-use Rattle.gx_cli.specs.declared.fault.CliFault.TheVariants.{Adapt, BadFormat, Import, OutOfMemory, Push, ReadFailed, WriteFailed}
+use Rattle.gx_cli.specs.declared.fault.CliFault.TheVariants.{Adapt, BadFormat, Import, OutOfMemory, Push, ReadFailed, Ref, WriteFailed}
 
 -- a source's stream goes out adapted, by whether signatures are dropped
 abbrev pub AdaptsStream : {A : Type 0} → Bool → Option Coming → Option Taken → Option Taken → Result (Adapted A) CliFault → Type 0
@@ -53,6 +55,11 @@ abbrev pub of_push : PushFault → CliFault
 of_push (push.Line number kind) = Push number kind
 of_push (push.Import fault) = Import fault
 of_push push.OutOfMemory = OutOfMemory
+
+-- a fault of refs that are set among those of the commands
+abbrev pub of_set : SetFault → CliFault
+of_set (set.Line number kind) = Ref number kind
+of_set set.OutOfMemory = OutOfMemory
 
 -- ---- all of a source
 

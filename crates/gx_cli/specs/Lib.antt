@@ -20,11 +20,13 @@ pub mod Gathering
 pub mod Adapting
 pub mod Placing
 pub mod Pushing
+pub mod RefusedPush
 pub mod Forms
 pub mod Serving
 pub mod Again
 pub mod Collecting
 pub mod Dropping
+pub mod Setting
 pub mod Reporting
 pub mod ExplainedLines
 pub mod Explained

@@ -35,6 +35,7 @@ use Rattle.gx_line.specs.declared.command_line.BatchForm.TheVariants as form
 use Rattle.gx_line.specs.declared.command_line.ExportForm.{ExportForm}
 use Rattle.gx_line.specs.declared.command_line.Line.{Line}
 use Rattle.gx_line.specs.declared.command_line.Line.TheVariants as line
+use Rattle.gx_line.specs.declared.command_line.RefChange.{RefChange}
 use Rattle.gx_cli.specs.declared.fault.CliFault.{CliFault}
 use Rattle.gx_cli.specs.declared.fault.CliFault.TheVariants.{BadFormat, Blobs, Export, OutOfMemory, ReadFailed, Store}
 use Rattle.gx_cli.specs.declared.serving.Outcome.{Outcome}
@@ -47,6 +48,7 @@ use Rattle.gx_cli.specs.Adapting.{EndsAdapted}
 use Rattle.gx_cli.specs.Dropping.{DropsFrom}
 use Rattle.gx_cli.specs.Gathering.{AdaptsStream, of_batch}
 use Rattle.gx_cli.specs.Logs.{LogsFrom}
+use Rattle.gx_cli.specs.Setting.{SetsFrom}
 use Rattle.gx_cli.specs.Placing.{PlacesFrom}
 use Rattle.gx_blobs.specs.Printing.{PrintsBlobs}
 use Rattle.gx_cli.specs.Stored.{list_text, names_text, refs_text, show_text, tar_text}
@@ -186,6 +188,10 @@ module _ (name : Kind → Bytes → Bytes) {A : Type 0} where
   abbrev pub DropsText : Bool → Records → List Bytes → Option Coming → Outcome A → Type 0
   DropsText stdin old words coming o = (answer : Result Records CliFault) × DropsFrom name stdin old words coming answer × EndsLeft answer o
 
+  -- refs are set in a repository, and the next store text is that of what is left
+  abbrev pub SetsText : Bool → Records → Option RefChange → Option Coming → Outcome A → Type 0
+  SetsText forced old change coming o = (answer : Result Records CliFault) × SetsFrom name forced old change coming answer × EndsLeft answer o
+
   -- The objects that no ref reaches leave a repository, and the next store text is that of what is left.
   abbrev pub LeavesCollected : Records → Outcome A → Type 0
   LeavesCollected old o = IsRefused OutOfMemory o ⊎ ((new : Records) × IsCollected name old new × IsWritten name new o)
@@ -208,6 +214,7 @@ module _ (name : Kind → Bytes → Bytes) {A : Type 0} where
   -- how a command ends over the repository of a store that was read
   abbrev pub ServesOpened : Line → Records → Option Coming → Option Taken → Option Taken → Outcome A → Type 0
   ServesOpened (line.Drop file words stdin wait) r coming was now o = DropsText stdin r (lent_texts words.items) coming o × (now ≡ was)
+  ServesOpened (line.SetRef file change forced wait) r coming was now o = SetsText forced r change coming o × (now ≡ was)
   ServesOpened (line.Gc file report keep wait) r coming was now o = EndsCollected (is_some keep) r o × (now ≡ was)
   ServesOpened line r coming was now o = EndsAnswered (IsAnswered name line r coming was now) o
 

@@ -2,7 +2,7 @@
 
 ghost use Rattle.std.specs.Prelude.{◌≡◌, Some};
 ghost use Rattle.gx_cli.specs.FaultLines.{line_of};
-ghost use Rattle.gx_cli.specs.Gathering.{of_archive, of_batch, of_format, of_push};
+ghost use Rattle.gx_cli.specs.Gathering.{of_archive, of_batch, of_format, of_push, of_set};
 ghost use Rattle.gx_cli.specs.declared.fault.CliFault.TheVariants.{OutOfMemory};
 
 use crate::BlobsFault;
@@ -13,7 +13,7 @@ use gx_batch::{BatchFault, FormatFault};
 use gx_export::ExportFault;
 use gx_file::FileFault;
 use gx_import::ImportFault;
-use gx_push::{PushFault, RefFault};
+use gx_push::{PushFault, RefFault, SetFault};
 use gx_rev::RevFault;
 use gx_where::WhereFault;
 use std::alloc::{AllocError, AllocFailed};
@@ -29,6 +29,8 @@ pub enum CliFault {
     Revision { number: u64, kind: RevFault },
     /// The number of the line of a push, from 1, and what is against it.
     Push { number: u64, kind: RefFault },
+    /// The number of the change of a ref, from 1, and what is against it.
+    Ref { number: u64, kind: RefFault },
     /// Why the store's text isn't read.
     Store(FileFault),
     /// Why the store isn't exported as a whole.
@@ -61,6 +63,7 @@ impl fmt::Display for CliFault {
             CliFault::Import(fault) => write!(f, "gx: command {}: {}", fault.command, fault.kind),
             CliFault::Revision { number, kind } => write!(f, "gx: revision {number}: {kind}"),
             CliFault::Push { number, kind } => write!(f, "gx: push {number}: {kind}"),
+            CliFault::Ref { number, kind } => write!(f, "gx: ref {number}: {kind}"),
             CliFault::Store(fault) => write!(f, "gx: store: {fault}"),
             CliFault::Export(fault) => write!(f, "gx: export: {fault}"),
             CliFault::Adapt(fault) => write!(f, "gx: adapt: {fault}"),
@@ -115,6 +118,17 @@ impl From<PushFault> for CliFault {
             PushFault::Line { number, kind } => CliFault::Push { number, kind },
             PushFault::Import(fault) => CliFault::Import(fault),
             PushFault::OutOfMemory => CliFault::OutOfMemory,
+        }
+    }
+}
+
+impl From<SetFault> for CliFault {
+    ghost from_gives = { λ from fault. fault ≡ of_set from };
+
+    fn from(fault: SetFault) -> CliFault {
+        match fault {
+            SetFault::Line { number, kind } => CliFault::Ref { number, kind },
+            SetFault::OutOfMemory => CliFault::OutOfMemory,
         }
     }
 }

@@ -15,6 +15,7 @@ use crate::opening::open;
 use crate::refs::print_refs;
 use crate::rev_parse::print_names;
 use crate::serving::{Outcome, outcome_of, refused};
+use crate::set_refs::set_told;
 use crate::show::show;
 use crate::words::texts_of;
 use crate::{CliFault, Line};
@@ -47,7 +48,8 @@ pub(crate) fn serve_stored<N: Namer + Drop, R: Source + Drop, W: Sink, A: Alloca
     }
 }
 
-/// Runs a command over a repository: `drop` and `gc` make the text of what they leave of it, and the others answer a question.
+/// Runs a command over a repository: `drop`, `set-ref` and `gc` make the text of what they leave of it, and the others answer a
+/// question.
 fn serve_opened<N: Namer + Drop, R: Source + Drop, W: Sink, A: Allocator + Copy>(
     alloc: A,
     repo: Repo<N, A>,
@@ -68,6 +70,12 @@ fn serve_opened<N: Namer + Drop, R: Source + Drop, W: Sink, A: Allocator + Copy>
             alloc,
             drop_named(alloc, repo, refs.as_slice(), *stdin, source),
         ),
+        Line::SetRef {
+            file: _,
+            change,
+            force,
+            wait: _,
+        } => left_text(alloc, set_told(alloc, repo, *change, source, *force)),
         Line::Gc {
             file: _,
             report: _,

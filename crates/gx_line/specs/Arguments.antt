@@ -122,6 +122,22 @@ fault = bound (flag (codes "fault"))
 abbrev pub refs : Rule
 refs = bound (any_words (codes "ref"))
 
+-- the name of a ref, which is needed where --stdin isn't given
+abbrev pub changed_ref : Rule
+changed_ref = bound (any_word (codes "ref"))
+
+-- what the ref becomes, which is needed where --stdin isn't given
+abbrev pub new_value : Rule
+new_value = bound (any_word (codes "new"))
+
+-- what the ref is
+abbrev pub old_value : Rule
+old_value = any_word (codes "old")
+
+-- a flag that is refused beside the name of a ref
+abbrev pub changes_read : Rule
+changes_read = bound (flag (codes "stdin"))
+
 abbrev pub stdin : Rule
 stdin = flag (codes "stdin")
 

@@ -14,7 +14,8 @@ use Rattle.gx_line.specs.declared.command_line.BatchForm.TheVariants as form
 use Rattle.gx_line.specs.declared.command_line.ExportForm.{ExportForm}
 use Rattle.gx_line.specs.declared.command_line.ExportForm.TheVariants.{Changes, FullTree}
 use Rattle.gx_line.specs.declared.command_line.Line.{Line}
-use Rattle.gx_line.specs.declared.command_line.Line.TheVariants.{Blobs, Try, Check, Adapt, Where, WhereFault, Init, Import, Push, Drop, Put, Gc, Export, ExportRange, Show, Ls, Archive, Batch, Refs, Log, RevParse}
+use Rattle.gx_line.specs.declared.command_line.Line.TheVariants.{Blobs, Try, Check, Adapt, Where, WhereFault, Init, Import, Push, Drop, SetRef, Put, Gc, Export, ExportRange, Show, Ls, Archive, Batch, Refs, Log, RevParse}
+use Rattle.gx_line.specs.declared.command_line.RefChange.{RefChange}
 use Rattle.gx_line.specs.declared.fault.LineFault.{LineFault}
 use Rattle.gx_line.specs.declared.fault.LineFault.TheVariants.{OutOfMemory, Status}
 use Rattle.gx_line.specs.declared.command_line.LogFormat.{LogFormat}
@@ -63,6 +64,14 @@ import_command = with_wait (with_rule telling_import rules.push)
 
 abbrev pub drop_command : App
 drop_command = with_wait (with_rule (with_rule (file_command (codes "drop")) rules.refs) rules.stdin)
+
+-- which refs are set, and to what
+abbrev pub changed_command : App
+changed_command =
+    with_rule (with_rule (with_rule (file_command (codes "set-ref")) rules.changed_ref) rules.new_value) rules.old_value
+
+abbrev pub set_ref_command : App
+set_ref_command = with_wait (with_rule (with_rule changed_command rules.changes_read) rules.force)
 
 abbrev pub put_command : App
 put_command = with_wait (with_rule (file_command (codes "put")) rules.expect_stamp)
@@ -127,7 +136,7 @@ with_stream_commands a =
 -- the commands on a store as a whole
 abbrev pub with_store_commands : App → App
 with_store_commands a =
-    under (under (under (under (under (under (under a init_command) import_command) drop_command) put_command)
+    under (under (under (under (under (under (under (under a init_command) import_command) drop_command) set_ref_command) put_command)
     gc_command) export_command) (file_command (codes "refs"))
 
 -- the commands that show objects
@@ -204,6 +213,12 @@ IsWait rows wait = IsNumber (codes "wait") rows wait
 abbrev pub AreTold : List Row → Bool → Bool → Type 0
 AreTold rows report explain = IsFlag (codes "report") rows report × IsFlag (codes "explain") rows explain
 
+-- a ref is set, or what standard input tells
+abbrev pub IsRefChange : List Row → Option RefChange → Type 0
+IsRefChange rows None = IsFlag (codes "stdin") rows true
+IsRefChange rows (Some change) = IsFlag (codes "stdin") rows false × (IsWord (codes "ref") rows change.name
+    × (IsWord (codes "new") rows change.new × IsOption (codes "old") rows change.old))
+
 abbrev pub IsForm : List Row → ExportForm → Type 0
 IsForm rows FullTree = IsFlag (codes "changes") rows false × IsFlag (codes "no-done") rows false
 IsForm rows (Changes done) = IsFlag (codes "changes") rows true × IsFlag (codes "no-done") rows (not done)
@@ -231,6 +246,8 @@ Says name rows (Push file push done report explain wait) = (name ≡ codes "impo
     × (AreTold rows report explain × (IsWord (codes "file") rows file × (IsWait rows wait × IsWord (codes "push") rows push))))
 Says name rows (Drop file refs stdin wait) = (name ≡ codes "drop") × (IsFlag (codes "stdin") rows stdin
     × (IsWord (codes "file") rows file × (AreAnyWords (codes "ref") rows refs.items × IsWait rows wait)))
+Says name rows (SetRef file change force wait) = (name ≡ codes "set-ref") × (IsRefChange rows change
+    × (IsFlag (codes "force") rows force × (IsWord (codes "file") rows file × IsWait rows wait)))
 Says name rows (Put file stamp wait) = (name ≡ codes "put") × (IsWord (codes "expect-stamp") rows stamp
     × (IsWord (codes "file") rows file × IsWait rows wait))
 Says name rows (Gc file report keep wait) = (name ≡ codes "gc") × (IsFlag (codes "report") rows report
@@ -259,7 +276,7 @@ stream_names = codes "blobs" ∷ codes "try" ∷ codes "check" ∷ codes "adapt"
 
 -- the commands on a store, without those with a list of words
 abbrev pub store_names : List Text
-store_names = codes "init" ∷ codes "import" ∷ codes "put" ∷ codes "gc" ∷ codes "export" ∷ codes "refs" ∷ codes "show" ∷ codes "ls"
+store_names = codes "init" ∷ codes "import" ∷ codes "set-ref" ∷ codes "put" ∷ codes "gc" ∷ codes "export" ∷ codes "refs" ∷ codes "show" ∷ codes "ls"
     ∷ codes "archive" ∷ codes "batch" ∷ []
 
 -- the name is none of these
@@ -293,6 +310,11 @@ HasNoForm rows = IsFlag (codes "changes") rows false × IsFlag (codes "no-done")
 -- --command stands beside --check
 abbrev pub HasNoBatchForm : List Row → Type 0
 HasNoBatchForm rows = IsFlag (codes "check") rows true × IsFlag (codes "command") rows true
+
+-- there is no --stdin, and neither a ref with what it becomes
+abbrev pub HasNoRefChange : List Row → Type 0
+HasNoRefChange rows = IsFlag (codes "stdin") rows false
+    × (first_of (codes "ref") rows ≡ None ⊎ (first_of (codes "new") rows ≡ None))
 
 -- the word asks for no format
 abbrev pub HasNoFormat : Option Text → Type 0

@@ -36,6 +36,7 @@ line_rows =
     -- a command that has an argument with a rule on another one
     ∷ record { words = codes "where" ∷ codes "3" ∷ []; taken = false }
     ∷ record { words = codes "drop" ∷ codes "a.gx" ∷ codes "refs/heads/main" ∷ []; taken = false }
+    ∷ record { words = codes "set-ref" ∷ codes "--stdin" ∷ codes "a.gx" ∷ []; taken = false }
     ∷ record { words = codes "export" ∷ codes "a.gx" ∷ []; taken = false }
     ∷ record { words = codes "log" ∷ codes "a.gx" ∷ codes "main" ∷ []; taken = false }
     ∷ record { words = codes "batch" ∷ codes "a.gx" ∷ []; taken = false }

@@ -16,7 +16,7 @@ use commands::command_line;
 use std::alloc::Global;
 use values::{
     FORCED_PUSH, any_words_of, batch_form_of, form_of, format_of, is_set, not_accepted, number_of,
-    option_of, text_of, unknown, word_of, words_of,
+    option_of, ref_change_of, text_of, unknown, word_of, words_of,
 };
 
 /// What `log` prints of each commit.
@@ -71,6 +71,14 @@ pub enum ExportForm {
     FullTree,
     /// What differs from its first parent. With `done` the stream begins with `feature done` and ends with `done`.
     Changes { done: bool },
+}
+
+/// What a ref is to be: its name, what it becomes, and what it has to be before, where that is given.
+#[derive(Clone, Copy, Debug, PartialEq, Eq)]
+pub struct RefChange<'a> {
+    pub name: &'a str,
+    pub new: &'a str,
+    pub old: Option<&'a str>,
 }
 
 /// A command with its options and words. Those that write a store file wait for another one that does: at most `wait`
@@ -131,6 +139,13 @@ pub enum Line<'a> {
         file: &'a str,
         refs: Vec<&'a str>,
         stdin: bool,
+        wait: Option<u64>,
+    },
+    /// A ref of a store is set or, where none is given, what standard input tells. With `force` branches may lose commits.
+    SetRef {
+        file: &'a str,
+        change: Option<RefChange<'a>>,
+        force: bool,
         wait: Option<u64>,
     },
     /// A whole store's text on standard input becomes the store, where that is still the file with this stamp.
@@ -287,6 +302,7 @@ fn file_line<'a>(
             wait: number_of(matches, "wait"),
         }),
         "import" => import_line(alloc, matches, file),
+        "set-ref" => set_ref_line(alloc, matches, file),
         "put" => Ok(Line::Put {
             file,
             stamp: word_of(alloc, matches, "expect-stamp")?,
@@ -362,6 +378,25 @@ fn import_line<'a>(
             wait,
         }),
     }
+}
+
+/// The line of `set-ref`.
+#[tactic(auto, unfolding(crate::specs::CommandLine::Says))]
+fn set_ref_line<'a>(
+    alloc: Global,
+    matches: &ArgMatches<'a>,
+    file: &'a str,
+) -> Result<Line<'a>, LineFault>
+    requires { first_of (codes "file") (rows_of (found_of matches.now)) ≡ Some file.now }
+    ensures line { IfOk result (λ line. say.Says (codes "set-ref") (rows_of (found_of matches.now)) line) }
+    ensures refused { IfErr result (say.IsRefused (codes "set-ref") (rows_of (found_of matches.now))) }
+{
+    Ok(Line::SetRef {
+        file,
+        change: ref_change_of(alloc, matches)?,
+        force: is_set(matches, "force"),
+        wait: number_of(matches, "wait"),
+    })
 }
 
 /// The line of an export. clap makes sure that `--no-done` and range words stand beside `--changes`.

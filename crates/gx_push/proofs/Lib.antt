@@ -1,6 +1,11 @@
 pub mod HeldCommits
 pub mod LostCommits
 pub mod OtherRefs
-pub mod ReadWants
+pub mod ReadLines
+pub mod KnownNames
+pub mod PassedNames
+pub mod ChangesMade
+pub mod SetFaults
+pub mod SetRefs
 pub mod SettledPushes
 pub mod VanishingRefs

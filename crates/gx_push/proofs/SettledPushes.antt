@@ -20,7 +20,8 @@ use Rattle.gx_push.specs.declared.fault.RefFault.TheVariants.{RefMoved}
 use Rattle.gx_push.specs.Calls.{SettlesRefs}
 use Rattle.gx_push.specs.Forward.{first_lost}
 use Rattle.gx_push.specs.Pushes.{Answer, PushesWanted, Retells, are_kept, pushed, settled, unless_refused, vanishing}
-use Rattle.gx_push.specs.Wants.{Refusal, Wanted, refs_of}
+use Rattle.gx_push.specs.Lines.{Refusal}
+use Rattle.gx_push.specs.Wants.{Wanted, refs_of}
 
 module _ (before : List Ref) (old : Records) (wants : List Wanted) (forward : first_lost old 1 wants ≡ None) where
   pub refs_settled : (new : Records) (names : List Bytes) → are_kept (refs_of wants) before old.refs ≡ true → names ≡ vanishing old.refs wants → new.records ≡ old.records → dropped names old.refs ≡ Ok new.refs

@@ -7,6 +7,8 @@ use Rattle.gx_push.specs.declared.fault.RefFault.{RefFault}
 use Rattle.gx_push.specs.declared.fault.RefFault.TheVariants.{BadLine, BadRefName, RefMoved, UnknownObject, WrongKind, NotFastForward}
 use Rattle.gx_push.specs.declared.fault.PushFault.{PushFault}
 use Rattle.gx_push.specs.declared.fault.PushFault.TheVariants.{Line, Import, OutOfMemory}
+use Rattle.gx_push.specs.declared.fault.SetFault.{SetFault}
+use Rattle.gx_push.specs.declared.fault.SetFault.TheVariants as set
 
 -- the word that a fault prints
 abbrev pub word : RefFault → Bytes
@@ -22,3 +24,8 @@ abbrev pub refusal : PushFault → Bytes
 refusal (Line number kind) = codes "line " ++ decimal number ++ codes ": " ++ word kind
 refusal (Import fault) = codes "command " ++ decimal fault.command ++ codes ": " ++ word_of fault.kind
 refusal OutOfMemory = codes "out of memory"
+
+-- the same where refs are set
+abbrev pub set_refusal : SetFault → Bytes
+set_refusal (set.Line number kind) = codes "line " ++ decimal number ++ codes ": " ++ word kind
+set_refusal set.OutOfMemory = codes "out of memory"

@@ -26,7 +26,8 @@ use Rattle.gx_push.specs.declared.fault.RefFault.TheVariants.{NotFastForward, Re
 use Rattle.gx_push.specs.declared.want.Fate.{Fate}
 use Rattle.gx_push.specs.declared.want.Fate.TheVariants.{Advance, Lose, Vanish}
 use Rattle.gx_push.specs.Forward.{first_lost}
-use Rattle.gx_push.specs.Wants.{Refusal, Wanted, refs_of, wants_in}
+use Rattle.gx_push.specs.Lines.{Refusal}
+use Rattle.gx_push.specs.Wants.{Wanted, refs_of, wants_in}
 
 -- two refs are one
 abbrev pub same_ref : Ref → Ref → Bool

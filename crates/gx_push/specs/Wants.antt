@@ -1,5 +1,5 @@
 -- What the lines of a push want of refs. Source: git-push(1), "--force-with-lease", "--force" and "--delete".
-use Rattle.std.specs.Prelude.{ℕ, ◌+◌, ◌==◌, if◌then◌else◌, List, [], ◌∷◌, ◌++◌, length, map, take, drop, replicate, Option, None, Some, Result, Ok, Err}
+use Rattle.std.specs.Prelude.{◌==◌, if◌then◌else◌, List, [], ◌∷◌, map, take, drop, replicate, Option, None, Some, Result, Ok, Err}
 use Rattle.std.specs.Option.{option_eq}
 use Rattle.std.specs.Borrow.{Bor}
 use Rattle.gx_model.specs.Objects.Naming.{name_in}
@@ -9,6 +9,7 @@ use Rattle.gx_object.specs.Parts.{bytes_if}
 use Rattle.gx_object.specs.declared.name.Name.{Name}
 use Rattle.gx_repo.specs.Dropping.{is_among}
 use Rattle.gx_repo.specs.Refs.{object_named}
+use Rattle.gx_push.specs.Lines.{Refusal, read_lines}
 use Rattle.gx_push.specs.declared.want.Fate.{Fate}
 use Rattle.gx_push.specs.declared.want.Fate.TheVariants.{Advance, Lose, Vanish}
 use Rattle.gx_push.specs.declared.want.Want.{Want}
@@ -52,13 +53,13 @@ want_in line = wanted (fate_in line).0 (value_in (take 40 (fate_in line).1)) (be
 
 -- ---- all lines
 
--- the line with this number, from 1, and what is against it
-abbrev pub Refusal : Type 0
-Refusal = ℕ × RefFault
+-- the ref that is told of
+abbrev pub ref_of : Wanted → Bytes
+ref_of want = want.ref
 
 -- the names of the refs that are told of
 abbrev pub refs_of : List Wanted → List Bytes
-refs_of = map (λ want. want.ref)
+refs_of = map ref_of
 
 -- what is wanted of a ref, where it is so
 abbrev pub unless_moved : List Ref → Wanted → Result Wanted RefFault
@@ -69,18 +70,13 @@ abbrev pub held_want : List Ref → List Bytes → Option Wanted → Result Want
 held_want refs names None = Err BadLine
 held_want refs names (Some want) = if is_among names want.ref then Err BadLine else unless_moved refs want
 
--- what lines want, behind those that want this, or the first that is refused
-abbrev pub wants_behind : List Ref → List Wanted → List Bytes → Result (List Wanted) Refusal
-wants_behind refs before [] = Ok before
-wants_behind refs before (l ∷ ls) =
-    elim (held_want refs (refs_of before) (want_in l)) [
-      | Ok want ↦ wants_behind refs (before ++ want ∷ []) ls
-      | Err fault ↦ Err (length before + 1, fault)
-    ]
+-- what a line wants of a ref that is none of these, and so as the line has it
+abbrev pub want_of : List Ref → List Bytes → Bytes → Result Wanted RefFault
+want_of refs names line = held_want refs names (want_in line)
 
 -- what lines want, or the first that is refused
 abbrev pub wants_in : List Ref → List Bytes → Result (List Wanted) Refusal
-wants_in refs lines = wants_behind refs [] lines
+wants_in refs lines = read_lines ref_of (want_of refs) lines
 
 -- ---- as the code has them
 

@@ -1,8 +1,9 @@
 //! Why refs aren't changed.
 
 ghost use Rattle.std.specs.Prelude.{◌≡◌, Some};
-ghost use Rattle.gx_push.specs.Faults.{refusal, word};
+ghost use Rattle.gx_push.specs.Faults.{refusal, set_refusal, word};
 ghost use Rattle.gx_push.specs.declared.fault.PushFault.TheVariants.{OutOfMemory};
+ghost use Rattle.gx_push.specs.declared.fault.SetFault.TheVariants.{OutOfMemory as no_set};
 
 use gx_import::ImportFault;
 use std::alloc::{AllocError, AllocFailed};
@@ -86,5 +87,41 @@ impl<T: Drop> From<AllocFailed<T>> for PushFault {
 
     fn from(_error: AllocFailed<T>) -> PushFault {
         PushFault::OutOfMemory
+    }
+}
+
+/// Why no ref is set.
+#[derive(Clone, Copy, Debug, PartialEq, Eq, Error)]
+pub enum SetFault {
+    /// The number of the line, from 1, and what is against it.
+    Line { number: u64, kind: RefFault },
+    /// A growth was refused.
+    OutOfMemory,
+}
+
+impl fmt::Display for SetFault {
+    ghost output = { λ fault. Some (set_refusal fault) };
+
+    fn fmt<W: fmt::Write>(&self, f: &mut fmt::Formatter<W>) -> fmt::Result {
+        match self {
+            SetFault::Line { number, kind } => write!(f, "line {number}: {kind}"),
+            SetFault::OutOfMemory => f.write_str("out of memory"),
+        }
+    }
+}
+
+impl From<AllocError> for SetFault {
+    ghost from_gives = { λ _ fault. fault ≡ no_set };
+
+    fn from(_error: AllocError) -> SetFault {
+        SetFault::OutOfMemory
+    }
+}
+
+impl<T: Drop> From<AllocFailed<T>> for SetFault {
+    ghost from_gives = { λ _ fault. fault ≡ no_set };
+
+    fn from(_error: AllocFailed<T>) -> SetFault {
+        SetFault::OutOfMemory
     }
 }

@@ -5,8 +5,13 @@
 mod fault;
 mod forward;
 mod pushing;
+mod setting;
+mod setting_refs;
+mod settings;
 mod want;
 mod wants;
 
-pub use fault::{PushFault, RefFault};
+pub use fault::{PushFault, RefFault, SetFault};
 pub use pushing::{Pushed, push};
+pub use setting_refs::set_refs;
+pub use want::{Fate, Want, want_in};

@@ -8,7 +8,7 @@ use gx_object::Name;
 
 /// What may become of a ref.
 #[derive(Clone, Copy, Debug, PartialEq, Eq)]
-pub(crate) enum Fate {
+pub enum Fate {
     /// It moves forward.
     Advance,
     /// It may lose commits.
@@ -19,16 +19,16 @@ pub(crate) enum Fate {
 
 /// The name of a ref, the object that it has to hold before, if any, and what may become of it.
 #[derive(Clone, Copy, Debug)]
-pub(crate) struct Want<'a> {
-    pub(crate) fate: Fate,
-    pub(crate) old: Option<Name>,
-    pub(crate) name: &'a [u8],
+pub struct Want<'a> {
+    pub fate: Fate,
+    pub old: Option<Name>,
+    pub name: &'a [u8],
 }
 
 /// What a line wants: a sign, where there is one, 40 digits, a space and a ref's name.
 ///
 /// Cost: 42 bytes. Takes no memory.
-pub(crate) fn want_in(line: &[u8]) -> Option<Want<'_>>
+pub fn want_in(line: &[u8]) -> Option<Want<'_>>
     ensures { option_map shown_want result ≡ want_in line.now }
 {
     let (fate, text) = fate_in(line);

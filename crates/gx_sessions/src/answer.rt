@@ -204,6 +204,7 @@ fn file_of<'a>(line: &Line<'a>) -> Option<&'a str> {
         | Line::Import { file, .. }
         | Line::Push { file, .. }
         | Line::Drop { file, .. }
+        | Line::SetRef { file, .. }
         | Line::Put { file, .. }
         | Line::Gc { file, .. }
         | Line::Export { file, .. }

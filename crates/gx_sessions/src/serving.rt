@@ -60,6 +60,7 @@ fn makes_text(line: &Line<'_>) -> bool {
             | Line::Import { .. }
             | Line::Push { .. }
             | Line::Drop { .. }
+            | Line::SetRef { .. }
             | Line::Put { .. }
             | Line::Gc { .. }
     )

@@ -8,7 +8,7 @@ use crate::streams::explanation::explained;
 use crate::streams::progress::{Beside, ProgressLine};
 use crate::streams::reports::{tell_changes, tell_import, tell_nameless, tell_typed_stream};
 use crate::streams::traced::Traced;
-use gx_cli::{CliFault, Explanation, Pushed, push_store};
+use gx_cli::{CliFault, Explanation, Pushed, push_store, refused_line};
 use gx_object::Sha1Namer;
 use gx_text::{FromRead, IntoWrite};
 use std::alloc::Global;
@@ -29,6 +29,9 @@ pub(crate) fn push(
     let store = next.read_store()?;
     tell_typed_stream(run);
     let (pushed, nameless) = push_shown(run, store, lines.as_slice(), done, report, state);
+    if let Err(CliFault::Push { number, .. }) = &pushed {
+        explain_line(run, &mut next, lines.as_slice(), *number, state);
+    }
     let pushed = pushed?;
     next.publish_store(&pushed.repo)?;
     drop(next);
@@ -63,4 +66,26 @@ fn push_shown(
     progress.clear();
     let nameless = input.trail().map_or(0, |trail| trail.nameless());
     (explained(run, &input, pushed, &told), nameless)
+}
+
+/// Keeps the line that tells what a refused line is about, should that be told. The store file, which no one has changed, is read
+/// once more for it.
+fn explain_line(
+    run: &Run<'_>,
+    next: &mut NextText<'_>,
+    lines: &[Vec<u8>],
+    number: u64,
+    state: RandomState,
+) {
+    if !run.explains() {
+        return;
+    }
+    let Some(line) = lines.get(number.saturating_sub(1) as usize) else {
+        return;
+    };
+    if let Ok(store) = next.read_store() {
+        if let Ok(told) = refused_line(run.rt.alloc(), Sha1Namer, store, line.as_slice(), state) {
+            run.explain(told);
+        }
+    }
 }

@@ -2,7 +2,7 @@
 
 use crate::fault::RunFault;
 use crate::run::Run;
-use crate::stores::{collect, drop_refs, import, init, push, put};
+use crate::stores::{collect, drop_refs, import, init, push, put, set_ref};
 use crate::streams::{Trial, adapt, answer_input, export, print, try_stream};
 use gx_cli::{CliFault, Features, Line};
 use std::hash::RandomState;
@@ -40,6 +40,7 @@ fn file_of<'a>(line: &Line<'a>) -> Option<&'a str> {
         | Line::Push { file, .. }
         | Line::Batch { file, .. }
         | Line::Drop { file, .. }
+        | Line::SetRef { file, .. }
         | Line::Put { file, .. }
         | Line::Gc { file, .. }
         | Line::Export { file, .. }
@@ -66,6 +67,7 @@ fn wait_of(line: &Line<'_>) -> Option<u64> {
         | Line::Import { wait, .. }
         | Line::Push { wait, .. }
         | Line::Drop { wait, .. }
+        | Line::SetRef { wait, .. }
         | Line::Put { wait, .. }
         | Line::Gc { wait, .. } => *wait,
         _ => None,
@@ -89,6 +91,12 @@ fn run_command(run: &Run<'_>, line: &Line<'_>, state: RandomState) -> Result<(),
             keep,
             ..
         } => collect(run, file, *keep, *report, state),
+        Line::SetRef {
+            file,
+            change,
+            force,
+            ..
+        } => set_ref(run, file, *change, *force, state),
         Line::Put { file, stamp, .. } => put(run, file, stamp, state),
         Line::Import {
             file,

@@ -148,6 +148,7 @@ fn with_store_commands<'a>(
     let gx = with_command(gx, init_command(alloc));
     let gx = with_command(gx, import_command(alloc));
     let gx = with_command(gx, drop_command(alloc));
+    let gx = with_command(gx, set_ref_command(alloc));
     let gx = with_command(gx, put_command(alloc));
     let gx = with_command(gx, gc_command(alloc));
     let gx = with_command(gx, export_command(alloc));
@@ -222,6 +223,49 @@ fn drop_command<'a>(alloc: Global) -> Result<Command<'a>, AllocError>
     );
     let dropping = with_argument(file_command(alloc, "drop", stores::DROP), refs);
     with_wait(alloc, with_argument(dropping, stdin))
+}
+
+fn set_ref_command<'a>(alloc: Global) -> Result<Command<'a>, AllocError>
+    ensures { say.Makes result say.set_ref_command }
+{
+    let stdin = flag(
+        alloc,
+        "stdin",
+        "Takes lines of git update-ref --stdin from standard input",
+    )
+    .conflicts_with("ref")?;
+    let force = flag(alloc, "force", "Refs may lose commits");
+    let changed = with_argument(changed_command(alloc), stdin);
+    with_wait(alloc, with_argument(changed, force))
+}
+
+/// `set-ref` with its words.
+fn changed_command<'a>(alloc: Global) -> Result<Command<'a>, AllocError>
+    ensures { say.Makes result say.changed_command }
+{
+    let name = any_word(
+        alloc,
+        "ref",
+        "REF",
+        "The name of a ref, as gx refs prints it",
+    )
+    .required_unless_present("stdin")?;
+    let new = any_word(
+        alloc,
+        "new",
+        "NEW",
+        "The 40 digits of what it becomes; forty zeros remove it",
+    )
+    .required_unless_present("stdin")?;
+    let old = any_word(
+        alloc,
+        "old",
+        "OLD",
+        "The 40 digits of what it is; forty zeros where there is none",
+    );
+    let changed = with_argument(file_command(alloc, "set-ref", stores::SET_REF), name);
+    let changed = with_argument(changed, new);
+    with_argument(changed, old)
 }
 
 fn put_command<'a>(alloc: Global) -> Result<Command<'a>, AllocError>

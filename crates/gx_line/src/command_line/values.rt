@@ -5,7 +5,7 @@ ghost use Rattle.clap.specs.Words.{all_of, first_of, found_of, rows_of};
 ghost use Rattle.gx_line.specs.CommandLine as say;
 ghost use Rattle.gx_line.specs.declared.fault.LineFault.TheVariants.{OutOfMemory};
 
-use super::{BatchForm, ExportForm, LogFormat};
+use super::{BatchForm, ExportForm, LogFormat, RefChange};
 use crate::LineFault;
 use clap::ArgMatches;
 use std::alloc::Global;
@@ -102,6 +102,24 @@ pub(super) fn batch_form_of(matches: &ArgMatches<'_>) -> Option<BatchForm>
     } else {
         Some(BatchForm::Bytes)
     }
+}
+
+/// The ref that is set, where standard input isn't to tell. clap makes sure that it is given, with what it becomes.
+pub(super) fn ref_change_of<'a>(
+    alloc: Global,
+    matches: &ArgMatches<'a>,
+) -> Result<Option<RefChange<'a>>, LineFault>
+    ensures change { IfOk result (λ change. say.IsRefChange (rows_of (found_of matches.now)) change) }
+    ensures missing { IfErr result (say.HasCause (say.HasNoRefChange (rows_of (found_of matches.now)))) }
+{
+    if is_set(matches, "stdin") {
+        return Ok(None);
+    }
+    Ok(Some(RefChange {
+        name: word_of(alloc, matches, "ref")?,
+        new: word_of(alloc, matches, "new")?,
+        old: option_of(matches, "old"),
+    }))
 }
 
 /// The format that a list of commits is asked for in.

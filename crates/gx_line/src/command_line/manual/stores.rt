@@ -61,6 +61,9 @@ Output:
                                a merge or an M asks for in vain
     gx: REF: from OLD to NEW   the ref that would lose a commit, its commit and
                                the one to which it would move
+    gx: REF: expected OLD, found NOW
+                               the ref of the line of F that is refused, its OLD
+                               there, and what FILE has: forty zeros for none
   TEXT and PATH are printed as gx ls prints a path.
 
 Refusals, each of which leaves FILE as it was but for those checkpoints:
@@ -106,6 +109,45 @@ Refusals, each of which leaves FILE as it was:
   gx: revision N: UnknownRef
                         the Nth REF is no ref's name, or is given before:
                         those of the command line first
+  gx: write failed
+  gx: out of memory",
+};
+
+/// The page of `set-ref`.
+pub(crate) const SET_REF: Page = Page {
+    about: "Sets refs of a store",
+    description: "\
+Sets a ref of a store to an object that the store has, or removes it.
+
+NEW and OLD are 40 digits, as gx refs prints them. Forty zeros as NEW remove the
+ref. Where OLD is given, the ref has to be that, and with forty zeros there may
+be none. A ref only moves forward: its new commit has to be the old one or a
+descendant of it, unless --force is given. The next store is written to
+FILE.new, which then takes the place of FILE.
+
+With --stdin each line of standard input is a change, as git update-ref --stdin
+has them, and all are made, or none:
+  update REF NEW [OLD]  as above
+  create REF NEW        there may be no such ref
+  delete REF [OLD]      the ref is removed, where it is there
+  verify REF [OLD]      the ref stays. Without OLD there may be none",
+    details: "\
+Output:
+  None.
+
+Refusals, each of which leaves FILE as it was:
+  gx: read failed       FILE or standard input can't be read
+  gx: lock failed       as gx --help has it
+  gx: store: KIND       as gx --help has it
+  gx: ref N: KIND       the Nth change, from 1. KIND is
+                        BadLine         it isn't such a change, or its ref is
+                                        given before
+                        BadRefName      REF is no name of a ref
+                        RefMoved        the ref isn't OLD
+                        UnknownObject   the store has no object NEW
+                        WrongKind       NEW is neither a commit nor a tag whose
+                                        own name makes REF
+                        NotFastForward  the ref would lose commits
   gx: write failed
   gx: out of memory",
 };

@@ -5,7 +5,7 @@ use Rattle.gx_push.specs.Forward.{first_lost}
 use Rattle.gx_push.specs.Pushes.{are_kept, vanishing}
 use Rattle.gx_push.specs.Wants.{refs_of, shown_wants}
 use Rattle.gx_push.proofs.SettledPushes.{refs_settled}
-use Rattle.gx_push.proofs.VanishingRefs.{all_known}
+use Rattle.gx_push.proofs.VanishingRefs.{all_vanish}
 use Rattle.gx_push.proofs.pushing.settle.Goals as goal
 
 pub returns-in-Ok-clause-settled : goal.returns-in-Ok-clause-settled
@@ -22,5 +22,5 @@ unreachable-requires g c =
     let wants = shown_wants c.args.wants.now.list.items in
     let old = c.args.repo.now.1 in
     let names = ap lent_texts c.as_slice-3.ensures.value ∙ c.in_ok-names.ensures ∙ ap (λ ws. vanishing old.refs (shown_wants ws)) c.as_slice-2.ensures.value in
-    all_known old.refs c.args.before.now c.requires.0 wants c.requires.1.list (lent_texts c.as_slice-3.result.now) names c.in-Err-UnknownRef.field-0-0
+    all_vanish old.refs c.args.before.now c.requires.0 wants c.requires.1.list (lent_texts c.as_slice-3.result.now) names c.in-Err-UnknownRef.field-0-0
     (subst (λ fault. Drops old.refs c.drop_refs.new.self.1.refs (lent_texts c.as_slice-3.result.now) (Err fault)) c.in-Err-UnknownRef.field-0-is c.in-Err-UnknownRef.ensures.refs)

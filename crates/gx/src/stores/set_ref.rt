@@ -1,0 +1,27 @@
+//! Refs of a store file that are set.
+
+use super::next_text::NextText;
+use crate::fault::RunFault;
+use crate::run::Run;
+use crate::streams::devices::Noted;
+use gx_cli::{RefChange, set_store};
+use gx_object::Sha1Namer;
+use gx_text::FromRead;
+use std::hash::RandomState;
+
+/// Sets a ref of a store file, or those that standard input tells; all of them, or the file stays as it was.
+pub(crate) fn set_ref(
+    run: &Run<'_>,
+    file: &str,
+    change: Option<RefChange<'_>>,
+    force: bool,
+    state: RandomState,
+) -> Result<(), RunFault> {
+    let mut next = NextText::claim_next(run, file)?;
+    let store = next.read_store()?;
+    let source = FromRead::new(Noted::input(run));
+    let alloc = run.rt.alloc();
+    let left = set_store(alloc, Sha1Namer, store, change, source, force, state)?;
+    next.publish_store(&left)?;
+    Ok(())
+}

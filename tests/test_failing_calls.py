@@ -11,7 +11,7 @@ import shutil
 import subprocess
 import sys
 from collections import Counter
-from collections.abc import Callable, Iterator
+from collections.abc import Callable
 from dataclasses import dataclass, field
 from pathlib import Path
 from types import ModuleType
@@ -27,8 +27,9 @@ access chdir chmod clone close dup dup2 execve fchmod fchown fcntl flock fstat f
 getdents64 link lseek mkdir mkdirat mmap newfstatat openat pipe2 poll pread64 read readlink rename
 renameat2 rmdir statx symlink unlink unlinkat utimensat vfork wait4 write
 """.split()
+Call = tuple[str, int]
 ERRORS = ("EIO", "ENOSPC", "EACCES", "EINTR", "ENOMEM")
-TIME = 60  # seconds that a run may take
+TIME = 600  # seconds that a run may take, on a busy machine
 CHANGE = """
 import sys
 from ginlarch import Repository
@@ -67,28 +68,27 @@ class Door:
     is_noted: Callable[[Path], bool] = lambda store: True
     before: bytes = b""
     after: bytes = b""
-    # of each kind of call the times that a process makes it: all of them, and on the store's paths
-    times: dict[bool, Counter[str]] = field(default_factory=dict)
+    # the kinds of calls, with how many such a process has made by then: all, and those on the store
+    calls: list[Call] = field(default_factory=list)
+    near: list[Call] = field(default_factory=list)
 
     @property
     def store(self) -> Path:
         return self.folder / "world/s.gx"
+
+    @property
+    def next(self) -> Path:
+        return self.folder / "world/s.gx.new"
 
     def fresh(self) -> None:
         shutil.rmtree(self.folder / "world", ignore_errors=True)
         shutil.copytree(self.folder / "template", self.folder / "world", symlinks=True)
         (self.folder / "world/tmp").mkdir()
 
-    def paths(self) -> list[str]:
-        endings = ("", ".new", ".dropped", ".dropped.new", ".HEAD", ".HEAD.new")
-        return [f"-P{self.store}{ending}" for ending in endings] + [f"-P{self.store.parent}"]
-
-    def run(self, *injected: str, is_near: bool) -> Done:
+    def run(self, *traced: str) -> Done:
         """A run under strace, with its log."""
         counted["programs run"] += 1
-        calls = f"trace={','.join(f'?{call}' for call in CALLS)}"
-        near = self.paths() if is_near else ["--seccomp-bpf"]
-        strace = ["strace", "-f", "-qq", "-o", self.folder / "log", *near, "-e", calls, *injected]
+        strace = ["strace", "-f", "--seccomp-bpf", "-qq", "-o", self.folder / "log", *traced]
         how = {"env": self.environment, "cwd": self.folder / "world", "start_new_session": True}
         pipe = subprocess.PIPE
         child = subprocess.Popen(
@@ -103,31 +103,28 @@ class Door:
 
     def learn(self) -> None:
         """What a run leaves of which no call fails, and what calls there are."""
-        for is_near in (False, True):
-            self.fresh()
-            self.before = self.store.read_bytes()
-            done = self.run(is_near=is_near)
-            assert done.status == 0, done
-            self.after = self.store.read_bytes()
-            made = Counter(re.findall(r"(?m)^([0-9]+) +([a-z0-9_]+)\(", self.log()))
-            self.times[is_near] = Counter()
-            for (_, call), count in made.items():
-                self.times[is_near][call] = max(self.times[is_near][call], count)
+        self.fresh()
+        self.before = self.store.read_bytes()
+        done = self.run("-y", "-e", f"trace={','.join(f'?{call}' for call in CALLS)}")
+        assert done.status == 0, done
+        self.after = self.store.read_bytes()
         assert self.before != self.after
+        made: Counter[tuple[str, str]] = Counter()
+        calls, near = set(), set()
+        for process, call, words in re.findall(r"(?m)^([0-9]+) +([a-z0-9_]+)\((.*)", self.log()):
+            made[process, call] += 1
+            calls.add((call, made[process, call]))
+            if self.store.name in words:
+                near.add((call, made[process, call]))
+        self.calls, self.near = sorted(calls), sorted(near)
 
     def log(self) -> str:
         return (self.folder / "log").read_text(errors="replace")
 
-    def faults(self, randoms: random.Random) -> Iterator[tuple[str, bool]]:
-        """Calls that are to fail, without an end: as many near the store as others."""
-        while True:
-            is_near = randoms.random() < 0.5
-            call = randoms.choice(sorted(self.times[is_near]))
-            # the last times are as likely as the first
-            time = randoms.randint(1, self.times[is_near][call])
-            if randoms.random() < 0.5:
-                time = min(time, randoms.randint(1, 12))
-            yield f"inject={call}:error={randoms.choice(ERRORS)}:when={time}", is_near
+    def fault(self, randoms: random.Random) -> str:
+        """A call that is to fail: as many on the store as others."""
+        call, time = randoms.choice(randoms.choice((self.near, self.calls)))
+        return f"inject={call}:error={randoms.choice(ERRORS)}:when={time}"
 
     def verdict(self, done: Done) -> str:
         """What came of a run."""
@@ -136,8 +133,11 @@ class Door:
             return "bad: neither before nor after"
         if done.status == 0 and text == self.before:
             return "bad: not done, and told as done"
-        if (self.store.parent / "s.gx.new").exists():
-            return "bad: s.gx.new is left"
+        if self.next.exists():
+            # gx was killed, as where Python can't read what it says: the next run removes it
+            self.run("-e", "trace=none")
+            text, left = self.store.read_bytes(), self.next.exists()
+            return "bad: not made good" if left or text != self.after else "made good"
         if text == self.after and not self.is_noted(self.store):
             return "bad: what went isn't noted"
         if done.status and text == self.after:
@@ -149,23 +149,24 @@ def tried(door: Door, count: int, randoms: random.Random) -> Counter[str]:
     """Runs with so many faults, and how many came to what."""
     door.learn()
     verdicts: Counter[str] = Counter()
-    for fault, is_near in door.faults(randoms):
-        if sum(verdicts.values()) >= count:
-            break
+    while sum(verdicts.values()) < count:
         door.fresh()
+        fault = door.fault(randoms)
         try:
-            done = door.run("-e", fault, is_near=is_near)
+            done = door.run("-e", f"trace={fault[7:].partition(':')[0]}", "-e", fault)
         except subprocess.TimeoutExpired:
             verdicts["bad: hangs"] += 1
-            print(fault, is_near, "hangs")
+            print(fault, "hangs")
             continue
-        if "(INJECTED)" in door.log():
-            verdict = door.verdict(done)
-            verdicts[verdict] += 1
-            if verdict not in ("before", "after"):
-                said = (done.out + done.err).decode(errors="replace").strip()[-300:]
-                print(f"{fault} near={is_near}: {verdict}, status {done.status}: {said!r}", flush=True)
-    print(f"{door.words[0]}: {dict(verdicts)}", flush=True)
+        if "(INJECTED)" not in door.log():
+            continue
+        verdict = door.verdict(done)
+        verdicts[verdict] += 1
+        if verdict not in ("before", "after"):
+            said = (done.out + done.err).decode(errors="replace").strip()[-300:]
+            print(f"{fault}: {verdict}, status {done.status}: {said!r}", flush=True)
+        if sum(verdicts.values()) % 20 == 0:
+            print(f"{len(door.calls)} calls, {len(door.near)} near: {dict(verdicts)}", flush=True)
     return verdicts
 
 

@@ -4,7 +4,6 @@ pub mod ReadFronts
 pub mod ReadSegments
 pub mod ReadTexts
 pub mod RowTests
-pub mod RunLines
 pub mod SortedRows
 pub mod StandingRuns
 pub mod TextLengths

@@ -1,6 +1,6 @@
 -- What is read of a growing text in front of its rows is spelled so: its head, and the segments up to the end that the picked slot says.
-use Rattle.std.proofs.Common.{◌≡◌, ℕ, suc, ◌+◌, ◌-◌, ◌≤◌, true, refl, sym, ap, subst, ◌∙◌, List, [], ◌∷◌, ◌++◌, length, take, drop, Some, Ok, codes, arith, append_assoc, length-append, eqb→eq}
-use Rattle.std.specs.Prelude.{nat_eq, nat_le}
+use Rattle.std.proofs.Common.{◌≡◌, ℕ, suc, ◌+◌, ◌-◌, ◌≤◌, ◌<◌, Bool, true, false, cond, refl, sym, ap, subst, ◌∙◌, List, [], ◌∷◌, ◌++◌, length, take, drop, Option, Some, Ok, codes, arith, append_assoc, length-append, eqb→eq}
+use Rattle.std.specs.Prelude.{T, nat_eq, nat_le}
 use Rattle.std.specs.Bool.{passes}
 use Rattle.std.specs.List.{flat_map}
 use Rattle.std.specs.Option.{ok_or}
@@ -12,13 +12,14 @@ use Rattle.gx_model.specs.Texts.{Bytes, same_bytes}
 use Rattle.gx_model.specs.Texts.Numbers.{number_text}
 use Rattle.gx_model.specs.Faults.{◌>>=◌}
 use Rattle.gx_model.specs.Objects.{IsNamer, line}
+use Rattle.gx_model.specs.Histories.{Record, Records}
 use Rattle.gx_model.specs.Records.Sound.{IsSound}
 use Rattle.gx_model.specs.Stores.StoreReading.{Stored, after_word, only_if, stored_body, stored_line}
-use Rattle.gx_model.proofs.Texts.PathTests.{same_is}
-use Rattle.gx_model.proofs.Stores.StoreTexts.{body_of, body_read, both_steps, if_there, line_of, line_text, ok_is, unless_holds, word_line_read, word_of}
-use Rattle.gx_growing.specs.GrowingText.{AreSegments, IsHead, Run, Segment, Slot, head_length, head_text, picked, placed_rows, records_of, segment_text, tail_text}
+use Rattle.gx_model.proofs.Texts.PathTests.{is_same, is_true, same_is}
+use Rattle.gx_model.proofs.Stores.StoreTexts.{body_of, body_read, both_steps, if_there, line_of, line_text, ok_is, unless_holds, word_line_read, word_of, word_read}
+use Rattle.gx_growing.specs.GrowingText.{AreSegments, IsHead, Row, Run, Segment, Slot, head_length, head_text, picked, placed_rows, records_of, segment_text, tail_text}
 use Rattle.gx_growing.specs.GrowingReading.{Front, after_third, front_of, head_of, next_segments, no_front, place_of, slot_in, slots_of}
-use Rattle.gx_growing.proofs.ReadSegments.{segments_of_text}
+use Rattle.gx_growing.proofs.ReadSegments.{AreRead, segments_of_text}
 
 -- ---- the head
 
@@ -148,6 +149,18 @@ head_read pick first second rest slot h k l =
 
 -- ---- the segments
 
+-- a line has a byte or more
+line_some : (w x : Bytes) → 1 ≤ length (line w x)
+line_some w x = let a = length-append (w ++ 32 ∷ x) (10 ∷ []) in omega arith
+
+-- so has a text that begins with one
+some : (l rest : Bytes) → 1 ≤ length l → 1 ≤ length (l ++ rest)
+some l rest h = let a = length-append l rest in omega arith
+
+-- a tail has a byte or more
+tail_some : (runs : List Run) (refs : List (Bytes × Bytes)) → 1 ≤ length (tail_text runs refs)
+tail_some runs refs = some (line (codes "runs") (number_text (length runs))) _ (line_some (codes "runs") (number_text (length runs)))
+
 module _ (name : Kind → Bytes → Bytes) where
   -- a head and segments are read, which the picked slot tells
   pub record IsFront (text : Bytes) (x : Slot × Front) : Type 0 where
@@ -175,19 +188,12 @@ module _ (name : Kind → Bytes → Bytes) where
   no_records = record { named = tt; distinct = tt; linked = tt; paths = tt; sorted = refl; ref_names = refl; held = tt }
 
   -- what is read once the segments are
-  abbrev begun_rest : Slot → Front → Stored (Slot × Front)
+  abbrev pub begun_rest : Slot → Front → Stored (Slot × Front)
   begun_rest slot front = only_if (nat_eq (place_of slot.ends front.tail) slot.tail) fault.BadRecord >>= λ u. Ok (slot, front)
 
   -- what is read once the head is
   abbrev pub segments_rest : Slot × Bytes → Stored (Slot × Front)
   segments_rest head = next_segments name head.0.ends head.0.ends no_front (take (head.0.ends - head_length) head.1) >>= begun_rest head.0
-
-  -- a tail has a byte or more
-  tail_some : (runs : List Run) (refs : List (Bytes × Bytes)) → 1 ≤ length (tail_text runs refs)
-  tail_some runs refs = by (line (codes "runs") (number_text (length runs))) _ (length-append (codes "runs") (32 ∷ (number_text (length runs) ++ 10 ∷ [])))
-    where
-      by : (l rest : Bytes) → length l ≡ 4 + suc (length (number_text (length runs) ++ 10 ∷ [])) → 1 ≤ length (l ++ rest)
-      by l rest e = let a = length-append l rest in omega arith
 
   -- what is read in front of the rows is its text
   pub front_is : IsNamer name → (text : Bytes) (x : Slot × Front) → front_of name text ≡ Ok x → IsFront text x

@@ -1,28 +1,38 @@
 -- What is read of a growing text in front of its rows is spelled so: the segments, one behind the other.
-use Rattle.std.proofs.Common.{◌≡◌, ℕ, zero, suc, ◌+◌, ◌-◌, ◌≤◌, Bool, true, false, cond, refl, sym, ap, subst, ◌∙◌, List, [], ◌∷◌, ◌++◌, length, drop, None, Ok, codes, arith, append_assoc, append-nil, length-append, eqb→eq}
-use Rattle.std.specs.Prelude.{nat_eq}
+use Rattle.std.proofs.Common.{◌≡◌, ℕ, zero, suc, ◌+◌, ◌-◌, ◌≤◌, ◌<◌, Bool, true, false, cond, refl, sym, ap, subst, ◌∙◌, List, [], ◌∷◌, ◌++◌, length, take, drop, None, Ok, codes, arith, append_assoc, append-nil, length-append, eqb→eq}
+use Rattle.std.specs.Prelude.{T, nat_eq, IsTrue}
 use Rattle.std.specs.Bool.{passes}
 use Rattle.std.specs.List.{AllByRecursion, flat_map}
 use Rattle.std.proofs.lemmas.List.{drop_at}
 use Rattle.gx_model.specs.declared.objects.Kind.{Kind}
+use Rattle.gx_model.specs.declared.store_faults.FileFault.TheVariants as fault
 use Rattle.gx_model.specs.declared.store_versions.Version.TheVariants.{Two}
-use Rattle.gx_model.specs.Texts.{Bytes}
+use Rattle.gx_model.specs.Texts.{Bytes, same_bytes}
 use Rattle.gx_model.specs.Texts.Numbers.{number_text}
 use Rattle.gx_model.specs.Faults.{◌>>=◌}
 use Rattle.gx_model.specs.Objects.{IsNamer, line}
 use Rattle.gx_model.specs.Histories.{Record, Records}
 use Rattle.gx_model.specs.Records.Sound.{IsSound}
 use Rattle.gx_model.specs.Stores.StoreText.{stored_record, stored_ref}
-use Rattle.gx_model.specs.Stores.StoreReading.{Stored, next_records, next_refs, stored_body, stored_count}
-use Rattle.gx_model.proofs.Texts.PathTests.{is_true}
-use Rattle.gx_model.proofs.Stores.StoreTexts.{body_of, both_steps, count_of, ok_is}
+use Rattle.gx_model.specs.Stores.StoreReading.{Stored, next_records, next_refs, only_if, stored_body, stored_count, stored_line}
+use Rattle.gx_model.proofs.Texts.PathTests.{is_true, same_is}
+use Rattle.gx_model.proofs.Stores.StoreTexts.{body_of, both_steps, count_of, line_of, ok_is, unless_holds}
 use Rattle.gx_model.proofs.Stores.StoredRecords.{records_of_text}
 use Rattle.gx_model.proofs.Stores.StoredRefs.{refs_of_text, targets_of}
-use Rattle.gx_growing.specs.GrowingText.{AreSegments, IsRun, IsSegment, Run, Segment, first_place, placed, placed_rows, records_of, run_text, segment_text, table_length, tail_text}
+use Rattle.gx_growing.specs.GrowingText.{AreSegments, IsRun, IsSegment, Row, Run, Segment, first_place, placed, placed_rows, records_of, run_text, segment_text, table_length, tail_text}
 use Rattle.gx_growing.specs.GrowingReading.{Front, after_end, next_runs, next_segment, next_segments, next_tail, with_places}
-use Rattle.gx_growing.proofs.RunLines.{after_end_of, runs_of_text}
+use Rattle.gx_growing.proofs.Fields.{next_runs_of}
 
 -- ---- tails
+
+-- what is read as the last line is `end` and an LF
+pub after_end_of : (text rest : Bytes) → after_end text ≡ Ok rest → text ≡ (codes "end" ++ 10 ∷ []) ++ rest
+after_end_of text rest e =
+    let p = both_steps (stored_line text) (λ l. only_if (same_bytes l.0 (codes "end")) fault.BadRecord >>= λ u. Ok l.1) rest e in
+    let w = both_steps (only_if (same_bytes p.0.0 (codes "end")) fault.BadRecord) (λ u. Ok p.0.1) rest p.2 in
+    let word = same_is p.0.0 (codes "end") (passes _ (unless_holds (same_bytes p.0.0 (codes "end")) fault.BadRecord w.0 w.1)) in
+    let same : p.0.1 ≡ rest = ok_is p.0.1 rest w.2 in
+    line_of text p.0 p.1 ∙ (λ i. word i ++ 10 ∷ same i)
 
 -- five texts in a row and one behind them, grouped to the right
 five : (a b c d e r : Bytes) → (a ++ (b ++ (c ++ (d ++ e)))) ++ r ≡ a ++ (b ++ (c ++ (d ++ (e ++ r))))
@@ -68,7 +78,7 @@ module _ (name : Kind → Bytes → Bytes) (records : List Record) where
       let c = both_steps (stored_count (codes "refs") b.0.1) (tail_named b.0.0) x b.2 in
       let d = both_steps (next_refs c.0.0 records None c.0.1) (tail_ended b.0.0) x c.2 in
       let f = both_steps (after_end d.0.1) (λ rest. Ok ((b.0.0, d.0.0), rest)) x d.2 in
-      let r = runs_of_text a.0.0 a.0.1 b.0 b.1 in
+      let r = next_runs_of a.0.0 a.0.1 b.0 b.1 in
       let s = refs_of_text records c.0.0 None c.0.1 d.0 d.1 in
       let same : ◌≡◌ {A = Tail} ((b.0.0, d.0.0), f.0) x = ok_is ((b.0.0, d.0.0), f.0) x f.2 in
       let spelled : text ≡ tail_text b.0.0 d.0.0 ++ f.0 =
@@ -88,7 +98,7 @@ module _ (name : Kind → Bytes → Bytes) (records : List Record) where
         ref_names = is_true _ s.named;
         held = targets_of records i.linked d.0.0 s.targets;
       } in
-      subst (IsTail text) same (record { spelled = spelled; runs = r.told; sound = sound })
+      subst (IsTail text) same (record { spelled = spelled; runs = r.runs; sound = sound })
 
 -- ---- segments
 
@@ -101,6 +111,17 @@ pub segment_flat : (s : Segment) (rest : Bytes) → segment_text s ++ rest
     ≡ line (codes "objects") (number_text (length s.records)) ++ (flat_map (stored_record Two) s.records ++ (line (codes "rows") (number_text s.count) ++ (s.table ++ (10 ∷ (tail_text s.runs s.refs ++ rest)))))
 segment_flat s rest =
     four (line (codes "objects") (number_text (length s.records))) (flat_map (stored_record Two) s.records) (line (codes "rows") (number_text s.count)) s.table (tail_text s.runs s.refs) rest
+
+-- a segment ends with its tail
+pub tail_last : (s : Segment) → (front : Bytes) × (segment_text s ≡ front ++ tail_text s.runs s.refs)
+tail_last s =
+    let o = line (codes "objects") (number_text (length s.records)) in
+    let f = flat_map (stored_record Two) s.records in
+    let r = line (codes "rows") (number_text s.count) in
+    (o ++ (f ++ (r ++ (s.table ++ 10 ∷ []))), sym (last o f r s.table (tail_text s.runs s.refs)))
+  where
+    last : (o f r t tail : Bytes) → (o ++ (f ++ (r ++ (t ++ 10 ∷ [])))) ++ tail ≡ o ++ (f ++ (r ++ (t ++ (10 ∷ tail))))
+    last o f r t tail = simp append_assoc
 
 module _ (name : Kind → Bytes → Bytes) (ends : ℕ) where
   -- what is read once a tail is
@@ -176,6 +197,7 @@ module _ (name : Kind → Bytes → Bytes) (ends : ℕ) where
         refs = refl;
       } in
       subst (IsOneSegment seen text) (ok_is given x f.2) is
+
   -- segments are read up to the end of a text, and the last one's tail ends it
   pub record AreRead (seen : Front) (text : Bytes) (front : Front) : Type 0 where
     pub before : List Segment
@@ -194,17 +216,6 @@ module _ (name : Kind → Bytes → Bytes) (ends : ℕ) where
   no_bytes : (x : Bytes) → nat_eq (length x) 0 ≡ true → x ≡ []
   no_bytes [] e = refl
   no_bytes (b ∷ bs) e = let n : length (b ∷ bs) ≡ 0 = eqb→eq (length (b ∷ bs)) 0 (passes _ e) in absurd (omega arith)
-
-  -- a segment ends with its tail
-  pub tail_last : (s : Segment) → (front : Bytes) × (segment_text s ≡ front ++ tail_text s.runs s.refs)
-  tail_last s =
-      let o = line (codes "objects") (number_text (length s.records)) in
-      let f = flat_map (stored_record Two) s.records in
-      let r = line (codes "rows") (number_text s.count) in
-      (o ++ (f ++ (r ++ (s.table ++ 10 ∷ []))), sym (last o f r s.table (tail_text s.runs s.refs)))
-    where
-      last : (o f r t tail : Bytes) → (o ++ (f ++ (r ++ (t ++ 10 ∷ [])))) ++ tail ≡ o ++ (f ++ (r ++ (t ++ (10 ∷ tail))))
-      last o f r t tail = simp append_assoc
 
   -- a sound repository without its refs
   alone : (rs : List Record) (refs : List (Bytes × Bytes)) → IsSound name (record { records = rs; refs = refs }) → IsSound name (record { records = rs; refs = [] })

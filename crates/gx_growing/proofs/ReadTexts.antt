@@ -25,6 +25,8 @@ use Rattle.gx_growing.specs.declared.fault.GrowingFault.TheVariants.{BadRows}
 use Rattle.gx_growing.specs.GrowingText.{AreSegments, IsGrowingText, IsDigester, IsHead, IsRun, IsSegment, Run, Segment, Slot, first_place, head_length, head_text, is_digest, picked, placed, placed_rows, records_of, run_text, segment_text, slot_text, table_length, tail_text}
 use Rattle.gx_growing.specs.GrowingReading.{Front, Grown, after_end, after_third, front_of, grown_of, has_rows, head_of, lifted, next_runs, next_segment, next_segments, next_tail, no_front, place_of, slot_in, slots_of, with_places, with_rows}
 use Rattle.gx_growing.proofs.Fields.{AreFields, next_runs_read, slot_read}
+use Rattle.gx_growing.proofs.ReadFronts.{head_long, head_read}
+use Rattle.gx_growing.proofs.ReadSegments.{segment_flat, tail_flat}
 use Rattle.gx_growing.proofs.RowTests.{are_rows, are_standing}
 use Rattle.gx_growing.proofs.TextLengths.{back_short, front_short, many_bytes, segment_short, segment_some, tail_counts}
 
@@ -52,14 +54,6 @@ runs_rest records runs = stored_count (codes "refs") runs.1 >>= refs_rest record
 -- what is read once the runs are counted
 abbrev runs_count : List Record → ℕ × Bytes → Stored ((List Run × List (Bytes × Bytes)) × Bytes)
 runs_count records count = next_runs count.0 count.1 >>= runs_rest records
-
--- a tail and what follows it, grouped to the right
-tail_flat : (runs : List Run) (refs : List (Bytes × Bytes)) (rest : Bytes)
-    → tail_text runs refs ++ rest ≡ line (codes "runs") (number_text (length runs)) ++ (flat_map run_text runs ++ (line (codes "refs") (number_text (length refs)) ++ (flat_map stored_ref refs ++ (codes "end" ++ 10 ∷ rest))))
-tail_flat runs refs rest = grouped (line (codes "runs") (number_text (length runs))) (flat_map run_text runs) (line (codes "refs") (number_text (length refs))) (flat_map stored_ref refs) (codes "end") rest
-  where
-    grouped : (a b c d e r : Bytes) → (a ++ (b ++ (c ++ (d ++ (e ++ 10 ∷ []))))) ++ r ≡ a ++ (b ++ (c ++ (d ++ (e ++ 10 ∷ r))))
-    grouped a b c d e r = simp append_assoc
 
 module _ (name : Kind → Bytes → Bytes) (namer : IsNamer name) where
   -- a tail whose refs are a repository's is read
@@ -113,12 +107,6 @@ module _ (name : Kind → Bytes → Bytes) (namer : IsNamer name) where
     -- a segment's text behind its first line
     abbrev behind_objects : Segment → Bytes → Bytes
     behind_objects s rest = flat_map (stored_record Two) s.records ++ (line (codes "rows") (number_text s.count) ++ (s.table ++ 10 ∷ (tail_text s.runs s.refs ++ rest)))
-
-    segment_flat : (s : Segment) (rest : Bytes) → segment_text s ++ rest ≡ line (codes "objects") (number_text (length s.records)) ++ behind_objects s rest
-    segment_flat s rest = grouped (line (codes "objects") (number_text (length s.records))) (flat_map (stored_record Two) s.records) (line (codes "rows") (number_text s.count)) s.table (tail_text s.runs s.refs) rest
-      where
-        grouped : (a b c d t r : Bytes) → (a ++ (b ++ (c ++ (d ++ (10 ∷ t))))) ++ r ≡ a ++ (b ++ (c ++ (d ++ 10 ∷ (t ++ r))))
-        grouped a b c d t r = simp append_assoc
 
     -- the first record of a segment stands behind its first line
     first_there : (s : Segment) (rest : Bytes) (place : ℕ) → ends ≡ place + length (segment_text s ++ rest) → place_of ends (behind_objects s rest) ≡ first_place place s.records
@@ -212,95 +200,6 @@ module _ (name : Kind → Bytes → Bytes) (namer : IsNamer name) where
         next_place : (e p s r t : ℕ) → e ≡ p + t → t ≡ s + r → e ≡ (p + s) + r
         next_place e p s r t a b = omega arith
 
--- ---- the head
-
--- a body of this length before an LF is read
-body_at : (n : ℕ) (b rest : Bytes) → length b ≡ n → stored_body n (b ++ 10 ∷ rest) ≡ Ok (b, rest)
-body_at n b rest e = ap (λ m. stored_body m (b ++ 10 ∷ rest)) (sym e) ∙ body_read b rest
-
--- what is read in the first line
-abbrev third_rest : Bytes × Bytes → Stored Bytes
-third_rest l = ok_or (after_word (codes "gxstore") l.0) fault.BadMagic >>= λ word. only_if (same_bytes word (codes "3")) fault.BadVersion >>= λ u. Ok l.1
-
-third_read : (rest : Bytes) → after_third (line (codes "gxstore") (codes "3") ++ rest) ≡ Ok rest
-third_read rest = ap (λ s. s >>= third_rest) (word_line_read (codes "gxstore") (codes "3") rest tt tt)
-
--- what is read once both slots are
-abbrev slot_rest : Bytes → Bytes → Bytes × Bytes → Stored (Slot × Bytes)
-slot_rest pick first second = ok_or (slot_in (picked pick first second.0)) fault.BadRecord >>= λ slot. Ok (slot, second.1)
-
--- what is read once the first slot is
-abbrev second_rest : Bytes → Bytes × Bytes → Stored (Slot × Bytes)
-second_rest pick first = stored_body 106 first.1 >>= slot_rest pick first.0
-
--- what is read once the byte is
-abbrev first_rest : Bytes × Bytes → Stored (Slot × Bytes)
-first_rest pick = stored_body 106 pick.1 >>= second_rest pick.0
-
--- the slots behind the first line, grouped to the right
-abbrev slots_text : Bytes → Bytes → Bytes → Bytes → Bytes
-slots_text pick first second rest = pick ++ 10 ∷ (first ++ 10 ∷ (second ++ 10 ∷ rest))
-
-slots_long : (pick first second rest : Bytes) → IsHead pick first second → length (slots_text pick first second rest) ≡ 216 + length rest
-slots_long pick first second rest h =
-    let a = length-append pick (10 ∷ (first ++ 10 ∷ (second ++ 10 ∷ rest))) in
-    let b = length-append first (10 ∷ (second ++ 10 ∷ rest)) in
-    let c = length-append second (10 ∷ rest) in
-    sum (length pick) (length first) (length second) (length rest) (length (second ++ 10 ∷ rest)) (length (first ++ 10 ∷ (second ++ 10 ∷ rest))) (length (slots_text pick first second rest)) h.one_byte h.of_first h.of_second a b c
-  where
-    sum : (p f s r t u v : ℕ) → p ≡ 1 → f ≡ 106 → s ≡ 106 → v ≡ p + suc u → u ≡ f + suc t → t ≡ s + suc r → v ≡ 216 + r
-    sum p f s r t u v i j k a b c = omega arith
-
-slots_read : (pick first second rest : Bytes) (slot : Slot) → IsHead pick first second → picked pick first second ≡ slot_text slot → AreFields slot.ends slot.tail slot.digest
-    → slots_of (slots_text pick first second rest) ≡ Ok (slot, rest)
-slots_read pick first second rest slot h is f =
-    let long = slots_long pick first second rest h in
-    let enough : nat_le 216 (length (slots_text pick first second rest)) ≡ true = more (length (slots_text pick first second rest)) (length rest) long in
-    ap (λ b. only_if b fault.Truncated >>= λ u. stored_body 1 (slots_text pick first second rest) >>= first_rest) enough
-    ∙ ap (λ s. s >>= first_rest) (body_at 1 pick (first ++ 10 ∷ (second ++ 10 ∷ rest)) h.one_byte)
-    ∙ ap (λ s. s >>= second_rest pick) (body_at 106 first (second ++ 10 ∷ rest) h.of_first)
-    ∙ ap (λ s. s >>= slot_rest pick first) (body_at 106 second rest h.of_second)
-    ∙ ap (λ o. ok_or o fault.BadRecord >>= λ s. Ok (s, rest)) (ap slot_in is ∙ slot_read slot f)
-  where
-    more : (t r : ℕ) → t ≡ 216 + r → nat_le 216 t ≡ true
-    more t r e = grind (arith, nat_tests)
-
--- a head and what follows it, grouped to the right
-pub head_flat : (pick first second rest : Bytes) → head_text pick first second ++ rest ≡ line (codes "gxstore") (codes "3") ++ slots_text pick first second rest
-head_flat pick first second rest = grouped (line (codes "gxstore") (codes "3")) pick first second rest
-  where
-    grouped : (a b c d r : Bytes) → (a ++ (b ++ (10 ∷ (c ++ (10 ∷ (d ++ 10 ∷ [])))))) ++ r ≡ a ++ (b ++ 10 ∷ (c ++ 10 ∷ (d ++ 10 ∷ r)))
-    grouped a b c d r = simp append_assoc
-
--- a head has 226 bytes
-pub head_long : (pick first second rest : Bytes) → IsHead pick first second → length (head_text pick first second ++ rest) ≡ head_length + length rest
-head_long pick first second rest h =
-    let a = length-append (line (codes "gxstore") (codes "3")) (slots_text pick first second rest) in
-    let b = slots_long pick first second rest h in
-    let c = ap length (head_flat pick first second rest) in
-    sum (length (slots_text pick first second rest)) (length rest) (length (line (codes "gxstore") (codes "3") ++ slots_text pick first second rest)) (length (head_text pick first second ++ rest)) a b c
-  where
-    sum : (s r t u : ℕ) → t ≡ 10 + s → s ≡ 216 + r → u ≡ t → u ≡ 226 + r
-    sum s r t u a b c = omega arith
-
--- what is read once the slots are
-abbrev ends_rest : Bytes → Slot × Bytes → Stored (Slot × Bytes)
-ends_rest text head = only_if (nat_le head.0.ends (length text)) fault.Truncated >>= λ u. Ok head
-
--- what is read behind the first line
-abbrev head_rest : Bytes → Bytes → Stored (Slot × Bytes)
-head_rest text rest = slots_of rest >>= ends_rest text
-
--- a head is read, where its slot ends in the text
-pub head_read : (pick first second rest : Bytes) (slot : Slot) → IsHead pick first second → picked pick first second ≡ slot_text slot → AreFields slot.ends slot.tail slot.digest
-    → slot.ends ≤ length (head_text pick first second ++ rest) → head_of (head_text pick first second ++ rest) ≡ Ok (slot, rest)
-head_read pick first second rest slot h is f l =
-    let text = head_text pick first second ++ rest in
-    let inside : nat_le slot.ends (length text) ≡ true = grind (arith, nat_tests) in
-    ap (λ s. s >>= head_rest text) (ap after_third (head_flat pick first second rest) ∙ third_read (slots_text pick first second rest))
-    ∙ ap (λ s. s >>= ends_rest text) (slots_read pick first second rest slot h is f)
-    ∙ ap (λ b. only_if b fault.Truncated >>= λ u. Ok (slot, rest)) inside
-
 -- ---- the whole
 
 module _ (name : Kind → Bytes → Bytes) (namer : IsNamer name) (digest : Bytes → Bytes) (digester : IsDigester digest) where
@@ -326,7 +225,7 @@ module _ (name : Kind → Bytes → Bytes) (namer : IsNamer name) (digest : Byte
     -- the text ends behind its segments
     whole : length text ≡ g.slot.ends + length g.behind
     whole =
-        let a = ap length g.spelled ∙ head_long g.pick g.first g.second (segments_text ++ g.behind) g.head in
+        let a = ap length g.spelled ∙ length-append (head_text g.pick g.first g.second) (segments_text ++ g.behind) ∙ ap (λ n. n + length (segments_text ++ g.behind)) (head_long g.pick g.first g.second g.head) in
         let b = length-append segments_text g.behind in
         sum (length segments_text) (length g.behind) (length (segments_text ++ g.behind)) g.slot.ends (length text) a b g.ends
       where
@@ -363,7 +262,7 @@ module _ (name : Kind → Bytes → Bytes) (namer : IsNamer name) (digest : Byte
         let there : nat_eq (place_of ends (tail_text g.last.runs g.last.refs)) g.slot.tail ≡ true =
         eq-eqb (place_of ends (tail_text g.last.runs g.last.refs)) g.slot.tail (begun g.slot.tail (length (tail_text g.last.runs g.last.refs)) ends g.tail) in
         ap (front_of name) g.spelled
-        ∙ ap (λ s. s >>= front_rest) (head_read g.pick g.first g.second (segments_text ++ g.behind) g.slot g.head g.slot_is fields inside)
+        ∙ ap (λ s. s >>= front_rest) (head_read g.pick g.first g.second (segments_text ++ g.behind) g.slot g.head (ap slot_in g.slot_is ∙ slot_read g.slot fields) inside)
         ∙ ap (λ t. next_segments name ends ends no_front t >>= tail_rest g.slot) cut
         ∙ ap (λ s. s >>= tail_rest g.slot) (segments_read name namer ends g.before g.last ends head_length no_front few g.ends g.segments short)
         ∙ ap (λ b. only_if b fault.BadRecord >>= λ u. Ok (g.slot, front)) there

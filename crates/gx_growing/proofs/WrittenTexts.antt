@@ -18,7 +18,7 @@ use Rattle.gx_model.proofs.ObjectTexts.TreePaths.{name_is_name}
 use Rattle.gx_model.proofs.Records.ReadRecords.{hex_long}
 use Rattle.gx_growing.specs.GrowingText.{IsDigester, IsGrowingText, IsHead, IsRun, Row, Run, Segment, Slot, StandsIn, first_place, first_rows, first_runs, first_segment, first_slot, growing_text, head_length, head_text, live_rows, long_number, no_slot, page_digests, placed, rows_place, run_rows, segment_text, slot_text, sorted_rows, table_length, tail_text}
 use Rattle.gx_growing.proofs.Fields.{AreFields, digest_long, long_length}
-use Rattle.gx_growing.proofs.ReadTexts.{head_long}
+use Rattle.gx_growing.proofs.ReadFronts.{head_long}
 use Rattle.gx_growing.proofs.SortedRows.{placed_apart, placed_long, rows_sorted, sorted_again, sorted_all, sorted_long}
 use Rattle.gx_growing.proofs.StandingRuns.{IsRow, pages_long, rows_long, run_has, run_here, run_stands, table_text}
 use Rattle.gx_growing.proofs.TextLengths.{back_short, many_bytes, record_some}
@@ -138,6 +138,9 @@ module _ (name : Kind → Bytes → Bytes) (namer : IsNamer name) (digest : Byte
   is_head : IsHead (codes "a") (slot_text slot) (slot_text no_slot)
   is_head = record { one_byte = refl; of_first = slot_long slot slot_fields; of_second = slot_long no_slot (record { one = omega arith; other = omega arith; is = tt }) }
 
+  behind_head : (text : Bytes) → length (head ++ text) ≡ head_length + length text
+  behind_head text = length-append head text ∙ ap (λ n. n + length text) (head_long (codes "a") (slot_text slot) (slot_text no_slot) is_head)
+
   rows_are : AllByRecursion IsRow rows
   rows_are =
       let h = lengths in
@@ -158,7 +161,7 @@ module _ (name : Kind → Bytes → Bytes) (namer : IsNamer name) (digest : Byte
   place_is : rows_place r.records ≡ length (head ++ front)
   place_is =
       let h = lengths in
-      let e = head_long (codes "a") (slot_text slot) (slot_text no_slot) front is_head in
+      let e = behind_head front in
       there (length objects_line) (length records_bytes) (length rows_line) (length front) (length (head ++ front)) h.front_is e
     where
       there : (o b w f t : ℕ) → f ≡ o + (b + w) → t ≡ 226 + f → ((226 + o) + b) + w ≡ t
@@ -170,7 +173,7 @@ module _ (name : Kind → Bytes → Bytes) (namer : IsNamer name) (digest : Byte
   -- the text ends where its slot says
   ends_there : length (growing_text digest r) ≡ slot.ends
   unfolding growing_text
-  ends_there = head_long (codes "a") (slot_text slot) (slot_text no_slot) (segment_text segment) is_head
+  ends_there = behind_head (segment_text segment)
 
   up_to : table_text digest digester (head ++ front) (10 ∷ tail) rows rows_are ≡ take slot.ends (growing_text digest r)
   up_to = sym text_split ∙ sym (take_all slot.ends (growing_text digest r) (last (length (growing_text digest r)) slot.ends ends_there))
@@ -183,7 +186,7 @@ module _ (name : Kind → Bytes → Bytes) (namer : IsNamer name) (digest : Byte
 
   stands : StandsIn digest (take slot.ends (growing_text digest r)) (run_of digest r.records)
   stands =
-      let here = run_stands digest digester (head ++ front) (10 ∷ tail) rows rows_are (behind (length (head ++ front)) (length front) (head_long (codes "a") (slot_text slot) (slot_text no_slot) front is_head)) (is_true _ sorted) in
+      let here = run_stands digest digester (head ++ front) (10 ∷ tail) rows rows_are (behind (length (head ++ front)) (length front) (behind_head front)) (is_true _ sorted) in
       subst (λ t. StandsIn digest t (run_of digest r.records)) up_to
       (subst (StandsIn digest (table_text digest digester (head ++ front) (10 ∷ tail) rows rows_are)) (sym run_is) here)
     where

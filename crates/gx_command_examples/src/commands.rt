@@ -5,8 +5,6 @@ ghost use Rattle.std.specs.Prelude.{◌<◌};
 use crate::spelling::{Heap, Spelling};
 use gx_command::{CommandFault, CommandReader};
 use gx_text::Bytes;
-use std::alloc::{AllocError, Global};
-use std::test::Fail;
 
 mod spelled;
 
@@ -173,41 +171,4 @@ fn refused_growths(heap: &Heap) -> Option<u64> {
 fn refused_growth_is_out_of_memory(rt: HostRuntime) {
     let heap = Heap::new(rt.alloc(), 0);
     assert!(rt; refused_growths(&heap).unwrap_or(0) > 40);
-}
-
-/// These texts with merges of marks between them, as many as asked for, from 2 on, each between two others.
-fn with_merges(
-    alloc: Global,
-    front: &[u8],
-    (open, merges, close): (&str, usize, &str),
-    back: &[u8],
-) -> Result<Vec<u8>, AllocError> {
-    let mut text = Vec::from_slice(alloc, front)?;
-    for mark in 2..merges.saturating_add(2) {
-        match format!(in alloc; "{open}merge :{mark}{close}") {
-            Ok(merge) => text.extend_from_slice(merge.as_bytes())?,
-            Err(error) => return Err(error),
-        }
-    }
-    text.extend_from_slice(back)?;
-    Ok(text)
-}
-
-/// A commit from mark 1 that merges other marks.
-const HEAD: &[u8] = b"commit refs/heads/main\ncommitter A <a@x> 1 +0000\ndata 0\nfrom :1\n";
-
-const SPELLED_HEAD: &[u8] = b"commit refs/heads/main committer(A <a@x> 1 +0000) <> from :1";
-
-#[test]
-fn commits_have_any_number_of_parents(rt: HostRuntime) -> Result<(), Fail> {
-    let heap = Heap::new(rt.alloc(), 0);
-    for merges in [17, 100, 10_000] {
-        let text = with_merges(rt.alloc(), HEAD, ("", merges, "\n"), b"D a\n")?;
-        let spelled = with_merges(rt.alloc(), SPELLED_HEAD, (" ", merges, ""), b" D [a];")?;
-        assert!(rt;
-            told_end(&heap, &text, 4096, false, &spelled) == Some(None),
-            "of {merges}"
-        );
-    }
-    Ok(())
 }

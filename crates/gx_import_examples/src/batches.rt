@@ -1,9 +1,7 @@
-//! Answers where memory fails, and answers of large objects.
+//! Answers of a batch where memory fails, and lines as they end.
 
 use crate::given::opened;
-use gx_batch::{
-    BatchFault, Format, FormatFault, LineEnding, Revisions, answer_lines, batch, read_lines,
-};
+use gx_batch::{BatchFault, LineEnding, batch, read_lines};
 use gx_devices::Refusing;
 use gx_object::Sha1Namer;
 use gx_repo::Repo;
@@ -14,7 +12,7 @@ use std::test::Fail;
 
 /// A commit with three files, the second of them empty and the third a submodule; a tag of it; and two blobs whose
 /// names begin alike.
-pub(crate) const STORE: &[u8] =
+const STORE: &[u8] =
     b"gxstore 1\nobjects 7\nblob 3\nhi\n\nblob 0\n\ntree 91\n100644 a\0E\xb9\x83\xbe6\xb7<\x07\x88\xdc\x9c\xbc\xb7l\xbb\x80\xfc{\xb0W100644 b c\0\xe6\x9d\xe2\x9b\xb2\xd1\xd6CK\x8b)\xaewZ\xd8\xc2\xe4\x8cS\x91160000 sub\0\xd6pF\x0bKJ\xec\xe5\x91\\\xaf\\h\xd1/V\n\x9f\xe3\xe4\ncommit 98\ntree fac37e631d502f3221907f2c38528e17ce5bd986\nauthor A <a@x> 1 +0000\ncommitter A <a@x> 1 +0000\n\nv1\ntag 95\nobject 9000351c27b022929bcfaa71b5c1f3f8f06b7e9c\ntype commit\ntag v1\ntagger A <a@x> 2 +0000\n\none\n\nblob 4\n195\n\nblob 4\n389\n\nrefs 2\n9000351c27b022929bcfaa71b5c1f3f8f06b7e9c refs/heads/main\n3683cbedeb33ae7efc4125efbb9b8d98942ffcff refs/tags/v1\nend\n";
 
 /// Whether a growth came at which it was to be refused, and whole answers alone went out. None where something else
@@ -65,116 +63,6 @@ fn refused_growths_leave_whole_answers(rt: HostRuntime) -> Result<(), Fail> {
     let heap = Refusing::new(rt.alloc(), 0);
     let count = refused_growths(&heap, &heap, state).unwrap_or(0);
     assert!(rt; count > 3, "{count}");
-    Ok(())
-}
-
-/// Whether this is what a batch answers of an object of a repository.
-fn is_answer(
-    alloc: Global,
-    repo: &Repo<Sha1Namer, Global>,
-    digits: &str,
-    sink: &mut Held<Global>,
-    answer: &str,
-) -> bool {
-    let source = Bytes::new(digits.as_bytes(), 4, false);
-    batch(alloc, repo, false, source, sink) == Ok(()) && sink.bytes() == answer.as_bytes()
-}
-
-/// The same of the repository of a store text.
-fn is_answer_of(alloc: Global, text: &str, digits: &str, answer: &str, state: RandomState) -> bool {
-    match (
-        opened(alloc, text.as_bytes(), state),
-        Held::new(alloc, 70_000),
-    ) {
-        (Ok(repo), Ok(mut sink)) => is_answer(alloc, &repo, digits, &mut sink, answer),
-        _ => false,
-    }
-}
-
-/// Whether a blob of so many bytes, which has this name, goes out whole.
-fn is_whole(
-    alloc: Global,
-    digits: &str,
-    count: usize,
-    state: RandomState,
-) -> Result<bool, AllocError> {
-    let front = "";
-    let text = format!(in alloc;
-        "gxstore 1\nobjects 1\nblob {count}\n{front:a<count$}\nrefs 0\nend\n"
-    )?;
-    let answer = format!(in alloc; "{digits} blob {count}\n{front:a<count$}\n")?;
-    Ok(is_answer_of(alloc, &text, digits, &answer, state))
-}
-
-#[test]
-fn large_objects_go_out_whole(rt: HostRuntime) -> Result<(), Fail> {
-    let state = RandomState::new(&rt)?;
-    let below = "4886e1b32bda98ae12370fb6529abfe408454bba";
-    assert!(rt; is_whole(rt.alloc(), below, 65_535, state)?);
-    let above = "dbdcf4b7feebd9fab1c18b1b8c016c8e56f33962";
-    assert!(rt; is_whole(rt.alloc(), above, 65_536, state)?);
-    Ok(())
-}
-
-/// Whether these are the answers to lines that end so, in a format, without the objects' bytes.
-fn is_formatted(
-    alloc: Global,
-    repo: &Repo<Sha1Namer, Global>,
-    (format, ending): (&[u8], LineEnding),
-    lines: &[u8],
-    answers: &[u8],
-) -> bool {
-    let (Ok(format), Ok(mut sink)) = (Format::read(alloc, format), Held::new(alloc, 1024)) else {
-        return false;
-    };
-    let revisions = Revisions {
-        alloc,
-        repo,
-        check: true,
-        format: &format,
-    };
-    let source = Bytes::new(lines, 4, false);
-    answer_lines(alloc, &revisions, ending, source, &mut sink) == Ok(()) && sink.bytes() == answers
-}
-
-/// Expected is what `git cat-file --batch-check` of git 2.39 says.
-#[test]
-fn objects_are_told_in_formats(rt: HostRuntime) -> Result<(), Fail> {
-    let state = RandomState::new(&rt)?;
-    let Ok(repo) = opened(rt.alloc(), STORE, state) else {
-        return Err(Fail::new("a store"));
-    };
-    let parts = b"%(objectsize)|%%%(objecttype) %(objectname)%x%".as_slice();
-    let told = b"3|%blob 45b983be36b73c0788dc9cbcb76cbb80fc7bb057%x%\nnope missing\n".as_slice();
-    assert!(rt;
-        is_formatted(
-            rt.alloc(),
-            &repo,
-            (parts, LineEnding::Lf),
-            b"main:a\r\nnope",
-            told
-        )
-    );
-    let kind = b"%(objecttype)".as_slice();
-    let lines = b"main:a\0main:a\r\0main\0\0main:a\n".as_slice();
-    let kinds = b"blob\nmain:a\r missing\ncommit\n missing\nmain:a\n missing\n".as_slice();
-    assert!(rt; is_formatted(rt.alloc(), &repo, (kind, LineEnding::Nul), lines, kinds));
-    assert!(rt; is_formatted(rt.alloc(), &repo, (b"", LineEnding::Lf), b"main", b"\n"));
-    Ok(())
-}
-
-#[test]
-fn unknown_names_are_no_format(rt: HostRuntime) -> Result<(), Fail> {
-    for text in [
-        "%(rest)",
-        "a%(",
-        "%(objectname",
-        "%()",
-        "%(objectsize:disk)",
-    ] {
-        let refused = Format::read(rt.alloc(), text.as_bytes()).err();
-        assert!(rt; refused == Some(FormatFault::BadFormat), "{text}");
-    }
     Ok(())
 }
 

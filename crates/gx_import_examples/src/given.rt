@@ -3,11 +3,10 @@
 use gx_export::export;
 use gx_file::{FileFault, read, write};
 use gx_import::{ImportFault, ImportKind, import};
-use gx_model::Mode;
 use gx_object::{Kind, Name, Namer, Sha1Namer};
 use gx_repo::Repo;
-use gx_rev::{Range, Revision, Shown, look, walk};
-use gx_text::{Bytes, Held, Sink, Source, TreePath};
+use gx_rev::{Range, Revision, Shown, walk};
+use gx_text::{Bytes, Held, Sink, Source};
 use std::alloc::{Allocator, Global};
 use std::hash::RandomState;
 use std::slice::from_ref;
@@ -20,10 +19,6 @@ pub(crate) const FIRST: &[u8] =
 /// Two branches, one with a submodule, which are merged, and a tag.
 pub(crate) const MERGED: &[u8] =
     b"commit refs/heads/a\nmark :1\ncommitter A <a@x> 1 +0000\ndata 1\np\nM 100644 inline f\ndata 6\nhello\n\ncommit refs/heads/b\nmark :2\ncommitter A <a@x> 2 +0000\ndata 1\nq\nM 160000 d670460b4b4aece5915caf5c68d12f560a9fe3e4 sub\ncommit refs/heads/a\nmark :3\ncommitter A <a@x> 3 +0000\ndata 1\nm\nmerge :2\ntag t\nfrom :3\ntagger A <a@x> 4 +0000\ndata 1\nt\n";
-
-/// The export of that.
-pub(crate) const MERGED_TEXT: &[u8] =
-    b"feature done\nblob\nmark :1\ndata 6\nhello\n\nreset refs/gx/export\ncommit refs/gx/export\nmark :2\nauthor A <a@x> 1 +0000\ncommitter A <a@x> 1 +0000\ndata 1\np\ndeleteall\nM 100644 :1 f\n\nreset refs/gx/export\ncommit refs/gx/export\nmark :3\nauthor A <a@x> 2 +0000\ncommitter A <a@x> 2 +0000\ndata 1\nq\ndeleteall\nM 160000 d670460b4b4aece5915caf5c68d12f560a9fe3e4 sub\n\ncommit refs/gx/export\nmark :4\nauthor A <a@x> 3 +0000\ncommitter A <a@x> 3 +0000\ndata 1\nm\nfrom :2\nmerge :3\ndeleteall\nM 100644 :1 f\n\nreset refs/gx/export\nreset refs/heads/a\nfrom :4\n\nreset refs/heads/b\nfrom :3\n\ntag t\nfrom :4\ntagger A <a@x> 4 +0000\ndata 1\nt\ndone\n";
 
 /// Why what a source gives is refused; none where it is imported. What the devices tell is left open here, so no caller
 /// has more to prove than that the call is safe.
@@ -122,26 +117,6 @@ pub(crate) fn object_of<N: Namer>(
             _ => None,
         },
         Err(_) => None,
-    }
-}
-
-/// Whether a file stands at a path of a revision with these bytes.
-pub(crate) fn has_file(
-    alloc: Global,
-    repo: &Repo<Sha1Namer, Global>,
-    revision: &[u8],
-    path: &[u8],
-    bytes: &[u8],
-) -> bool {
-    let Ok(revision) = Revision::read(alloc, revision) else {
-        return false;
-    };
-    let Ok(path) = TreePath::read(alloc, path) else {
-        return false;
-    };
-    match look(alloc, repo, &revision, &path) {
-        Ok((mode, file)) => mode == Mode::File && file.as_slice() == bytes,
-        Err(_) => false,
     }
 }
 

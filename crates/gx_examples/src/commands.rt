@@ -1,8 +1,7 @@
 //! The command of a step, and what it is tried for.
 
-use crate::exported::prints_alike;
 use crate::growths::refused_growths;
-use crate::limits::{Stop, stops_everywhere};
+use crate::limits::stops_everywhere;
 use crate::steps::{Step, words_of};
 use crate::texts::text;
 use gx_cli::{CliFault, Line, Outcome, read_line, serve, serve_owned};
@@ -13,15 +12,13 @@ use std::hash::RandomState;
 
 /// What a command is tried for.
 #[derive(Clone, Copy)]
-pub(crate) enum Task<'a> {
-    /// It stops where its sink is full, or its source fails.
-    Stop(Stop),
+pub(crate) enum Task {
+    /// It stops where its sink is full.
+    Stop,
     /// At least as many growths as the step's line says are refused before it succeeds.
     Growths,
     /// On a text that is lent to it so many growths more are refused than on one that it is given.
     Copies(u64),
-    /// It prints the same of another store's text.
-    Same(&'a [u8]),
 }
 
 /// The words of a command that clap doesn't accept: it wants a revision.
@@ -32,7 +29,7 @@ pub(crate) fn tried(
     alloc: Global,
     step: &Step<'_>,
     store: &[u8],
-    task: Task<'_>,
+    task: Task,
     state: RandomState,
 ) -> bool {
     if step.words == NO_REVISION {
@@ -57,11 +54,11 @@ fn line_tried(
     line: &Line<'_>,
     step: &Step<'_>,
     store: &[u8],
-    task: Task<'_>,
+    task: Task,
     state: RandomState,
 ) -> bool {
     match task {
-        Task::Stop(stop) => stops_everywhere(alloc, line, step, store, stop, state),
+        Task::Stop => stops_everywhere(alloc, line, step, store, state),
         Task::Growths => match step.line.parse::<u64>() {
             Ok(fewest) => { refused_growths(alloc, line, step, (store, false), state) >= fewest }
             Err(_) => false,
@@ -71,7 +68,6 @@ fn line_tried(
             let given = refused_growths(alloc, line, step, (store, true), state);
             given > 0 && lent.checked_sub(given) == Some(count)
         }
-        Task::Same(other) => prints_alike(alloc, line, store, other, state),
     }
 }
 

@@ -3,19 +3,11 @@
 #![tactic(auto)]
 
 #[cfg(test)]
-mod blob_names;
-#[cfg(test)]
-mod changes_trips;
-#[cfg(test)]
 mod commands;
-#[cfg(test)]
-mod exported;
 #[cfg(test)]
 mod fault_lines;
 #[cfg(test)]
 mod growths;
-#[cfg(test)]
-mod hashed;
 #[cfg(test)]
 mod limits;
 #[cfg(test)]
@@ -26,8 +18,6 @@ mod reporting;
 mod round_trips;
 #[cfg(test)]
 mod steps;
-#[cfg(test)]
-mod storing;
 #[cfg(test)]
 mod texts;
 #[cfg(test)]

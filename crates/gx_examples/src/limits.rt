@@ -61,7 +61,7 @@ $ blobs % three blobs % three names % 5
 const ROUGH_LINES: &str = "$ adapt % rough lines % mended lines % 3";
 
 /// Tries the commands of a script, each on the store of its step's stream.
-fn try_all(alloc: Global, script: &str, task: Task<'_>, state: RandomState) -> Result<(), Fail> {
+fn try_all(alloc: Global, script: &str, task: Task, state: RandomState) -> Result<(), Fail> {
     for part in script.split('$').skip(1) {
         let step = step_of(part);
         let is_right = match stored(alloc, step.stream, state) {
@@ -78,15 +78,8 @@ fn try_all(alloc: Global, script: &str, task: Task<'_>, state: RandomState) -> R
 #[test]
 fn failed_write_keeps_a_front_of_the_output(rt: HostRuntime) -> Result<(), Fail> {
     let state = RandomState::new(&rt)?;
-    try_all(rt.alloc(), COMMANDS, Task::Stop(Stop::Full), state)
-}
-
-#[test]
-fn failed_device_is_no_end(rt: HostRuntime) -> Result<(), Fail> {
-    let state = RandomState::new(&rt)?;
-    try_all(rt.alloc(), ROUGH_LINES, Task::Stop(Stop::Full), state)?;
-    let script = "$ blobs % three blobs % three names";
-    try_all(rt.alloc(), script, Task::Stop(Stop::Cut), state)
+    try_all(rt.alloc(), COMMANDS, Task::Stop, state)?;
+    try_all(rt.alloc(), ROUGH_LINES, Task::Stop, state)
 }
 
 /// A text that is lent is copied once, whatever it holds, and one that is given isn't.
@@ -101,30 +94,16 @@ fn each_refused_growth_of_a_command_is_out_of_memory(rt: HostRuntime) -> Result<
     try_all(rt.alloc(), script, Task::Copies(1), state)
 }
 
-/// Where a command stops.
-#[derive(Clone, Copy)]
-pub(crate) enum Stop {
-    /// Its sink takes no more bytes.
-    Full,
-    /// Its source fails.
-    Cut,
-}
-
-/// Whether a command stops as it has to at each byte that it prints or reads.
+/// Whether a command stops as it has to where its sink takes no more bytes, at each byte that it prints.
 pub(crate) fn stops_everywhere(
     alloc: Global,
     line: &Line<'_>,
     step: &Step<'_>,
     store: &[u8],
-    stop: Stop,
     state: RandomState,
 ) -> bool {
-    let count = match stop {
-        Stop::Full => step.printed.len(),
-        Stop::Cut => step.input.len(),
-    };
-    for place in 0..count {
-        if !stops_at(alloc, line, step, store, (stop, place), state) {
+    for room in 0..step.printed.len() {
+        if !stops_at(alloc, line, step, store, room, state) {
             return false;
         }
     }
@@ -137,31 +116,19 @@ fn stops_at(
     line: &Line<'_>,
     step: &Step<'_>,
     store: &[u8],
-    (stop, place): (Stop, usize),
+    room: usize,
     state: RandomState,
 ) -> bool {
-    let (source, room) = match stop {
-        Stop::Full => (Bytes::new(step.input, 7, false), place),
-        Stop::Cut => (
-            Bytes::new(step.input.get(..place).unwrap_or(b""), 7, true),
-            4096,
-        ),
-    };
+    let source = Bytes::new(step.input, 7, false);
     let Ok(mut sink) = Held::new(alloc, room) else {
         return false;
     };
     let outcome = ran(alloc, line, store, source, &mut sink, state);
-    let has_fault = match stop {
-        Stop::Full => {
-            let wanted = refusal_at(line, step.printed, place);
-            sink.bytes().len() == place && outcome.fault == Some(wanted)
-        }
-        Stop::Cut => matches!(
-            outcome.fault,
-            Some(CliFault::Blobs(fault)) if fault.kind == BlobsKind::ReadFailed
-        ),
-    };
-    has_fault && outcome.status == 1 && step.printed.starts_with(sink.bytes())
+    let wanted = refusal_at(line, step.printed, room);
+    outcome.fault == Some(wanted)
+        && outcome.status == 1
+        && sink.bytes().len() == room
+        && step.printed.starts_with(sink.bytes())
 }
 
 /// Why a command that prints this is refused whose sink has room for so many bytes: a try's import may be in its progress.

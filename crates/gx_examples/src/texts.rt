@@ -52,11 +52,6 @@ data 3
 one
 reset refs/tags/v1
 from :1
-%one blob
-blob
-mark :1
-data 13
-test content
 %three blobs
 blob
 mark :1

@@ -1,9 +1,13 @@
+pub mod EndCounts
 pub mod Fields
+pub mod Grows
 pub mod OnlyTexts
 pub mod ReadFronts
 pub mod ReadSegments
 pub mod ReadTexts
 pub mod RowTests
+pub mod RowsTell
+pub mod RowsTellPlaces
 pub mod SortedRows
 pub mod StandingRuns
 pub mod TextLengths

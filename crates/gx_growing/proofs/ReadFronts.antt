@@ -1,6 +1,6 @@
 -- What is read of a growing text in front of its rows is spelled so: its head, and the segments up to the end that the picked slot says.
-use Rattle.std.proofs.Common.{◌≡◌, ℕ, suc, ◌+◌, ◌-◌, ◌≤◌, ◌<◌, Bool, true, false, cond, refl, sym, ap, subst, ◌∙◌, List, [], ◌∷◌, ◌++◌, length, take, drop, Option, Some, Ok, codes, arith, append_assoc, length-append, eqb→eq}
-use Rattle.std.specs.Prelude.{T, nat_eq, nat_le}
+use Rattle.std.proofs.Common.{◌≡◌, ℕ, ◌+◌, ◌-◌, ◌≤◌, true, refl, sym, ap, subst, ◌∙◌, List, [], ◌∷◌, ◌++◌, length, take, drop, Some, Ok, codes, arith, append_assoc, length-append, eqb→eq}
+use Rattle.std.specs.Prelude.{nat_eq, nat_le}
 use Rattle.std.specs.Bool.{passes}
 use Rattle.std.specs.List.{flat_map}
 use Rattle.std.specs.Option.{ok_or}
@@ -12,14 +12,13 @@ use Rattle.gx_model.specs.Texts.{Bytes, same_bytes}
 use Rattle.gx_model.specs.Texts.Numbers.{number_text}
 use Rattle.gx_model.specs.Faults.{◌>>=◌}
 use Rattle.gx_model.specs.Objects.{IsNamer, line}
-use Rattle.gx_model.specs.Histories.{Record, Records}
 use Rattle.gx_model.specs.Records.Sound.{IsSound}
 use Rattle.gx_model.specs.Stores.StoreReading.{Stored, after_word, only_if, stored_body, stored_line}
-use Rattle.gx_model.proofs.Texts.PathTests.{is_same, is_true, same_is}
-use Rattle.gx_model.proofs.Stores.StoreTexts.{body_of, body_read, both_steps, if_there, line_of, line_text, ok_is, unless_holds, word_line_read, word_of, word_read}
-use Rattle.gx_growing.specs.GrowingText.{AreSegments, IsHead, Row, Run, Segment, Slot, head_length, head_text, picked, placed_rows, records_of, segment_text, tail_text}
+use Rattle.gx_model.proofs.Texts.PathTests.{same_is}
+use Rattle.gx_model.proofs.Stores.StoreTexts.{body_of, body_read, both_steps, if_there, line_of, line_text, ok_is, unless_holds, word_line_read, word_of}
+use Rattle.gx_growing.specs.GrowingText.{AreSegments, IsHead, Run, Segment, Slot, head_length, head_text, picked, placed_rows, records_of, segment_text, tail_text}
 use Rattle.gx_growing.specs.GrowingReading.{Front, after_third, front_of, head_of, next_segments, no_front, place_of, slot_in, slots_of}
-use Rattle.gx_growing.proofs.ReadSegments.{AreRead, segments_of_text}
+use Rattle.gx_growing.proofs.ReadSegments.{segments_of_text}
 
 -- ---- the head
 
@@ -108,9 +107,9 @@ head_of_text text x e =
     let fits : nat_le b.0.0.ends (length text) ≡ true = unless_holds (nat_le b.0.0.ends (length text)) fault.Truncated c.0 c.1 in
     let within : b.0.0.ends ≤ length text = grind (arith, nat_tests) in
     let spelled : text ≡ head_text p.0.0 f.0.0 s.0.0 ++ s.0.1 =
-        third_of text a.0 a.1
-        ∙ ap (λ z. line (codes "gxstore") (codes "3") ++ z) (pick.0 ∙ ap (λ z. p.0.0 ++ 10 ∷ z) (first.0 ∙ ap (λ z. f.0.0 ++ 10 ∷ z) second.0))
-        ∙ sym (head_flat p.0.0 f.0.0 s.0.0 s.0.1) in
+    third_of text a.0 a.1
+    ∙ ap (λ z. line (codes "gxstore") (codes "3") ++ z) (pick.0 ∙ ap (λ z. p.0.0 ++ 10 ∷ z) (first.0 ∙ ap (λ z. f.0.0 ++ 10 ∷ z) second.0))
+    ∙ sym (head_flat p.0.0 f.0.0 s.0.0 s.0.1) in
     subst (IsHeadRead text) (is ∙ same) (record {
       pick = p.0.0;
       first = f.0.0;
@@ -132,11 +131,11 @@ head_read pick first second rest slot h k l =
     let fits : nat_le slot.ends (length text) ≡ true = grind (arith, nat_tests) in
     ap (λ s. s >>= λ z. slots_of z >>= ended) (ap after_third (head_flat pick first second rest) ∙ third_read behind)
     ∙ ap (λ s. s >>= ended) (
-      ap (λ t. only_if t fault.Truncated >>= λ u. stored_body 1 behind >>= first_rest) long
-      ∙ ap (λ s. s >>= first_rest) (ap (λ n. stored_body n behind) (sym h.one_byte) ∙ body_read pick (first ++ (10 ∷ (second ++ (10 ∷ rest)))))
-      ∙ ap (λ s. s >>= second_rest pick) (ap (λ n. stored_body n (first ++ (10 ∷ (second ++ (10 ∷ rest))))) (sym h.of_first) ∙ body_read first (second ++ (10 ∷ rest)))
-      ∙ ap (λ s. s >>= slot_rest pick first) (ap (λ n. stored_body n (second ++ (10 ∷ rest))) (sym h.of_second) ∙ body_read second rest)
-      ∙ ap (λ o. ok_or o fault.BadRecord >>= λ z. Ok (z, rest)) k
+    ap (λ t. only_if t fault.Truncated >>= λ u. stored_body 1 behind >>= first_rest) long
+    ∙ ap (λ s. s >>= first_rest) (ap (λ n. stored_body n behind) (sym h.one_byte) ∙ body_read pick (first ++ (10 ∷ (second ++ (10 ∷ rest)))))
+    ∙ ap (λ s. s >>= second_rest pick) (ap (λ n. stored_body n (first ++ (10 ∷ (second ++ (10 ∷ rest))))) (sym h.of_first) ∙ body_read first (second ++ (10 ∷ rest)))
+    ∙ ap (λ s. s >>= slot_rest pick first) (ap (λ n. stored_body n (second ++ (10 ∷ rest))) (sym h.of_second) ∙ body_read second rest)
+    ∙ ap (λ o. ok_or o fault.BadRecord >>= λ z. Ok (z, rest)) k
     )
     ∙ ap (λ t. only_if t fault.Truncated >>= λ u. Ok (slot, rest)) fits
   where

@@ -82,13 +82,13 @@ module _ (name : Kind → Bytes → Bytes) (records : List Record) where
       let s = refs_of_text records c.0.0 None c.0.1 d.0 d.1 in
       let same : ◌≡◌ {A = Tail} ((b.0.0, d.0.0), f.0) x = ok_is ((b.0.0, d.0.0), f.0) x f.2 in
       let spelled : text ≡ tail_text b.0.0 d.0.0 ++ f.0 =
-          count_of (codes "runs") text a.0 a.1
-          ∙ (λ j. line (codes "runs") (number_text (sym r.count j)) ++ r.spelled j)
-          ∙ ap (λ z. line (codes "runs") (number_text (length b.0.0)) ++ (flat_map run_text b.0.0 ++ z)) (
-            count_of (codes "refs") b.0.1 c.0 c.1 ∙ (λ j. line (codes "refs") (number_text (sym s.count j)) ++ s.spelled j)
-            ∙ ap (λ z. line (codes "refs") (number_text (length d.0.0)) ++ (flat_map stored_ref d.0.0 ++ z)) (after_end_of d.0.1 f.0 f.1)
-          )
-          ∙ sym (tail_flat b.0.0 d.0.0 f.0) in
+      count_of (codes "runs") text a.0 a.1
+      ∙ (λ j. line (codes "runs") (number_text (sym r.count j)) ++ r.spelled j)
+      ∙ ap (λ z. line (codes "runs") (number_text (length b.0.0)) ++ (flat_map run_text b.0.0 ++ z)) (
+      count_of (codes "refs") b.0.1 c.0 c.1 ∙ (λ j. line (codes "refs") (number_text (sym s.count j)) ++ s.spelled j)
+      ∙ ap (λ z. line (codes "refs") (number_text (length d.0.0)) ++ (flat_map stored_ref d.0.0 ++ z)) (after_end_of d.0.1 f.0 f.1)
+      )
+      ∙ sym (tail_flat b.0.0 d.0.0 f.0) in
       let sound : IsSound name (record { records = records; refs = d.0.0 }) = record {
         named = i.named;
         distinct = i.distinct;
@@ -177,11 +177,11 @@ module _ (name : Kind → Bytes → Bytes) (ends : ℕ) where
       let objects = line (codes "objects") (number_text (length q.more)) in
       let counted : text ≡ objects ++ a.0.1 = count_of (codes "objects") text a.0 a.1 ∙ ap (λ n. line (codes "objects") (number_text n) ++ a.0.1) (sym q.count) in
       let spelled : text ≡ segment_text s ++ f.0.1 =
-          counted
-          ∙ ap (λ z. objects ++ z) (q.spelled ∙ ap (λ z. flat_map (stored_record Two) q.more ++ z) (
-            count_of (codes "rows") b.0.1 c.0 c.1 ∙ ap (λ z. line (codes "rows") (number_text c.0.0) ++ z) (t.0 ∙ ap (λ z. d.0.0 ++ 10 ∷ z) ended.spelled)
-          ))
-          ∙ sym (segment_flat s f.0.1) in
+      counted
+      ∙ ap (λ z. objects ++ z) (q.spelled ∙ ap (λ z. flat_map (stored_record Two) q.more ++ z) (
+      count_of (codes "rows") b.0.1 c.0 c.1 ∙ ap (λ z. line (codes "rows") (number_text c.0.0) ++ z) (t.0 ∙ ap (λ z. d.0.0 ++ 10 ∷ z) ended.spelled)
+      ))
+      ∙ sym (segment_flat s f.0.1) in
       let new : drop (length seen.records) b.0.0 ≡ q.more = ap (drop (length seen.records)) q.whole ∙ drop_at seen.records q.more (length seen.records) refl in
       let begun : ends - length a.0.1 ≡ first_place (ends - length text) q.more = behind (length text) (length objects) (length a.0.1) l (ap length counted ∙ length-append objects a.0.1) in
       let given : Front × Bytes = (record { records = b.0.0; rows = with_places name ends seen b.0.0 a.0.1; tail = d.0.1; runs = f.0.0.0; refs = f.0.0.1 }, f.0.1) in

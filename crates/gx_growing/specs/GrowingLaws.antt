@@ -10,7 +10,7 @@ use Rattle.gx_model.specs.Texts.{Bytes, byte_cmp}
 use Rattle.gx_model.specs.Histories.{Record, Records}
 use Rattle.gx_model.specs.Records.Sound.{IsSound}
 use Rattle.gx_model.specs.Stores.StoreText.{stored_record}
-use Rattle.gx_growing.specs.GrowingText.{IsDigester, IsGrowingText, IsHead, IsSegment, Run, Segment, Slot, StandsIn, first_place, growing_text, head_length, head_text, live_rows, part, picked, picks_first, placed, placed_rows, run_rows, segment_text, slot_text, sorted_rows, tail_text}
+use Rattle.gx_growing.specs.GrowingText.{IsDigester, IsGrowingText, IsHead, IsSegment, Run, Segment, Slot, StandsIn, first_place, growing_text, head_length, head_text, live_rows, part, picked, placed, placed_rows, run_rows, segment_text, slot_text, sorted_rows, tail_text}
 use Rattle.gx_growing.specs.GrowingReading.{grown_of, head_of, slot_in}
 
 -- a law of texts whose digests have 32 bytes
@@ -66,8 +66,7 @@ pub record RowsTell (name : Kind → Bytes → Bytes) : Type 0 where
 pub record EndCounts (name : Kind → Bytes → Bytes) : Type 0 where
   pub alike : ForEachDigester (λ digest.
       (pick first second other_pick other_first other_second segments behind other_behind : Bytes) (slot : Slot)
-      → IsHead pick first second → IsHead other_pick other_first other_second → picks_first pick ≡ picks_first other_pick
-      → picked pick first second ≡ picked other_pick other_first other_second
+      → IsHead pick first second → IsHead other_pick other_first other_second → picked pick first second ≡ picked other_pick other_first other_second
       → slot_in (picked pick first second) ≡ Some slot → slot.ends ≡ head_length + length segments
       → grown_of name digest (head_text pick first second ++ (segments ++ behind))
       ≡ grown_of name digest (head_text other_pick other_first other_second ++ (segments ++ other_behind)))
@@ -80,16 +79,18 @@ next_slot digest ends segment =
     let tail : Bytes = tail_text segment.runs segment.refs in
     record { ends = ends + length (segment_text segment); tail = ends + length (segment_text segment) - length tail; digest = digest tail }
 
--- a segment behind the end of a growing text, with the other slot and the byte that picks it: where the repository with its
+-- a text up to its end, under another head and with a segment behind it
+abbrev pub grown_text : Bytes → Bytes → Bytes → ℕ → Bytes → Segment → Bytes
+grown_text pick first second ends text segment = head_text pick first second ++ (part text head_length (ends - head_length) ++ segment_text segment)
+
+-- a segment behind the end of a growing text, under a head that picks a slot that tells it: where the repository with its
 -- records and refs is sound, and its runs tell where all records stand, this is a growing text of that repository
 pub record Grows (name : Kind → Bytes → Bytes) : Type 0 where
   pub grows : ForEachDigester (λ digest.
-      (pick first second new_pick new_first new_second segments behind new_behind : Bytes) (slot : Slot) (segment : Segment) (repository new : Records)
-      → (old : IsGrowingText name digest (head_text pick first second ++ (segments ++ behind)) repository)
-      → IsHead pick first second → picked pick first second ≡ slot_text slot → slot.ends ≡ head_length + length segments
-      → IsHead new_pick new_first new_second → picked new_pick new_first new_second ≡ slot_text (next_slot digest slot.ends segment)
+      (text : Bytes) (repository new : Records) (old : IsGrowingText name digest text repository) (pick first second behind : Bytes) (segment : Segment)
+      → IsHead pick first second → picked pick first second ≡ slot_text (next_slot digest old.slot.ends segment)
       → IsSegment segment → new.records ≡ repository.records ++ segment.records → new.refs ≡ segment.refs → IsSound name new
-      → AllByRecursion (StandsIn digest (head_text new_pick new_first new_second ++ (segments ++ segment_text segment))) segment.runs
-      → sorted_rows (live_rows (head_text new_pick new_first new_second ++ (segments ++ segment_text segment)) segment.runs)
-      ≡ sorted_rows (placed_rows head_length (old.before ++ old.last ∷ []) ++ placed (first_place slot.ends segment.records) segment.records)
-      → IsGrowingText name digest (head_text new_pick new_first new_second ++ (segments ++ (segment_text segment ++ new_behind))) new)
+      → AllByRecursion (StandsIn digest (grown_text pick first second old.slot.ends text segment)) segment.runs
+      → sorted_rows (live_rows (grown_text pick first second old.slot.ends text segment) segment.runs)
+      ≡ sorted_rows (placed_rows head_length (old.before ++ old.last ∷ []) ++ placed (first_place old.slot.ends segment.records) segment.records)
+      → IsGrowingText name digest (grown_text pick first second old.slot.ends text segment ++ behind) new)

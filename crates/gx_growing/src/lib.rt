@@ -4,5 +4,6 @@
 
 mod fault;
 pub mod growing_laws;
+pub mod growth_laws;
 
 pub use fault::GrowingFault;

@@ -3,10 +3,14 @@ same time, atomic ones, and files beside the store."""
 
 from __future__ import annotations
 
+import fcntl
 import os
 import shutil
+import subprocess
+import time
 
 import pytest
+from programs import SCRIPTS, run_program
 from remote_world import World
 
 LEASE = "--force-with-lease"
@@ -183,3 +187,25 @@ def test_beside_the_store(world: World) -> None:
         assert beside.lstat() == kept and not named.exists()
         beside.unlink()
     assert sorted(path.name for path in world.folder.glob("store.gx*")) == ["store.gx"]
+
+
+def test_turn_of_a_killed_helper(world: World) -> None:
+    """Where git-remote-gx waits for its turn, as gx-mirror asks it to, and is killed, no gx goes on
+    to take the lock."""
+    world.started()
+    with open(f"{world.remote}.new", "wb") as held:
+        os.chmod(held.fileno(), 0o600)
+        fcntl.flock(held, fcntl.LOCK_EX)
+        words = [SCRIPTS / "git-remote-gx", "origin", world.remote]
+        how = {"cwd": world.folder / "work", "env": {**world.environment, "GIT_DIR": ".git"}}
+        with subprocess.Popen(words, stdin=subprocess.PIPE, **how) as helper:
+            helper.stdin.write(b"option gx-turn true\nlist for-push\n")
+            helper.stdin.flush()
+            pattern = f"--push={world.folder}"
+            while not (waiting := run_program(["pgrep", "-f", "--", pattern]).out.split()):
+                time.sleep(0.1)
+            helper.kill()
+    assert len(waiting) == 1
+    stream = b"commit refs/heads/new\ncommitter A <a@x> 1 +0000\ndata 0\n\n"
+    world.store("import", "--wait=20", stdin=stream)
+    assert run_program(["pgrep", "-f", "--", pattern]).out == b""

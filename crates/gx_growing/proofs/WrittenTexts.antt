@@ -208,7 +208,7 @@ module _ (name : Kind → Bytes → Bytes) (namer : IsNamer name) (digest : Byte
       record {
         place = below (length objects_line) (length records_bytes) (length rows_line) (length front) (length (first_rows r.records ++ (page_digests digest (first_rows r.records) ++ (10 ∷ tail)))) (length (segment_text segment)) h.front_is h.segment_is h.short;
         count = fewer (length r.records) (length records_bytes) (many_bytes (stored_record Two) record_some r.records)
-        (below_records (length objects_line) (length records_bytes) (length rows_line) (length front) (length (first_rows r.records ++ (page_digests digest (first_rows r.records) ++ (10 ∷ tail)))) (length (segment_text segment)) h.front_is h.segment_is h.short);
+            (below_records (length objects_line) (length records_bytes) (length rows_line) (length front) (length (first_rows r.records ++ (page_digests digest (first_rows r.records) ++ (10 ∷ tail)))) (length (segment_text segment)) h.front_is h.segment_is h.short);
         digest = digester (page_digests digest (first_rows r.records));
       }
     where

@@ -46,10 +46,10 @@ module _ (at count : ℕ) (name : Bytes) (low high middle : ℕ) (row : Row) (ab
   parts_low (Some text) told less so_far = λ sorted.
       let here : IsBefore (row_name text at middle) name = subst (λ (x : Bytes). IsBefore x name) told.name less in
       let by : (other : ℕ) → other < middle + 1 → IsBefore (row_name text at other) name =
-          (λ other front. elim (cases_eq other middle) [
-            | inl same ↦ subst (λ (k : ℕ). IsBefore (row_name text at k) name) (sym same) here
-            | inr apart ↦ joined (row_name text at other) (row_name text at middle) name (sorted other middle (omega (arith, front, apart)) (omega (arith, below, within))) here
-          ]) in
+      (λ other front. elim (cases_eq other middle) [
+        | inl same ↦ subst (λ (k : ℕ). IsBefore (row_name text at k) name) (sym same) here
+        | inr apart ↦ joined (row_name text at other) (row_name text at middle) name (sorted other middle (omega (arith, front, apart)) (omega (arith, below, within))) here
+      ]) in
       record { before = by; behind = (so_far sorted).behind }
 
   pub parts_high : (told : Option Bytes) → IsRow told at middle row → is_lt (byte_cmp row.name name) ≡ false → Parts told at count name low high → Parts told at count name low middle
@@ -57,10 +57,10 @@ module _ (at count : ℕ) (name : Bytes) (low high middle : ℕ) (row : Row) (ab
   parts_high (Some text) told not_less so_far = λ sorted.
       let here : is_lt (byte_cmp (row_name text at middle) name) ≡ false = subst (λ (x : Bytes). is_lt (byte_cmp x name) ≡ false) told.name not_less in
       let by : (other : ℕ) → middle ≤ other → other < count → is_lt (byte_cmp (row_name text at other) name) ≡ false =
-          (λ other behind in_table. elim (cases_eq other middle) [
-            | inl same ↦ subst (λ (k : ℕ). is_lt (byte_cmp (row_name text at k) name) ≡ false) (sym same) here
-            | inr apart ↦ not_true _ (λ less. false≢true (sym here ∙ joined (row_name text at middle) (row_name text at other) name (sorted middle other (omega (arith, behind, apart)) in_table) less))
-          ]) in
+      (λ other behind in_table. elim (cases_eq other middle) [
+        | inl same ↦ subst (λ (k : ℕ). is_lt (byte_cmp (row_name text at k) name) ≡ false) (sym same) here
+        | inr apart ↦ not_true _ (λ less. false≢true (sym here ∙ joined (row_name text at middle) (row_name text at other) name (sorted middle other (omega (arith, behind, apart)) in_table) less))
+      ]) in
       record { before = (so_far sorted).before; behind = by }
 
 pub parts_end : (told : Option Bytes) (at count : ℕ) (name : Bytes) (low high : ℕ) → low ≡ high → Parts told at count name low high → EndsFront told at count name low

@@ -32,7 +32,12 @@ impl Block {
     }
 
     /// A row of a table, read with those around it where it isn't there.
-    pub(crate) fn row<S: ReadAt>(&mut self, source: &S, table: Table, row: u64) -> Result<Row, Failed>
+    pub(crate) fn row<S: ReadAt>(
+        &mut self,
+        source: &S,
+        table: Table,
+        row: u64,
+    ) -> Result<Row, Failed>
         requires within { row < table.count }
         requires table { table.at + 28 * table.count < 2 ^ 64 }
         requires rows { HasRows (S.text source.now) table.at self.old }

@@ -30,9 +30,13 @@ pub struct Front {
 ///
 /// `Failed` where a read fails, or the text ends before the rows do. Any bytes may stand there: it ends, and a row that
 /// is found has the name; that none is found holds where the rows are in the order of names.
-/// Cost: where names are spread evenly, as those of objects are, mostly two reads of 4,088 bytes, and at most as many as
-/// twelve and the binary digits of the number of rows. Takes no memory.
-pub fn find_row<S: ReadAt>(source: &S, table: Table, name: &[u8; 20]) -> Result<Option<Found>, Failed>
+/// Cost: where names are spread evenly, as those of objects are, one or two reads of 4,088 bytes, and at most as many as twelve
+/// and the binary digits of the number of rows. Takes no memory.
+pub fn find_row<S: ReadAt>(
+    source: &S,
+    table: Table,
+    name: &[u8; 20],
+) -> Result<Option<Found>, Failed>
     requires { table.at + 28 * table.count < 2 ^ 64 }
     ensures { IfOk result (FindsIn (S.text source.now) table.at table.count name.now) }
 {

@@ -16,15 +16,21 @@ pub(crate) struct Span {
 }
 
 impl Span {
-    /// A row among these: where the front of the name would stand if names were spread evenly, or the middle.
+    /// A row among these: where the front of the name would stand if names were spread evenly, or at last the middle.
     pub(crate) fn guess(self, front: u32) -> u64
         requires { self.low < self.high }
         ensures low { self.low ≤ result }
         ensures high { result < self.high }
     {
         let rows = self.high - self.low;
-        if self.tries >= TRIES || front < self.least || front >= self.most {
+        if self.tries >= TRIES {
             return self.low + rows / 2;
+        }
+        if front >= self.most {
+            return self.high - 1;
+        }
+        if front <= self.least {
+            return self.low;
         }
         let part = (front - self.least) as u64;
         let whole = (self.most - self.least) as u64;

@@ -124,10 +124,7 @@ fn has_space(word: &str) -> bool
 }
 
 /// The line of a change.
-fn line_of<A: Allocator + Copy>(
-    alloc: A,
-    change: RefChange<'_>,
-) -> Result<Vec<u8, A>, AllocError>
+fn line_of<A: Allocator + Copy>(alloc: A, change: RefChange<'_>) -> Result<Vec<u8, A>, AllocError>
     ensures { IfOk result (λ line. line.items ≡ change_line change.entry) }
 {
     let mut line = Vec::new(alloc);

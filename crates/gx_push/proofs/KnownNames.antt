@@ -34,6 +34,7 @@ module _ {X : Type 0} (name : X → Bytes) (refs : List Ref) (p : X → Bool) (h
     step : (b : Bool) → is_among (map name (if b then x ∷ filter p xs else filter p xs)) n ≡ (if b then same_bytes (name x) n || is_among (passed xs) n else is_among (passed xs) n)
     step true = refl
     step false = refl
+
     by : (a b : Bool) → (a || is_among (map name xs) n) ≡ false → (is_among (map name xs) n ≡ false → is_among (passed xs) n ≡ false) → (if b then a || is_among (passed xs) n else is_among (passed xs) n) ≡ false
     by true b h k = absurd (true≢false h)
     by false true h k = k h

@@ -51,6 +51,7 @@ fault_is records name object b may e f = by (record_named records object) b e ma
   held_by : (t : Bool) → fault_by true (Some t) ≡ option_map ref_fault (if not t then Some model.WrongKind else None)
   held_by true = refl
   held_by false = refl
+
   by : (o : Option Record) (b : Bool) → is_ref_name name ≡ b → (may : Option Bool) → may ≡ option_map (λ held. is_target_of_kind name held.kind held.body) o
       → fault_by b may ≡ option_map ref_fault (if not (is_ref_name name) then Some model.BadRefName else (if not (is_some o) then Some model.UnknownObject else (if not (is_target name o) then Some model.WrongKind else None)))
   by o false e may f = ap (λ t. option_map ref_fault (if not t then Some model.BadRefName else (if not (is_some o) then Some model.UnknownObject else (if not (is_target name o) then Some model.WrongKind else None)))) (sym e)

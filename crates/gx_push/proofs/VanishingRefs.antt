@@ -12,7 +12,6 @@ use Rattle.gx_push.specs.Pushes.{is_vanishing, vanishes, vanishing}
 use Rattle.gx_push.specs.Wants.{Wanted, held_want, ref_of, want_in, want_of, wants_in}
 use Rattle.gx_push.proofs.KnownNames.{all_known}
 
-
 new_held : (refs : List Ref) (names : List Bytes) (o : Option Wanted) (want : Wanted) → held_want refs names o ≡ Ok want → is_among names want.ref ≡ false
 new_held refs names None want e = absurd (cc e)
 new_held refs names (Some w) want e = by (is_among names w.ref) refl (option_eq same_bytes w.old (object_named refs w.ref)) e where

@@ -28,6 +28,8 @@ loop-place-preserved g c =
     let r = c.args.repo.now.1 in
     let l = c.loop-place in
     let line = c.as_slice.ensures.value ∙ ap (λ v. v.items) c.index-lines-place.is in
-    let told = c.in-Ok.ensures.allowed (map ref_of (shown_settings l.list.items)) l.invariant.1.are in
-    (c.in-Ok.ensures.holds, read_next {A = g.row.A.Denot} ref_of (set_of c.args.forced r) shown_setting c.args.lines.now l.list.items l.names l.place c.index-lines-place.result c.loop-place-test.true l.invariant.1
-    c.as_slice.result.now line c.in-Ok.setting c.insert.new.self c.push.new.self.items c.in_ok-push-in-Ok.ensures.items told c.in_ok-insert-in-Ok.ensures.updates.0)
+    let told = c.in-Ok.ensures.allowed (map ref_of (shown_settings l.list.items)) l.invariant.1.are in (
+      c.in-Ok.ensures.holds,
+      read_next {A = g.row.A.Denot} ref_of (set_of c.args.forced r) shown_setting c.args.lines.now l.list.items l.names l.place c.index-lines-place.result c.loop-place-test.true l.invariant.1
+          c.as_slice.result.now line c.in-Ok.setting c.insert.new.self c.push.new.self.items c.in_ok-push-in-Ok.ensures.items told c.in_ok-insert-in-Ok.ensures.updates.0,
+    )

@@ -1,5 +1,7 @@
 //! Rows that are found, and those that aren't.
 
+ghost use Rattle.std.specs.Prelude.{◌+◌, ◌*◌, ◌<◌, ◌^◌};
+
 use crate::counted::Counted;
 use crate::tables::{FRONT, name_of, spread, table_of};
 use gx_at::TextAt;
@@ -10,10 +12,13 @@ use std::cell::Cell;
 use std::test::Fail;
 
 /// The table of a text that `table_of` makes.
-fn whole(text: &[u8]) -> Table {
+fn whole(text: &[u8]) -> Table
+    ensures { result.at + 28 * result.count < 2 ^ 64 }
+{
+    let rows = text.len().saturating_sub(FRONT) as u64 / 28;
     Table {
         at: FRONT as u64,
-        count: ((text.len() - FRONT) / 28) as u64,
+        count: rows,
     }
 }
 
@@ -58,7 +63,9 @@ fn each_row_is_found_however_reads_are_cut(rt: HostRuntime) -> Result<(), Fail> 
 
 /// The most reads that the look-up of one of these numbers takes, of those at places that are a step apart; none where one isn't
 /// found.
-fn most_reads(text: &[u8], numbers: &[u64], step: usize) -> Option<u64> {
+fn most_reads(text: &[u8], numbers: &[u64], step: usize) -> Option<u64>
+    requires { 0 < step }
+{
     let reads = Cell::new(0);
     let source = Counted {
         text: TextAt {
@@ -69,12 +76,12 @@ fn most_reads(text: &[u8], numbers: &[u64], step: usize) -> Option<u64> {
         most: u64::MAX,
     };
     let mut most = 0;
-    let mut row = 0;
-    while row < numbers.len() {
-        reads.set(0);
-        let _found = find_row(&source, whole(text), &name_of(numbers[row])).ok()??;
-        most = reads.get().max(most);
-        row = row.saturating_add(step.max(1));
+    for (row, number) in numbers.iter().enumerate() {
+        if row % step == 0 {
+            reads.set(0);
+            let _found = find_row(&source, whole(text), &name_of(*number)).ok()??;
+            most = reads.get().max(most);
+        }
     }
     Some(most)
 }
@@ -88,7 +95,9 @@ fn is_within(number: Option<u64>, least: u64, most: u64) -> bool {
 }
 
 /// The most reads of look-ups among so many rows.
-fn reads_among(alloc: Global, count: usize, step: usize) -> Option<u64> {
+fn reads_among(alloc: Global, count: usize, step: usize) -> Option<u64>
+    requires { 0 < step }
+{
     let numbers = spread(alloc, count)?;
     let text = table_of(alloc, &numbers)?;
     most_reads(&text, &numbers, step)

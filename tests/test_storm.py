@@ -7,6 +7,7 @@ the stores.
 
 from __future__ import annotations
 
+import contextlib
 import itertools
 import os
 import random
@@ -23,7 +24,7 @@ from types import ModuleType
 import pytest
 
 from libraries import built, ginlarch, shared  # noqa: F401
-from programs import SCRIPTS, TOP, Done, Program, Word, printed, run_program
+from programs import SCRIPTS, TOP, Done, Program, Word, printed, processes, run_program
 
 NOTHING = "0" * 40
 EMPTY_TREE = "4b825dc642cb6eb9a060e54bf8d69288fbee4904"
@@ -108,13 +109,11 @@ class Storm:
         return Done(child.returncode, out, err)
 
     def kill(self, session: int, whole: bool) -> None:
-        told = subprocess.run(["pgrep", "-s", str(session)], capture_output=True).stdout.split()
-        for pid in told if whole else told and [self.randoms.choice(told)]:
-            try:
-                os.kill(int(pid), signal.SIGKILL)
+        told = processes(lambda process: os.getsid(process) == session)
+        for process in told if whole else told and [self.randoms.choice(told)]:
+            with contextlib.suppress(ProcessLookupError):
+                os.kill(process, signal.SIGKILL)
                 self.ledger.count("killed")
-            except ProcessLookupError:
-                pass
 
     def rage(self, actors: list[Actor]) -> None:
         """Runs all actors to the end."""

@@ -1,8 +1,8 @@
 """Many programs write a store at once, and some of them are killed: no commit that was published is
 lost, but what a command let go that named it.
 
-Each actor has branches of its own, and knows what it was told. At the end the ledger is held against
-the stores.
+Each actor has branches of its own, and knows what it was told. At the end the ledger is held
+against the stores.
 """
 
 from __future__ import annotations
@@ -133,7 +133,7 @@ class Storm:
 
 
 class Actor:
-    """A program that writes branches of its own, again and again. `head` is what the last one has."""
+    """A program that writes a branch of its own, again and again. `head` is what that has."""
 
     def __init__(self, storm: Storm, name: str):
         self.storm, self.name, self.head = storm, name, None

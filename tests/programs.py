@@ -2,8 +2,10 @@
 
 from __future__ import annotations
 
+import contextlib
 import subprocess
 from collections import Counter
+from collections.abc import Callable
 from dataclasses import dataclass
 from pathlib import Path
 from typing import IO
@@ -44,6 +46,15 @@ def run_program(
     }
     done = subprocess.run(words, **how)
     return Done(done.returncode, done.stdout or b"", done.stderr or b"")
+
+
+def processes(is_wanted: Callable[[int], bool]) -> list[int]:
+    """Those processes of which this holds, where they are still there."""
+    found = []
+    for path in Path("/proc").glob("[0-9]*"):
+        with contextlib.suppress(OSError):
+            found += [int(path.name)] if is_wanted(int(path.name)) else []
+    return found
 
 
 def printed(done: Done, words: list[Word]) -> bytes:

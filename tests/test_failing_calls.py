@@ -23,9 +23,9 @@ from programs import SCRIPTS, TOP, Done, Program, Word, counted
 from store_files import needs_strace
 
 CALLS = """
-access chdir chmod clone close dup dup2 execve fchmod fchown fcntl flock fstat fsync ftruncate getcwd
-getdents64 link lseek mkdir mkdirat mmap newfstatat openat pipe2 poll pread64 read readlink rename
-renameat2 rmdir statx symlink unlink unlinkat utimensat vfork wait4 write
+access chdir chmod clone close dup dup2 execve fchmod fchown fcntl flock fstat fsync ftruncate
+getcwd getdents64 link lseek mkdir mkdirat mmap newfstatat openat pipe2 poll pread64 read readlink
+rename renameat2 rmdir statx symlink unlink unlinkat utimensat vfork wait4 write
 """.split()
 Call = tuple[str, int]
 ERRORS = ("EIO", "ENOSPC", "EACCES", "EINTR", "ENOMEM")

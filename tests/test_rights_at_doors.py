@@ -1,5 +1,5 @@
-"""Who may open a store and what stands beside it, behind each command that writes it: nobody who was
-shut out, but for what gx(1) tells of access control lists under FILES.
+"""Who may open a store and what stands beside it, behind each command that writes it: nobody who
+was shut out, but for what gx(1) tells of access control lists under FILES.
 """
 
 from __future__ import annotations
@@ -81,13 +81,13 @@ def who_opens(store: Path) -> dict[str, set[tuple[int, int]]]:
 
 
 def list_of(mode: int, entries: list[Entry]) -> bytes:
-    """A list with these entries beside those of a mode. Source: acl(5), Linux' posix_acl_xattr.h."""
+    """A list with these entries beside a mode's. Source: acl(5), and Linux' posix_acl_xattr.h."""
     rows = {(OWNER, -1): mode >> 6, (OF_GROUP, -1): mode >> 3, (OTHERS, -1): mode}
     rows |= {(kind, whose): bits for kind, bits, whose in entries}
     of_groups = [bits & 7 for (kind, _), bits in rows.items() if kind not in (OWNER, OTHERS)]
     rows.setdefault((MASK, -1), functools.reduce(operator.or_, of_groups))
-    packed = [struct.pack("<HHi", kind, bits & 7, whose) for (kind, whose), bits in sorted(rows.items())]
-    return struct.pack("<I", 2) + b"".join(packed)
+    entries = [(kind, bits & 7, whose) for (kind, whose), bits in sorted(rows.items())]
+    return struct.pack("<I", 2) + b"".join(struct.pack("<HHi", *entry) for entry in entries)
 
 
 def bits_of(how: int) -> int:

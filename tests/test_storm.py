@@ -1,12 +1,13 @@
 """Many programs write a store at once, and some of them are killed: no commit that was published is
 lost, but what a command let go that named it.
 
-Each actor has branches of its own, and knows what it was told. At the end the ledger is held against
-the stores.
+Each actor has branches of its own, and knows what it was told. At the end the ledger is held
+against the stores.
 """
 
 from __future__ import annotations
 
+import contextlib
 import itertools
 import os
 import random
@@ -23,7 +24,7 @@ from types import ModuleType
 import pytest
 
 from libraries import built, ginlarch, shared  # noqa: F401
-from programs import SCRIPTS, TOP, Done, Program, Word, printed, run_program
+from programs import SCRIPTS, TOP, Done, Program, Word, printed, processes, run_program
 
 NOTHING = "0" * 40
 EMPTY_TREE = "4b825dc642cb6eb9a060e54bf8d69288fbee4904"
@@ -108,13 +109,11 @@ class Storm:
         return Done(child.returncode, out, err)
 
     def kill(self, session: int, whole: bool) -> None:
-        told = subprocess.run(["pgrep", "-s", str(session)], capture_output=True).stdout.split()
-        for pid in told if whole else told and [self.randoms.choice(told)]:
-            try:
-                os.kill(int(pid), signal.SIGKILL)
+        told = processes(lambda process: os.getsid(process) == session)
+        for process in told if whole else told and [self.randoms.choice(told)]:
+            with contextlib.suppress(ProcessLookupError):
+                os.kill(process, signal.SIGKILL)
                 self.ledger.count("killed")
-            except ProcessLookupError:
-                pass
 
     def rage(self, actors: list[Actor]) -> None:
         """Runs all actors to the end."""
@@ -134,7 +133,7 @@ class Storm:
 
 
 class Actor:
-    """A program that writes branches of its own, again and again. `head` is what the last one has."""
+    """A program that writes a branch of its own, again and again. `head` is what that has."""
 
     def __init__(self, storm: Storm, name: str):
         self.storm, self.name, self.head = storm, name, None

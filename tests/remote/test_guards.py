@@ -8,9 +8,10 @@ import os
 import shutil
 import subprocess
 import time
+from pathlib import Path
 
 import pytest
-from programs import SCRIPTS, run_program
+from programs import SCRIPTS, processes
 from remote_world import World
 
 LEASE = "--force-with-lease"
@@ -193,19 +194,23 @@ def test_turn_of_a_killed_helper(world: World) -> None:
     """Where git-remote-gx waits for its turn, as gx-mirror asks it to, and is killed, no gx goes on
     to take the lock."""
     world.started()
+    mark = f"--push={world.folder}".encode()
+
+    def is_of_turn(process: int) -> bool:
+        return mark in Path(f"/proc/{process}/cmdline").read_bytes()
+
     with open(f"{world.remote}.new", "wb") as held:
         os.chmod(held.fileno(), 0o600)
         fcntl.flock(held, fcntl.LOCK_EX)
         words = [SCRIPTS / "git-remote-gx", "origin", world.remote]
         how = {"cwd": world.folder / "work", "env": {**world.environment, "GIT_DIR": ".git"}}
-        with subprocess.Popen(words, stdin=subprocess.PIPE, **how) as helper:
+        pipe = subprocess.PIPE
+        with subprocess.Popen(words, stdin=pipe, stdout=pipe, **how) as helper:
             helper.stdin.write(b"option gx-turn true\nlist for-push\n")
             helper.stdin.flush()
-            pattern = f"--push={world.folder}"
-            while not (waiting := run_program(["pgrep", "-f", "--", pattern]).out.split()):
+            while not processes(is_of_turn):
                 time.sleep(0.1)
             helper.kill()
-    assert len(waiting) == 1
     stream = b"commit refs/heads/new\ncommitter A <a@x> 1 +0000\ndata 0\n\n"
     world.store("import", "--wait=20", stdin=stream)
-    assert run_program(["pgrep", "-f", "--", pattern]).out == b""
+    assert not processes(is_of_turn)

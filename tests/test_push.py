@@ -2,6 +2,7 @@
 
 from __future__ import annotations
 
+import os
 import subprocess
 from collections.abc import Callable
 from pathlib import Path
@@ -193,3 +194,17 @@ def test_pushes_at_once(pushed: Pushed, tmp_path: Path) -> None:
     assert told == [b""] + [b"gx: push 1: RefMoved\n"] * 5
     log = pushed.gx.prints("log", pushed.store, "refs/heads/a").decode().split()
     assert len(log) == 2 and log[1] == a
+
+
+def test_lines_come_behind_the_lock(pushed: Pushed) -> None:
+    """Once the pipe of the lines is open nothing else changes the refs."""
+    os.mkfifo(pushed.file)
+    words = [pushed.gx.path, "import", f"--push={pushed.file}", pushed.store]
+    with subprocess.Popen(words, stdin=subprocess.PIPE) as child:
+        with pushed.file.open("w") as lines:
+            done = pushed.gx("import", "--wait=0", pushed.store, stdin=ON_A.encode())
+            assert (done.status, done.err) == (1, b"gx: lock failed\n")
+            lines.write(f"{pushed.refs()['refs/heads/a']} refs/heads/a\n")
+        child.communicate(ON_A.encode())
+    assert child.returncode == 0
+    pushed.gx.prints("import", "--wait=0", pushed.store, stdin=b"")

@@ -330,6 +330,7 @@ def test_mirrors(ginlarch: ModuleType, storm: Storm, git: Callable[..., bytes]) 
     others = actors_of(storm, {Importer: 2, Pusher: 1, Changer: 1})
     storm.rage([first, Follower(storm, first), *others])
     storm.gx.prints("import", storm.path)
+    assert storm.ledger.counts["mirrors done"]
     noted = storm.path.with_name("s.gx.dropped").read_text().splitlines()
     stands(storm, git, storm.ledger.let_go | {line.split(" ")[1] for line in noted})
     asked = "".join(f"{digits}\n" for digits in storm.ledger.published).encode()

@@ -14,8 +14,9 @@ use gx_text::{FromRead, IntoWrite};
 use std::alloc::Global;
 use std::hash::RandomState;
 
-/// Imports standard input into a store file as a push, whose lines are in the file `told`. They are read before the store file is
-/// claimed. A refused push leaves that as it was. What is told of it comes once the store file is free.
+/// Imports standard input into a store file as a push, whose lines are in the file `told`. They are read once the store file is claimed,
+/// so that who writes them into a pipe knows that nothing else changes it. A refused push leaves it as it was. What is told of it comes
+/// once the store file is free.
 pub(crate) fn push(
     run: &Run<'_>,
     file: &str,
@@ -24,8 +25,8 @@ pub(crate) fn push(
     report: bool,
     state: RandomState,
 ) -> Result<(), RunFault> {
-    let lines = told_lines(run, told)?;
     let mut next = NextText::claim_next(run, file)?;
+    let lines = told_lines(run, told)?;
     let store = next.read_store()?;
     tell_typed_stream(run);
     let (pushed, nameless) = push_shown(run, store, lines.as_slice(), done, report, state);

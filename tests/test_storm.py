@@ -186,6 +186,26 @@ class Dropper(Importer):
             self.storm.run("gc", [self.storm.gx.path, "gc", self.storm.path])
 
 
+class Setter(Importer):
+    """Sets its branch back to the commit before, and lets go of the last one by that."""
+
+    def step(self) -> None:
+        super().step()
+        old = self.head
+        parent = self.storm.ledger.parents.get(old) if old else None
+        if not parent:
+            return
+        told = f"update {self.ref} {parent} {old}\n".encode()
+        is_told = self.storm.randoms.random() < 0.5
+        row = ["--stdin", self.storm.path] if is_told else [self.storm.path, self.ref, parent, old]
+        words = [self.storm.gx.path, "set-ref", "--force", *row]
+        self.storm.run("set-refs", words, told if is_told else b"")
+        self.look()
+        if self.head != old:
+            assert self.head == parent, "what set-ref leaves"
+            self.storm.ledger.let_go.add(old)
+
+
 class Changer(Actor):
     """The Python module, by its lock or without."""
 
@@ -314,12 +334,12 @@ def test_writers(
     """Importers, droppers, pushers and the Python module, which lose nothing to each other, and of
     which each comes in."""
     more = 2 if is_long else 1
-    kinds = {Importer: 3, Dropper: 2, Pusher: 3, Changer: 2, Saver: 1}
+    kinds = {Importer: 3, Dropper: 2, Pusher: 3, Changer: 2, Saver: 1, Setter: 1}
     storm.rage(actors_of(storm, {kind: some * more for kind, some in kinds.items()}))
     storm.gx.prints("import", storm.path)
     assert {path.name for path in storm.folder.glob("s.gx*")} <= {"s.gx", "s.gx.HEAD"}
     counts = storm.ledger.counts
-    assert all(counts[f"{what} done"] for what in ("imports", "pushes", "changes", "drops"))
+    assert all(counts[f"{what} done"] for what in ("imports", "pushes", "changes", "drops", "set-refs"))
     stands(storm, git, storm.ledger.let_go)
 
 

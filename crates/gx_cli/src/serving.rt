@@ -40,8 +40,9 @@ pub struct Outcome<A: Allocator> {
 /// refused by `ReadFailed`. The other commands read the store's text first, then all words, and then evaluate
 /// each in its order; but `batch` reads its format before. `import` and `batch` read their source then, and so do `drop` and
 /// `log` before the words, where its lines are words, and `set-ref`, where they are its changes. Only `init`, `import`, `drop`,
-/// `set-ref` and `gc` answer a next store text: where they are accepted, and `import` also where it is refused after a checkpoint. What `import` and `gc` report is told by
-/// [`import_store_reporting`](crate::import_store_reporting) and [`collect_store`](crate::collect_store).
+/// `set-ref` and `gc` answer a next store text: where they are accepted, and `import` also where it is refused after a
+/// checkpoint. What `import` and `gc` report is told by [`import_store_reporting`](crate::import_store_reporting) and
+/// [`collect_store`](crate::collect_store).
 ///
 /// Importing what was exported, in any form, makes the repository again, as far as its refs reach: the same refs and object names.
 ///

@@ -11,9 +11,7 @@ use Rattle.gx_batch.specs.Lines.{lines_from}
 use Rattle.gx_batch.specs.declared.ending.LineEnding.TheVariants.{Lf}
 use Rattle.gx_push.specs.Calls.{SetsRefs}
 use Rattle.gx_push.specs.Settings.{set_refs}
-use Rattle.gx_push.specs.declared.fault.SetFault.{SetFault}
-use Rattle.gx_push.specs.declared.fault.SetFault.TheVariants as set
-use Rattle.gx_cli.specs.Gathering.{AreLines, GathersLines, of_set}
+use Rattle.gx_cli.specs.Gathering.{AreLines, GathersLines}
 use Rattle.gx_cli.specs.Setting.{IsSet, SetsFrom, SetsRead}
 use Rattle.gx_cli.specs.declared.fault.CliFault.{CliFault}
 use Rattle.gx_cli.specs.declared.fault.CliFault.TheVariants as fault
@@ -22,11 +20,6 @@ module _ {N : Type 0} (name : Kind → Bytes → Bytes) (forced : Bool) (old : R
   -- the refs are set
   pub all_set : (left : N × Records) → SetsRefs forced old lines (Ok left) → IsSound name left.1 → IsSet name old (set_refs forced old lines) (Ok left.1)
   all_set left h sound = (h.0, h.1, sound)
-
-  -- none is
-  pub none_set : (why : SetFault) → SetsRefs {N} forced old lines (Err why) → IsSet name old (set_refs forced old lines) (Err (of_set why))
-  none_set (set.Line number kind) h = h
-  none_set set.OutOfMemory h = tt
 
 module _ {A : Type 0} (name : Kind → Bytes → Bytes) (forced : Bool) (old : Records) (answer : Result Records CliFault) where
   set_behind : (c : Coming) (read : Vec (Vec ℕ A) A) → AreLines (lines_from Lf c) c.fails (Ok read)

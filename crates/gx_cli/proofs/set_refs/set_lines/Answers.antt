@@ -1,4 +1,4 @@
-use Rattle.gx_cli.proofs.SetStores.{all_set, none_set}
+use Rattle.gx_cli.proofs.SetStores.{all_set}
 use Rattle.gx_push.specs.Calls.{texts}
 use Rattle.gx_cli.proofs.set_refs.set_lines.Goals as goal
 

@@ -4,6 +4,7 @@ from __future__ import annotations
 
 import random
 import subprocess
+import time
 from collections.abc import Callable
 from pathlib import Path
 
@@ -321,3 +322,97 @@ def test_beside_git(
         told = git("for-each-ref", "--format=%(objectname) %(refname)", cwd=tmp_path / "git")
         assert store.gx.prints("refs", store.path) == told, lines
     assert accepted
+
+
+@pytest.mark.parametrize(
+    "line", ["delete {}", "verify {}", "verify {} " + ZEROS, f"update {{}} {ZEROS}"]
+)
+@pytest.mark.parametrize("name", ["a..b", "refs/heads/.a", "main/"])
+def test_removal_under_no_name(store: Store, name: str, line: str) -> None:
+    """No ref has such a name, so none goes."""
+    was = store.refs()
+    assert store.taken("--stdin", lines=line.format(name) + "\n") == was
+    store.refused("ref 1: RefMoved", "--stdin", lines=f"delete {name} {store.main}\n")
+
+
+def test_line_ends(store: Store) -> None:
+    lines = f"create refs/heads/one {store.main}\r\ncreate refs/heads/two {store.old}\r\n"
+    now = store.taken("--stdin", lines=lines)
+    assert (now["refs/heads/one"], now["refs/heads/two"]) == (store.main, store.old)
+
+
+ODD = ["\0", "create refs/heads/a {}\0", "\tdelete refs/heads/a", "\r\r"]
+
+
+@pytest.mark.parametrize("line", ODD)
+def test_odd_bytes(store: Store, line: str) -> None:
+    store.refused("ref 1: BadLine", "--stdin", lines=line.format(store.main) + "\n")
+
+
+def test_names_beside_each_other(store: Store) -> None:
+    """A ref may stand below another one, and what stands in quotes is a name of its own."""
+    names = ("refs/heads/main/below", '"refs/heads/main"', "HEAD")
+    now = store.taken("--stdin", lines="".join(f"create {name} {store.old}\n" for name in names))
+    assert all(now[name] == store.old for name in names)
+    assert now["refs/heads/main"] == store.main
+
+
+def random_history(randoms: random.Random, count: int) -> tuple[str, list[set[int]]]:
+    """A stream of commits with several roots and merges, each held by a ref, and the ancestors of
+    each of them."""
+    stream, ancestors = [], []
+    for number in range(count):
+        before = range(max(0, number - 5), number)
+        parents = randoms.sample(before, min(len(before), randoms.choice([0, 1, 1, 1, 2, 2, 3])))
+        ancestors.append({number}.union(*(ancestors[parent] for parent in parents)))
+        links = "".join(
+            f"{word} :{parent + 1}\n" for word, parent in zip(["from"] + ["merge"] * 2, parents)
+        )
+        start = f"commit refs/heads/c{number}\nmark :{number + 1}\n"
+        stream.append(start + WHO.format("committer", number) + f"data 1\nx\n{links}\n")
+    return "".join(stream), ancestors
+
+
+def test_forward_in_histories(seed: int, gx: Program, new_store: Callable[..., Path]) -> None:
+    """A move is taken exactly where the new commit is the old one or descends from it."""
+    randoms = random.Random(f"{seed} forward")
+    stream, ancestors = random_history(randoms, 40)
+    path = new_store(stream.encode())
+    text = path.read_bytes()
+    lines = gx.prints("refs", path).decode().splitlines()
+    held = {name: digits for digits, name in (line.split(" ") for line in lines)}
+    taken = 0
+    for _ in range(80):
+        old, new = (randoms.randrange(len(ancestors)) for _ in range(2))
+        words = [f"refs/heads/c{old}", held[f"refs/heads/c{new}"], held[f"refs/heads/c{old}"]]
+        done = gx("set-ref", path, *words)
+        is_forward = old in ancestors[new]
+        told = b"" if is_forward else b"gx: ref 1: NotFastForward\n"
+        assert (done.status, done.err) == (int(not is_forward), told), (seed, old, new)
+        taken += is_forward
+        path.write_bytes(text)
+    assert 0 < taken < 80
+
+
+def test_killed_setters(seed: int, store: Store) -> None:
+    """Where a run is killed all of its lines are made, or none."""
+    randoms = random.Random(f"{seed} killed")
+    names = [f"refs/heads/x/{number}" for number in range(3000)]
+    values = [store.old, store.main]
+    store.taken("--stdin", lines="".join(f"create {name} {values[0]}\n" for name in names))
+    made = store.path.stat().st_size
+    for _ in range(15):
+        lines = "".join(f"update {name} {values[1]} {values[0]}\n" for name in names)
+        words = [store.gx.path, "set-ref", "--stdin", "--force", store.path]
+        how = {"stdin": subprocess.PIPE, "env": store.gx.environment}
+        with subprocess.Popen(words, **how) as run:
+            run.stdin.write(lines.encode())
+            run.stdin.close()
+            time.sleep(randoms.random() * 0.05)
+            run.kill()
+        refs = store.refs()
+        [now] = {refs[name] for name in names}
+        assert now == values[1] or run.returncode != 0
+        if now == values[1]:
+            values.reverse()
+        assert store.path.stat().st_size == made

@@ -173,12 +173,23 @@ def test_lines(store: Store) -> None:
         f"verify refs/heads/main {store.main}\n"
         f"verify refs/heads/nowhere\n"
         f"verify refs/heads/nothing {ZEROS}\n"
-        f"update refs/heads/files {ZEROS}"
+        f"update refs/heads/files {ZEROS}\n"
     )
     now = store.taken("--stdin", lines=lines)
     gone = ("refs/heads/side", "refs/heads/files")
     kept = {name: held for name, held in was.items() if name not in gone}
     assert now == kept | {"refs/heads/old": store.main, "refs/heads/new": store.side}
+
+
+def test_cut_list(store: Store) -> None:
+    """A list whose last line was cut off sets nothing, whatever is left of that line."""
+    before = store.path.read_bytes()
+    whole = f"create refs/heads/new {store.side}\nupdate refs/heads/old {store.main} {store.old}"
+    for length in range(len(whole.splitlines()[0]) + 2, len(whole) + 1):
+        done = store.run("--stdin", lines=whole[:length])
+        assert (done.status, done.err) == (1, b"gx: read failed\n"), whole[:length]
+    assert store.path.read_bytes() == before
+    assert store.run("--stdin", lines="").status == 0
 
 
 FIRST = "create refs/heads/first {main}\n"

@@ -2,8 +2,8 @@
 
 use super::next_text::NextText;
 use crate::fault::RunFault;
-use crate::run::Run;
-use crate::streams::devices::Noted;
+use crate::run::{Run, Subject};
+use crate::streams::devices::{Noted, WholeLines};
 use gx_cli::{RefChange, set_store};
 use gx_object::Sha1Namer;
 use gx_text::FromRead;
@@ -19,7 +19,8 @@ pub(crate) fn set_ref(
 ) -> Result<(), RunFault> {
     let mut next = NextText::claim_next(run, file)?;
     let store = next.read_store()?;
-    let source = FromRead::new(Noted::input(run));
+    let lines = WholeLines::new(run.rt.stdin());
+    let source = FromRead::new(Noted::new(run, Subject::Input, lines));
     let alloc = run.rt.alloc();
     let left = set_store(alloc, Sha1Namer, store, change, source, force, state)?;
     next.publish_store(&left)?;

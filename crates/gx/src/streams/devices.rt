@@ -112,6 +112,37 @@ impl<D: Write> Write for Noted<'_, D> {
     }
 }
 
+/// Lines that fail where the last one has no LF, as where the program that writes them was cut off.
+#[derive(Drop)]
+pub(crate) struct WholeLines<D> {
+    device: D,
+    is_in_line: bool,
+}
+
+impl<D> WholeLines<D> {
+    /// The lines of a device.
+    pub(crate) fn new(device: D) -> WholeLines<D> {
+        WholeLines {
+            device,
+            is_in_line: false,
+        }
+    }
+}
+
+impl<D: Read> Read for WholeLines<D> {
+    fn read(&mut self, buf: &mut [u8]) -> io::Result<usize> {
+        let count = self.device.read(buf)?;
+        if count > 0 {
+            self.is_in_line = buf[count - 1] != b'\n';
+            return Ok(count);
+        }
+        if self.is_in_line {
+            return Err(io::Error::from(ErrorKind::UnexpectedEof));
+        }
+        Ok(0)
+    }
+}
+
 /// What a command answers once its buffer is flushed, also where it is refused: its own fault comes first.
 pub(crate) fn flushed<T: Drop, W: Write + Drop>(
     out: &mut BufWriter<W>,

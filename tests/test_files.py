@@ -396,7 +396,10 @@ def test_version(store: StoreFile) -> None:
     assert re.fullmatch(
         r"gx [0-9.]+ \(rattle-kit-[0-9a-z]+, commit (unknown|[0-9a-f]{40})\)\n", told
     )
+    page = (Path(__file__).parents[1] / "README.md").read_text()
+    kit, logic = re.findall(r"prints `(rattle-kit-\w+) logic (\w+)`", page)[0]
+    assert f"({kit}, " in told
     if shutil.which("rt"):
-        # a kit that proves another program proves it anew
-        kit = subprocess.run(["rt", "version"], capture_output=True, text=True).stdout.split(" ")[0]
-        assert f"({kit}, " in told
+        # a kit of another logic proves anew, and its name goes into the program and the page
+        here = subprocess.run(["rt", "version"], capture_output=True, text=True).stdout
+        assert here.split()[-1] == logic

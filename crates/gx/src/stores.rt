@@ -18,10 +18,9 @@ use crate::streams::reports::{
     tell_changes, tell_import, tell_nameless, tell_pruned, tell_typed_stream,
 };
 use crate::streams::traced::Traced;
-use crate::streams::{refusal, serve_line};
 use gx_cli::{
-    CliFault, Explanation, Features, ImportReport, Line, Repo, collect_store,
-    collect_store_keeping, drop_store, import_store, import_store_reporting, lines_from,
+    CliFault, Explanation, Features, ImportReport, Repo, StoreForm, collect_opened, drop_named,
+    form_of, import_opened, lines_from, names_in, open_store, report_opened,
 };
 use gx_object::Sha1Namer;
 use gx_text::{FromRead, IntoWrite};
@@ -36,15 +35,30 @@ use std::hash::RandomState;
 /// What an import left, with the lines of the refs that it changed, where they are asked for.
 type Left = Option<(Repo<Sha1Namer, Global>, Vec<u8>)>;
 
-/// Makes a store file where there is none.
+/// Makes an empty store file of a form where there is none.
 pub(crate) fn init(
     run: &Run<'_>,
-    line: &Line<'_>,
     file: &str,
+    form: StoreForm,
     state: RandomState,
 ) -> Result<(), RunFault> {
     let mut next = NextText::claim_new(run, file)?;
-    serve_next(run, line, &mut next, Vec::new(run.rt.alloc()), state)
+    next.shape(form);
+    next.publish_store(&Repo::new(run.rt.alloc(), Sha1Namer, state))?;
+    Ok(())
+}
+
+/// Makes a growing text of a store file's text, and leaves one that is.
+pub(crate) fn grow(run: &Run<'_>, file: &str, state: RandomState) -> Result<(), RunFault> {
+    let mut next = NextText::claim_next(run, file)?;
+    let store = next.read_store()?;
+    if form_of(&store) == StoreForm::Growing {
+        return Ok(());
+    }
+    let repo = open_store(run.rt.alloc(), Sha1Namer, store, state)?;
+    next.shape(StoreForm::Growing);
+    next.publish_store(&repo)?;
+    Ok(())
 }
 
 /// Drops refs from a store file, which stays as it was where that is refused.
@@ -57,25 +71,11 @@ pub(crate) fn drop_refs(
 ) -> Result<(), RunFault> {
     let mut next = NextText::claim_next(run, file)?;
     let store = next.read_store()?;
+    let repo = open_store(run.rt.alloc(), Sha1Namer, store, state)?;
     let source = FromRead::new(Noted::input(run));
-    let left = drop_store(run.rt.alloc(), Sha1Namer, store, refs, stdin, source, state)?;
+    let left = drop_named(run.rt.alloc(), repo, refs, stdin, source)?;
     next.publish_store(&left)?;
     Ok(())
-}
-
-/// Serves a command over a store's text. Where there is a next one, it is put in its place, also where the command is refused.
-fn serve_next(
-    run: &Run<'_>,
-    line: &Line<'_>,
-    next: &mut NextText<'_>,
-    store: Vec<u8>,
-    state: RandomState,
-) -> Result<(), RunFault> {
-    let outcome = serve_line(run, line, store, Noted::output(run), state);
-    if let Some(text) = &outcome.store {
-        next.publish(text)?;
-    }
-    Ok(refusal(&outcome)?)
 }
 
 /// Leaves out of a store file what neither refs reach nor the objects that the lines of the file `keep` name; where that is
@@ -94,11 +94,10 @@ pub(crate) fn collect(
     };
     let mut next = NextText::claim_next(run, file)?;
     let store = next.read_store()?;
-    let (repo, gone) = match keep {
-        Some(_) => collect_store_keeping(alloc, Sha1Namer, store, lines.as_slice(), state)?,
-        None => collect_store(alloc, Sha1Namer, store, state)?,
-    };
-    next.publish_store(&repo)?;
+    let kept = names_in(alloc, lines.as_slice())?;
+    let repo = open_store(alloc, Sha1Namer, store, state)?;
+    let (left, gone) = collect_opened(repo, kept.as_slice())?;
+    next.publish_store(&left)?;
     drop(next);
     tell_pruned(run, &gone, report);
     Ok(())
@@ -161,15 +160,13 @@ fn import_shown(
     let mut told = Explanation::none();
     let mut sink = IntoWrite::new(Beside::new(&progress));
     let source = FromRead::new(&mut input);
-    let (left, answer) = if report {
-        import_store_reporting(
-            alloc, Sha1Namer, store, source, &mut sink, features, state, &mut told,
-        )
-    } else {
-        let (repo, answer) = import_store(
-            alloc, Sha1Namer, store, source, &mut sink, features, state, &mut told,
-        );
-        (repo.map(|repo| (repo, Vec::new(alloc))), answer)
+    let (left, answer) = match open_store(alloc, Sha1Namer, store, state) {
+        Ok(repo) if report => report_opened(alloc, repo, source, &mut sink, features, &mut told),
+        Ok(repo) => {
+            let (left, answer) = import_opened(alloc, repo, source, &mut sink, features, &mut told);
+            (left.map(|repo| (repo, Vec::new(alloc))), answer)
+        }
+        Err(fault) => (None, Err(fault)),
     };
     progress.clear();
     let nameless = input.trail().map_or(0, |trail| trail.nameless());

@@ -12,44 +12,58 @@ use crate::stores::files::read_store;
 use devices::{Noted, flushed};
 use explanation::explained;
 use gx_cli::{
-    CliFault, Explanation, Features, Line, Outcome, adapt_status, adapt_stream, check_stream,
-    find_fault, serve_owned, try_revision,
+    CliFault, Explanation, Features, Line, StoreForm, adapt_status, adapt_stream, answer,
+    batch_opened, check_stream, find_fault, form_of, open_store, print_counts, serve_owned,
+    try_revision,
 };
 use gx_object::Sha1Namer;
 use gx_text::{FromRead, IntoWrite};
 use progress::{Beside, ProgressLine};
 use reports::{tell_adaption, tell_typed_stream};
-use std::alloc::Global;
 use std::hash::RandomState;
-use std::io::{BufWriter, Write};
+use std::io::{BufWriter, Read, Write};
 use traced::Traced;
 
-/// Serves a command over a store's text, which is empty where it has no use for one, with this output.
-pub(crate) fn serve_line<W: Write + Drop>(
+/// Answers a command over a store's text, which is empty where it has no use for one, with this output.
+fn serve_line<W: Write + Drop>(
     run: &Run<'_>,
     line: &Line<'_>,
     store: Vec<u8>,
     output: W,
     state: RandomState,
-) -> Outcome<Global> {
+) -> Result<(), CliFault> {
+    let alloc = run.rt.alloc();
     let source = FromRead::new(Noted::input(run));
     let mut sink = IntoWrite::new(output);
-    serve_owned(
-        run.rt.alloc(),
-        Sha1Namer,
-        line,
-        store,
-        source,
-        &mut sink,
-        state,
-    )
-}
-
-/// Why a command was refused, if it was.
-pub(crate) fn refusal(outcome: &Outcome<Global>) -> Result<(), CliFault> {
+    if form_of(&store) == StoreForm::Growing {
+        return answer_growing(run, line, store, source, &mut sink, state);
+    }
+    let outcome = serve_owned(alloc, Sha1Namer, line, store, source, &mut sink, state);
     match outcome.fault {
         Some(fault) => Err(fault),
         None => Ok(()),
+    }
+}
+
+/// Answers a command over a growing text, which is read as a whole.
+fn answer_growing<R: Read + Drop, W: Write + Drop>(
+    run: &Run<'_>,
+    line: &Line<'_>,
+    store: Vec<u8>,
+    source: FromRead<R>,
+    sink: &mut IntoWrite<W>,
+    state: RandomState,
+) -> Result<(), CliFault> {
+    let alloc = run.rt.alloc();
+    let repo = open_store(alloc, Sha1Namer, store, state)?;
+    match line {
+        Line::Batch {
+            form,
+            format,
+            nul,
+            file: _,
+        } => batch_opened(alloc, &repo, *form, *format, *nul, source, sink),
+        _ => answer(alloc, &repo, line, source, sink),
     }
 }
 
@@ -64,7 +78,7 @@ pub(crate) fn answer_input(
         Some(file) => read_store(run, file)?,
         None => Vec::new(run.rt.alloc()),
     };
-    refusal(&serve_line(run, line, store, Noted::output(run), state))
+    serve_line(run, line, store, Noted::output(run), state)
 }
 
 /// Prints what a command tells of a store.
@@ -76,6 +90,23 @@ pub(crate) fn print(
 ) -> Result<(), CliFault> {
     let store = read_store(run, file)?;
     print_to(run, line, store, Noted::output(run), state)
+}
+
+/// Tells what a store holds, which is read as a whole.
+pub(crate) fn verify(run: &Run<'_>, file: &str, state: RandomState) -> Result<(), CliFault> {
+    let store = read_store(run, file)?;
+    let (version, bytes) = (store_version(&store), store.len() as u64);
+    let repo = open_store(run.rt.alloc(), Sha1Namer, store, state)?;
+    print_counts(&repo, version, bytes, &mut IntoWrite::new(Noted::output(run)))
+}
+
+/// The version that a store's text says, where it is read.
+fn store_version(store: &[u8]) -> u64 {
+    match form_of(store) {
+        StoreForm::Growing => 3,
+        StoreForm::Plain if store.starts_with(b"gxstore 1") => 1,
+        StoreForm::Plain => 2,
+    }
 }
 
 /// Exports a store, and shows how much went out.
@@ -103,8 +134,8 @@ fn print_to<W: Write + Drop>(
 ) -> Result<(), CliFault> {
     match BufWriter::new(run.rt.alloc(), output) {
         Ok(mut out) => {
-            let outcome = serve_line(run, line, store, &mut out, state);
-            flushed(&mut out, refusal(&outcome))
+            let answered = serve_line(run, line, store, &mut out, state);
+            flushed(&mut out, answered)
         }
         Err(_) => Err(CliFault::OutOfMemory),
     }

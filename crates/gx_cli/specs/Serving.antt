@@ -120,7 +120,9 @@ without_room (line.Check done force explain) = None
 without_room (line.Adapt drops) = None
 without_room (line.Where command) = None
 without_room (line.WhereFault done force) = None
-without_room (line.Init file wait) = None
+without_room (line.Init file growing wait) = None
+without_room (line.Grow file wait) = None
+without_room (line.Verify file) = None
 without_room (line.Push file push done report explain wait) = None
 without_room (line.Put file stamp wait) = None
 without_room (line.Batch form format nul file) = Some OutOfMemory
@@ -147,6 +149,12 @@ module _ (name : Kind → Bytes → Bytes) where
       (answer : Result (Unit {0}) BatchFault)
       × Answers (line_answer name form parts repository) ending coming was now answer
       × (result ≡ result_map_both (λ done. done) of_batch answer)
+
+  -- The same in a format, which is read before. A text that is no format is refused, and nothing went out.
+  abbrev pub AnswersFormatted : BatchForm → Option (List Part) → LineEnding → Records → Option Coming → Option Taken → Option Taken → Result (Unit {0}) CliFault → Type 0
+  AnswersFormatted form None ending r coming was now result = (result ≡ Err BadFormat ⊎ (result ≡ Err OutOfMemory)) × (now ≡ was)
+  AnswersFormatted form (Some parts) ending r coming was now result =
+      ((result ≡ Err OutOfMemory) × (now ≡ was)) ⊎ AnswersBatch form parts ending r coming was now result
 
   -- what is answered to what a line asks of a repository; to one that asks nothing, nothing
   abbrev pub IsAnswered : Line → Records → Option Coming → Option Taken → Option Taken → Result (Unit {0}) CliFault → Type 0
@@ -229,7 +237,10 @@ module _ (name : Kind → Bytes → Bytes) {A : Type 0} where
   Serves (line.Where command) store coming was now o = EndsAnswered (PlacesFrom command coming was now) o
   Serves (line.WhereFault done force) store coming was now o = EndsAnswered (FindsFault name (features_of done force) coming) o × (now ≡ was)
   Serves (line.Batch form format nul file) store coming was now o = AnswersLines form (format_parts format) (ending_of nul) store coming was now o
-  Serves (line.Init file wait) store coming was now o = IsWritten name empty_repository o × (now ≡ was)
+  Serves (line.Init file false wait) store coming was now o = IsWritten name empty_repository o × (now ≡ was)
+  Serves (line.Init file true wait) store coming was now o = IsRefused ReadFailed o × (now ≡ was)
+  Serves (line.Grow file wait) store coming was now o = IsRefused ReadFailed o × (now ≡ was)
+  Serves (line.Verify file) store coming was now o = IsRefused ReadFailed o × (now ≡ was)
   Serves (line.Push file push done report explain wait) store coming was now o = IsRefused ReadFailed o × (now ≡ was)
   Serves (line.Put file stamp wait) store coming was now o = IsRefused ReadFailed o × (now ≡ was)
   Serves (line.Import file done force report explain wait) store coming was now o = ImportsText (features_of done force) store coming was now o

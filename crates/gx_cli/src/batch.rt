@@ -6,7 +6,7 @@ ghost use Rattle.gx_model.specs.Stores.StoreReading.{store_of};
 ghost use Rattle.gx_batch.specs.Batches.{Answers};
 ghost use Rattle.gx_batch.specs.declared.fault.BatchFault.{BatchFault};
 ghost use Rattle.gx_cli.specs.Gathering.{of_batch};
-ghost use Rattle.gx_cli.specs.Serving.{AnswersBatch, AnswersLines, EndsAnswered, EndsOpened, ReadsParts, ending_of, format_parts};
+ghost use Rattle.gx_cli.specs.Serving.{AnswersBatch, AnswersFormatted, AnswersLines, EndsAnswered, EndsOpened, ReadsParts, ending_of, format_parts};
 
 use crate::commands::Commands;
 use crate::opening::open;
@@ -96,6 +96,27 @@ fn batch_formatted<N: Namer + Drop, R: Source + Drop, W: Sink, A: Allocator + Co
     match open(alloc, namer, store, state) {
         Ok(repo) => outcome_of(batch(alloc, &repo, form, format, ending, source, sink)),
         Err(fault) => refused(CliFault::Store(fault)),
+    }
+}
+
+/// Answers each line of a source over the repository of a store. The format is read first.
+///
+/// `BadFormat`: the format isn't one, and nothing went out. Cost: that of `gx_batch::answer_lines`.
+pub fn batch_opened<N: Namer, R: Source + Drop, W: Sink, A: Allocator + Copy>(
+    alloc: A,
+    repo: &Repo<N, A>,
+    form: BatchForm,
+    format: Option<&str>,
+    nul: bool,
+    source: R,
+    sink: &mut W,
+) -> Result<(), CliFault>
+    ensures { AnswersFormatted (N.name_of repo.now.0) form (format_parts format.entry) (ending_of nul)
+        repo.now.1 (R.coming source) (W.taken sink.old) (W.taken sink.new) result }
+{
+    match read_format(alloc, format) {
+        Ok(format) => batch(alloc, repo, form, &format, ending_of(nul), source, sink),
+        Err(fault) => Err(fault),
     }
 }
 

@@ -45,8 +45,8 @@ pub fn drop_store<N: Namer + Drop, R: Source + Drop, A: Allocator + Copy>(
     }
 }
 
-/// Drops the refs with these names from a repository. With `stdin` the lines of the source are names, too.
-pub(crate) fn drop_named<N: Namer + Drop, R: Source + Drop, A: Allocator + Copy>(
+/// Does what [`drop_store`] does with the repository of a store.
+pub fn drop_named<N: Namer + Drop, R: Source + Drop, A: Allocator + Copy>(
     alloc: A,
     repo: Repo<N, A>,
     words: &[&str],

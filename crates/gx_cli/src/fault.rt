@@ -12,6 +12,7 @@ use gx_archive::ArchiveFault;
 use gx_batch::{BatchFault, FormatFault};
 use gx_export::ExportFault;
 use gx_file::FileFault;
+use gx_growing::GrowingFault;
 use gx_import::ImportFault;
 use gx_push::{PushFault, RefFault, SetFault};
 use gx_rev::RevFault;
@@ -33,6 +34,8 @@ pub enum CliFault {
     Ref { number: u64, kind: RefFault },
     /// Why the store's text isn't read.
     Store(FileFault),
+    /// Why the store's text isn't read, which is of version 3.
+    Growing(GrowingFault),
     /// Why the store isn't exported as a whole.
     Export(ExportFault),
     /// Why a stream isn't adapted to its end.
@@ -65,6 +68,7 @@ impl fmt::Display for CliFault {
             CliFault::Push { number, kind } => write!(f, "gx: push {number}: {kind}"),
             CliFault::Ref { number, kind } => write!(f, "gx: ref {number}: {kind}"),
             CliFault::Store(fault) => write!(f, "gx: store: {fault}"),
+            CliFault::Growing(fault) => write!(f, "gx: store: {fault}"),
             CliFault::Export(fault) => write!(f, "gx: export: {fault}"),
             CliFault::Adapt(fault) => write!(f, "gx: adapt: {fault}"),
             CliFault::Where(fault) => write!(f, "gx: where: {fault}"),

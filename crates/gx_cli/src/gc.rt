@@ -57,7 +57,9 @@ pub fn collect_store_keeping<N: Namer + Drop, A: Allocator + Copy>(
 }
 
 /// The names that these lines give, each by its 40 digits, of either case.
-fn names_in<A: Allocator + Copy>(alloc: A, lines: &[Vec<u8, A>]) -> Result<Vec<Name, A>, CliFault>
+///
+/// `Keep`: the first line that isn't 40 digits, by its number from 1. `OutOfMemory`: a growth was refused.
+pub fn names_in<A: Allocator + Copy>(alloc: A, lines: &[Vec<u8, A>]) -> Result<Vec<Name, A>, CliFault>
     ensures { GivesNames (kept_names (texts_of lines.now)) result }
 {
     let mut names = Vec::new(alloc);
@@ -108,8 +110,9 @@ pub(crate) fn collect<N: Namer + Drop, A: Allocator + Copy>(
     }
 }
 
-/// Lets the objects of a repository go that neither refs nor objects of these names reach.
-fn collect_opened<N: Namer + Drop, A: Allocator + Copy>(
+/// Does what [`collect_store`] does with the repository of a store, but that the objects of these names stay, too, with all that
+/// they reach.
+pub fn collect_opened<N: Namer + Drop, A: Allocator + Copy>(
     repo: Repo<N, A>,
     kept: &[Name],
 ) -> Result<(Repo<N, A>, Pruned), CliFault>

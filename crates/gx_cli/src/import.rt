@@ -63,8 +63,8 @@ pub fn import_store<N: Namer + Drop, R: Source + Drop, W: Sink, A: Allocator + C
     }
 }
 
-/// Imports a stream into a repository, and answers that whose text is the next one.
-pub(crate) fn import_opened<N: Namer + Drop, R: Source + Drop, W: Sink, A: Allocator + Copy>(
+/// Does what [`import_store`] does with the repository of a store.
+pub fn import_opened<N: Namer + Drop, R: Source + Drop, W: Sink, A: Allocator + Copy>(
     alloc: A,
     repo: Repo<N, A>,
     source: R,

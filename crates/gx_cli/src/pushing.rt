@@ -55,7 +55,7 @@ pub fn push_store<N: Namer + Drop, R: Source + Drop, W: Sink, A: Allocator + Cop
 }
 
 /// Does what [`push_store`] does with the repository of a store.
-fn push_opened<N: Namer + Drop, R: Source + Drop, W: Sink, A: Allocator + Copy>(
+pub fn push_opened<N: Namer + Drop, R: Source + Drop, W: Sink, A: Allocator + Copy>(
     alloc: A,
     repo: Repo<N, A>,
     lines: &[Vec<u8, A>],

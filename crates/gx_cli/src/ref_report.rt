@@ -52,8 +52,8 @@ pub fn import_store_reporting<N: Namer + Drop, R: Source + Drop, W: Sink, A: All
     }
 }
 
-/// Imports a stream into a repository, and reports the refs that this changes.
-fn report_opened<N: Namer + Drop, R: Source + Drop, W: Sink, A: Allocator + Copy>(
+/// Does what [`import_store_reporting`] does with the repository of a store.
+pub fn report_opened<N: Namer + Drop, R: Source + Drop, W: Sink, A: Allocator + Copy>(
     alloc: A,
     repo: Repo<N, A>,
     source: R,

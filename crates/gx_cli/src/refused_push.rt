@@ -36,8 +36,8 @@ pub fn refused_line<N: Namer + Drop, A: Allocator + Copy>(
     }
 }
 
-/// The line that tells what a line of a push wants of a repository, and what that has.
-fn refused_text<N: Namer, A: Allocator + Copy>(
+/// Does what [`refused_line`] does with the repository of a store. `AllocError`: a growth was refused.
+pub fn refused_text<N: Namer, A: Allocator + Copy>(
     alloc: A,
     repo: &Repo<N, A>,
     line: &[u8],

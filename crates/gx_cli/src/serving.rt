@@ -37,7 +37,8 @@ pub struct Outcome<A: Allocator> {
 /// what [`find_fault`] finds. These, and `init`, have no use for the store's bytes. An import with `--push`, which
 /// [`push_store`](crate::push_store) does, `gc` with
 /// `--keep`, which [`collect_store_keeping`](crate::collect_store_keeping) does, and `put` read a file that isn't here, and are
-/// refused by `ReadFailed`. The other commands read the store's text first, then all words, and then evaluate
+/// refused by `ReadFailed`; so are `init --growing`, `grow` and `verify`, which [`open_store`](crate::open_store),
+/// [`send_grown`](crate::send_grown) and [`print_counts`](crate::print_counts) do. The other commands read the store's text first, then all words, and then evaluate
 /// each in its order; but `batch` reads its format before. `import` and `batch` read their source then, and so do `drop` and
 /// `log` before the words, where its lines are words, and `set-ref`, where they are its changes. Only `init`, `import`, `drop`,
 /// `set-ref` and `gc` answer a next store text: where they are accepted, and `import` also where it is refused after a
@@ -133,7 +134,11 @@ fn serve_alone<N: Namer + Drop, R: Source + Drop, W: Sink, A: Allocator + Copy>(
         Line::Adapt { drop_signatures } => {
             adapt_ended(adapt_stream(alloc, source, sink, *drop_signatures))
         }
-        Line::Push { .. } | Line::Put { .. } => refused(CliFault::ReadFailed),
+        Line::Push { .. }
+        | Line::Put { .. }
+        | Line::Init { growing: true, .. }
+        | Line::Grow { .. }
+        | Line::Verify { .. } => refused(CliFault::ReadFailed),
         Line::Where(command) => outcome_of(print_place(alloc, *command, source, sink)),
         _ => init(alloc, namer, state),
     }
@@ -213,6 +218,8 @@ fn without_room(line: &Line<'_>) -> Option<CliFault>
         | Line::Where(_)
         | Line::WhereFault { .. }
         | Line::Init { .. }
+        | Line::Grow { .. }
+        | Line::Verify { .. }
         | Line::Push { .. }
         | Line::Put { .. } => None,
         Line::Batch { .. } => Some(CliFault::OutOfMemory),

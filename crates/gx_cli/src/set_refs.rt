@@ -49,7 +49,7 @@ pub fn set_store<N: Namer + Drop, R: Source + Drop, A: Allocator + Copy>(
 }
 
 /// Does what [`set_store`] does with the repository of a store.
-pub(crate) fn set_told<N: Namer + Drop, R: Source + Drop, A: Allocator + Copy>(
+pub fn set_told<N: Namer + Drop, R: Source + Drop, A: Allocator + Copy>(
     alloc: A,
     repo: Repo<N, A>,
     change: Option<RefChange<'_>>,

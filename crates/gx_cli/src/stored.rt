@@ -86,8 +86,11 @@ fn serve_opened<N: Namer + Drop, R: Source + Drop, W: Sink, A: Allocator + Copy>
     }
 }
 
-/// Answers what a command asks of a repository. One that asks nothing prints nothing.
-fn answer<N: Namer, R: Source + Drop, W: Sink, A: Allocator + Copy>(
+/// Answers what a command asks of a repository, as [`serve`](crate::serve) does of a store's text. One that asks nothing prints
+/// nothing.
+///
+/// Cost: that of the command.
+pub fn answer<N: Namer, R: Source + Drop, W: Sink, A: Allocator + Copy>(
     alloc: A,
     repo: &Repo<N, A>,
     line: &Line<'_>,

@@ -80,6 +80,10 @@ drop_signatures = flag (codes "drop-signatures")
 abbrev pub report : Rule
 report = flag (codes "report")
 
+-- a store of version 3 is made
+abbrev pub growing : Rule
+growing = flag (codes "growing")
+
 abbrev pub explain : Rule
 explain = flag (codes "explain")
 

@@ -14,7 +14,7 @@ use Rattle.gx_line.specs.declared.command_line.BatchForm.TheVariants as form
 use Rattle.gx_line.specs.declared.command_line.ExportForm.{ExportForm}
 use Rattle.gx_line.specs.declared.command_line.ExportForm.TheVariants.{Changes, FullTree}
 use Rattle.gx_line.specs.declared.command_line.Line.{Line}
-use Rattle.gx_line.specs.declared.command_line.Line.TheVariants.{Blobs, Try, Check, Adapt, Where, WhereFault, Init, Import, Push, Drop, SetRef, Put, Gc, Export, ExportRange, Show, Ls, Archive, Batch, Refs, Log, RevParse}
+use Rattle.gx_line.specs.declared.command_line.Line.TheVariants.{Blobs, Try, Check, Adapt, Where, WhereFault, Init, Grow, Verify, Import, Push, Drop, SetRef, Put, Gc, Export, ExportRange, Show, Ls, Archive, Batch, Refs, Log, RevParse}
 use Rattle.gx_line.specs.declared.command_line.RefChange.{RefChange}
 use Rattle.gx_line.specs.declared.fault.LineFault.{LineFault}
 use Rattle.gx_line.specs.declared.fault.LineFault.TheVariants.{OutOfMemory, Status}
@@ -53,7 +53,17 @@ abbrev pub with_wait : App → App
 with_wait a = with_rule a rules.wait
 
 abbrev pub init_command : App
-init_command = with_wait (file_command (codes "init"))
+init_command = with_wait (with_rule (file_command (codes "init")) rules.growing)
+
+abbrev pub grow_command : App
+grow_command = with_wait (file_command (codes "grow"))
+
+abbrev pub verify_command : App
+verify_command = file_command (codes "verify")
+
+-- the commands that make a store, or look at it as a whole
+abbrev pub with_whole_commands : App → App
+with_whole_commands a = under (under (under a init_command) grow_command) verify_command
 
 -- what an import can be asked to tell
 abbrev pub telling_import : App
@@ -136,8 +146,8 @@ with_stream_commands a =
 -- the commands on a store as a whole
 abbrev pub with_store_commands : App → App
 with_store_commands a =
-    under (under (under (under (under (under (under (under a init_command) import_command) drop_command) set_ref_command) put_command)
-    gc_command) export_command) (file_command (codes "refs"))
+    under (under (under (under (under (under (under (with_whole_commands a) import_command) drop_command) set_ref_command)
+    put_command) gc_command) export_command) (file_command (codes "refs"))
 
 -- the commands that show objects
 abbrev pub with_tree_commands : App → App
@@ -239,7 +249,10 @@ Says name rows (Adapt drop_signatures) = (name ≡ codes "adapt") × IsFlag (cod
 Says name rows (Where command) = (name ≡ codes "where")
     × (IsFlag (codes "fault") rows false × IsNumber (codes "number") rows (Some command))
 Says name rows (WhereFault done force) = (name ≡ codes "where") × (IsFlag (codes "fault") rows true × AreFeatures rows done force)
-Says name rows (Init file wait) = (name ≡ codes "init") × (IsWord (codes "file") rows file × IsWait rows wait)
+Says name rows (Init file growing wait) = (name ≡ codes "init") × (IsFlag (codes "growing") rows growing
+    × (IsWord (codes "file") rows file × IsWait rows wait))
+Says name rows (Grow file wait) = (name ≡ codes "grow") × (IsWord (codes "file") rows file × IsWait rows wait)
+Says name rows (Verify file) = (name ≡ codes "verify") × IsWord (codes "file") rows file
 Says name rows (Import file done force report explain wait) = (name ≡ codes "import") × (AreFeatures rows done force
     × (AreTold rows report explain × (IsWord (codes "file") rows file × (IsWait rows wait × (first_of (codes "push") rows ≡ None)))))
 Says name rows (Push file push done report explain wait) = (name ≡ codes "import") × (AreFeatures rows done false
@@ -276,7 +289,7 @@ stream_names = codes "blobs" ∷ codes "try" ∷ codes "check" ∷ codes "adapt"
 
 -- the commands on a store, without those with a list of words
 abbrev pub store_names : List Text
-store_names = codes "init" ∷ codes "import" ∷ codes "set-ref" ∷ codes "put" ∷ codes "gc" ∷ codes "export" ∷ codes "refs" ∷ codes "show" ∷ codes "ls"
+store_names = codes "init" ∷ codes "grow" ∷ codes "verify" ∷ codes "import" ∷ codes "set-ref" ∷ codes "put" ∷ codes "gc" ∷ codes "export" ∷ codes "refs" ∷ codes "show" ∷ codes "ls"
     ∷ codes "archive" ∷ codes "batch" ∷ []
 
 -- the name is none of these

@@ -17,6 +17,9 @@ line_rows =
     ∷ record { words = codes "check" ∷ codes "--force" ∷ codes "--explain" ∷ []; taken = true }
     ∷ record { words = codes "adapt" ∷ codes "--drop-signatures" ∷ []; taken = true }
     ∷ record { words = codes "init" ∷ codes "a.gx" ∷ []; taken = true }
+    ∷ record { words = codes "init" ∷ codes "--growing" ∷ codes "a.gx" ∷ []; taken = true }
+    ∷ record { words = codes "grow" ∷ codes "--wait=3" ∷ codes "a.gx" ∷ []; taken = true }
+    ∷ record { words = codes "verify" ∷ codes "a.gx" ∷ []; taken = true }
     ∷ record { words = codes "import" ∷ codes "--report" ∷ codes "a.gx" ∷ []; taken = true }
     ∷ record { words = codes "import" ∷ codes "--push" ∷ codes "refs" ∷ codes "a.gx" ∷ []; taken = true }
     ∷ record { words = codes "gc" ∷ codes "--keep" ∷ codes "names" ∷ codes "a.gx" ∷ []; taken = true }

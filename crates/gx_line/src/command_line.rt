@@ -110,10 +110,20 @@ pub enum Line<'a> {
         done: bool,
         force: bool,
     },
-    /// A new store is made.
+    /// A new store is made, which with `growing` is of version 3.
     Init {
         file: &'a str,
+        growing: bool,
         wait: Option<u64>,
+    },
+    /// A store becomes one of version 3.
+    Grow {
+        file: &'a str,
+        wait: Option<u64>,
+    },
+    /// It is told what a store holds, which is read whole.
+    Verify {
+        file: &'a str,
     },
     /// A stream is imported into a store. With `done` it has to end with that command, and with `force` branches may
     /// lose commits. With `report` the refs that it changed are told, and with `explain` what a refusal is about.
@@ -299,8 +309,14 @@ fn file_line<'a>(
     match name {
         "init" => Ok(Line::Init {
             file,
+            growing: is_set(matches, "growing"),
             wait: number_of(matches, "wait"),
         }),
+        "grow" => Ok(Line::Grow {
+            file,
+            wait: number_of(matches, "wait"),
+        }),
+        "verify" => Ok(Line::Verify { file }),
         "import" => import_line(alloc, matches, file),
         "set-ref" => set_ref_line(alloc, matches, file),
         "put" => Ok(Line::Put {

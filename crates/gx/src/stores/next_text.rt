@@ -4,7 +4,7 @@ use super::host::Host;
 use crate::fault::RunFault;
 use crate::run::{Run, Subject};
 use crate::streams::devices::{Noted, flushed};
-use gx_cli::{CliFault, Repo, send_store};
+use gx_cli::{CliFault, Repo, StoreForm, form_of, send_grown, send_store};
 use gx_object::Sha1Namer;
 use gx_place::Stamp;
 use gx_text::IntoWrite;
@@ -14,11 +14,13 @@ use std::io::{BufWriter, Write};
 /// So many bytes are written at once.
 const BUFFER: usize = 1 << 16;
 
-/// The next text of a store file, in a run that tells why it couldn't be written.
+/// The next text of a store file, in a run that tells why it couldn't be written. It has the form of the text that was read, unless
+/// another one is asked for.
 #[derive(Drop)]
 pub(crate) struct NextText<'a> {
     run: &'a Run<'a>,
     text: gx_place::NextText<Host<'a>>,
+    form: StoreForm,
 }
 
 impl<'a> NextText<'a> {
@@ -29,6 +31,7 @@ impl<'a> NextText<'a> {
         Ok(NextText {
             run,
             text: run.placed(claimed)?,
+            form: StoreForm::Plain,
         })
     }
 
@@ -39,6 +42,7 @@ impl<'a> NextText<'a> {
         Ok(NextText {
             run,
             text: run.placed(claimed)?,
+            form: StoreForm::Plain,
         })
     }
 
@@ -53,31 +57,31 @@ impl<'a> NextText<'a> {
         Ok(NextText {
             run,
             text: run.placed(claimed)?,
+            form: StoreForm::Plain,
         })
     }
 
     /// The bytes of the store file, which has to be the same one still when the next text takes its place.
     pub(crate) fn read_store(&mut self) -> Result<Vec<u8>, RunFault> {
         let read = self.text.read_store(self.run.rt.alloc());
-        self.run.placed(read)
+        let store = self.run.placed(read)?;
+        self.form = form_of(&store);
+        Ok(store)
     }
 
-    /// Writes the next text, makes it durable, and puts it into the store file's place. Answers the stamp of what is there then. After a
-    /// failure the store file is as it was, unless it was the folder's sync that failed.
-    pub(crate) fn publish(&mut self, text: &[u8]) -> Result<Stamp, RunFault> {
-        self.run.placed(self.text.begin())?;
-        let written = self.text.write_all(text);
-        self.run.want_written(Subject::NextText, written)?;
-        self.put_in_place()
+    /// Has the next text be of this form.
+    pub(crate) fn shape(&mut self, form: StoreForm) {
+        self.form = form;
     }
 
-    /// The same of a repository's text, which goes out as it is made.
+    /// Writes a repository's text, as it is made, makes it durable, and puts it into the store file's place. Answers the stamp of what is
+    /// there then. After a failure the store file is as it was, unless it was the folder's sync that failed.
     pub(crate) fn publish_store(
         &mut self,
         repo: &Repo<Sha1Namer, Global>,
     ) -> Result<Stamp, RunFault> {
         self.run.placed(self.text.begin())?;
-        write_store(self.run, &mut self.text, repo)?;
+        write_store(self.run, &mut self.text, self.form, repo)?;
         self.put_in_place()
     }
 
@@ -95,12 +99,17 @@ impl<'a> NextText<'a> {
 fn write_store(
     run: &Run<'_>,
     text: &mut gx_place::NextText<Host<'_>>,
+    form: StoreForm,
     repo: &Repo<Sha1Namer, Global>,
 ) -> Result<(), CliFault> {
     let noted = Noted::new(run, Subject::NextText, text);
     match BufWriter::with_capacity(run.rt.alloc(), BUFFER, noted) {
         Ok(mut out) => {
-            let sent = send_store(repo, &mut IntoWrite::new(&mut out));
+            let mut sink = IntoWrite::new(&mut out);
+            let sent = match form {
+                StoreForm::Plain => send_store(repo, &mut sink),
+                StoreForm::Growing => send_grown(run.rt.alloc(), repo, &mut sink),
+            };
             flushed(&mut out, sent)
         }
         Err(_) => Err(CliFault::OutOfMemory),

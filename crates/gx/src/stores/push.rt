@@ -8,7 +8,7 @@ use crate::streams::explanation::explained;
 use crate::streams::progress::{Beside, ProgressLine};
 use crate::streams::reports::{tell_changes, tell_import, tell_nameless, tell_typed_stream};
 use crate::streams::traced::Traced;
-use gx_cli::{CliFault, Explanation, Pushed, push_store, refused_line};
+use gx_cli::{CliFault, Explanation, Pushed, open_store, push_opened, refused_text};
 use gx_object::Sha1Namer;
 use gx_text::{FromRead, IntoWrite};
 use std::alloc::Global;
@@ -61,9 +61,10 @@ fn push_shown(
     let mut told = Explanation::none();
     let mut sink = IntoWrite::new(Beside::new(&progress));
     let source = FromRead::new(&mut input);
-    let pushed = push_store(
-        alloc, Sha1Namer, store, lines, source, &mut sink, done, state, &mut told,
-    );
+    let pushed = match open_store(alloc, Sha1Namer, store, state) {
+        Ok(repo) => push_opened(alloc, repo, lines, source, &mut sink, done, &mut told),
+        Err(fault) => Err(fault),
+    };
     progress.clear();
     let nameless = input.trail().map_or(0, |trail| trail.nameless());
     (explained(run, &input, pushed, &told), nameless)
@@ -84,9 +85,12 @@ fn explain_line(
     let Some(line) = lines.get(number.saturating_sub(1) as usize) else {
         return;
     };
+    let alloc = run.rt.alloc();
     if let Ok(store) = next.read_store() {
-        if let Ok(told) = refused_line(run.rt.alloc(), Sha1Namer, store, line.as_slice(), state) {
-            run.explain(told);
+        if let Ok(repo) = open_store(alloc, Sha1Namer, store, state) {
+            if let Ok(told) = refused_text(alloc, &repo, line.as_slice()) {
+                run.explain(told);
+            }
         }
     }
 }

@@ -5,16 +5,14 @@ use super::stamp::{read_expected, stamp_text};
 use crate::fault::RunFault;
 use crate::run::{Run, Subject};
 use crate::streams::devices::Noted;
-use gx_cli::{CliFault, Repo};
-use gx_file::{Text, read_text};
+use gx_cli::{CliFault, form_of, open_store};
 use gx_object::Sha1Namer;
 use gx_place::Expected;
-use std::alloc::Global;
 use std::hash::RandomState;
 use std::io::{ErrorKind, Read};
 
-/// Puts the store of standard input into a store file's place, where that is the one that is expected. A text that was cut off is no
-/// store. The new file's stamp is printed.
+/// Puts the store of standard input into a store file's place, where that is the one that is expected, in the form of its text. A
+/// text that was cut off is no store. The new file's stamp is printed.
 pub(crate) fn put(
     run: &Run<'_>,
     file: &str,
@@ -24,11 +22,14 @@ pub(crate) fn put(
     let Some(expected) = read_expected(stamp) else {
         return Err(RunFault::BadStamp);
     };
-    let repo = read_repo(run, state)?;
+    let text = read_input(run)?;
+    let form = form_of(&text);
+    let repo = open_store(run.rt.alloc(), Sha1Namer, text, state)?;
     let mut next = match expected {
         Expected::Nothing => NextText::claim_new(run, file)?,
         Expected::Stamped(known) => NextText::claim_known(run, file, known)?,
     };
+    next.shape(form);
     let stamp = next.publish_store(&repo)?;
     drop(next);
     let text = stamp_text(run.rt.alloc(), &stamp)?;
@@ -36,17 +37,12 @@ pub(crate) fn put(
     Ok(())
 }
 
-/// The repository of the text on standard input, which it shares.
-fn read_repo(run: &Run<'_>, state: RandomState) -> Result<Repo<Sha1Namer, Global>, CliFault> {
+/// The text on standard input.
+fn read_input(run: &Run<'_>) -> Result<Vec<u8>, CliFault> {
     let mut text = Vec::new(run.rt.alloc());
     match Noted::input(run).read_to_end(&mut text) {
-        Ok(_) => {}
-        Err(error) if error.kind() == ErrorKind::OutOfMemory => return Err(CliFault::OutOfMemory),
-        Err(_) => return Err(CliFault::ReadFailed),
-    }
-    let text = Text::new(run.rt.alloc(), text)?;
-    match read_text(run.rt.alloc(), Sha1Namer, text, state) {
-        Ok(repo) => Ok(repo),
-        Err(fault) => Err(CliFault::Store(fault)),
+        Ok(_) => Ok(text),
+        Err(error) if error.kind() == ErrorKind::OutOfMemory => Err(CliFault::OutOfMemory),
+        Err(_) => Err(CliFault::ReadFailed),
     }
 }

@@ -4,7 +4,7 @@ use super::next_text::NextText;
 use crate::fault::RunFault;
 use crate::run::{Run, Subject};
 use crate::streams::devices::{Noted, WholeLines};
-use gx_cli::{RefChange, set_store};
+use gx_cli::{RefChange, open_store, set_told};
 use gx_object::Sha1Namer;
 use gx_text::FromRead;
 use std::hash::RandomState;
@@ -19,10 +19,11 @@ pub(crate) fn set_ref(
 ) -> Result<(), RunFault> {
     let mut next = NextText::claim_next(run, file)?;
     let store = next.read_store()?;
+    let alloc = run.rt.alloc();
+    let repo = open_store(alloc, Sha1Namer, store, state)?;
     let lines = WholeLines::new(run.rt.stdin());
     let source = FromRead::new(Noted::new(run, Subject::Input, lines));
-    let alloc = run.rt.alloc();
-    let left = set_store(alloc, Sha1Namer, store, change, source, force, state)?;
+    let left = set_told(alloc, repo, change, source, force)?;
     next.publish_store(&left)?;
     Ok(())
 }

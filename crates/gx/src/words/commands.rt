@@ -2,9 +2,9 @@
 
 use crate::fault::RunFault;
 use crate::run::Run;
-use crate::stores::{collect, drop_refs, import, init, push, put, set_ref};
-use crate::streams::{Trial, adapt, answer_input, export, print, try_stream};
-use gx_cli::{CliFault, Features, Line};
+use crate::stores::{collect, drop_refs, grow, import, init, push, put, set_ref};
+use crate::streams::{Trial, adapt, answer_input, export, print, try_stream, verify};
+use gx_cli::{CliFault, Features, Line, StoreForm};
 use std::hash::RandomState;
 use std::process::ExitCode;
 
@@ -36,6 +36,8 @@ fn run_seeded(run: &Run<'_>, line: &Line<'_>) -> Result<u8, RunFault> {
 fn file_of<'a>(line: &Line<'a>) -> Option<&'a str> {
     match line {
         Line::Init { file, .. }
+        | Line::Grow { file, .. }
+        | Line::Verify { file }
         | Line::Import { file, .. }
         | Line::Push { file, .. }
         | Line::Batch { file, .. }
@@ -64,6 +66,7 @@ fn file_of<'a>(line: &Line<'a>) -> Option<&'a str> {
 fn wait_of(line: &Line<'_>) -> Option<u64> {
     match line {
         Line::Init { wait, .. }
+        | Line::Grow { wait, .. }
         | Line::Import { wait, .. }
         | Line::Push { wait, .. }
         | Line::Drop { wait, .. }
@@ -78,7 +81,15 @@ fn wait_of(line: &Line<'_>) -> Option<u64> {
 fn run_command(run: &Run<'_>, line: &Line<'_>, state: RandomState) -> Result<(), RunFault> {
     run.wait_for_others(wait_of(line));
     match line {
-        Line::Init { file, .. } => init(run, line, file, state),
+        Line::Init { file, growing, .. } => {
+            let form = if *growing {
+                StoreForm::Growing
+            } else {
+                StoreForm::Plain
+            };
+            init(run, file, form, state)
+        }
+        Line::Grow { file, .. } => grow(run, file, state),
         Line::Drop {
             file,
             refs,
@@ -148,6 +159,7 @@ fn answer(run: &Run<'_>, line: &Line<'_>, state: RandomState) -> Result<(), CliF
             run.explain_if(true);
             try_stream(run, Trial::Fault, features(done, force), state)
         }
+        Line::Verify { file } => verify(run, file, state),
         Line::Batch { file, .. } => answer_input(run, line, Some(*file), state),
         Line::Export { file, .. } | Line::ExportRange { file, .. } => {
             export(run, line, file, state)

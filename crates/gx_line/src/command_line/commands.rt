@@ -146,6 +146,8 @@ fn with_store_commands<'a>(
     ensures { (a : App) → say.Makes gx.entry a → say.Makes result (say.with_store_commands a) }
 {
     let gx = with_command(gx, init_command(alloc));
+    let gx = with_command(gx, grow_command(alloc));
+    let gx = with_command(gx, file_command(alloc, "verify", stores::VERIFY));
     let gx = with_command(gx, import_command(alloc));
     let gx = with_command(gx, drop_command(alloc));
     let gx = with_command(gx, set_ref_command(alloc));
@@ -158,7 +160,15 @@ fn with_store_commands<'a>(
 fn init_command<'a>(alloc: Global) -> Result<Command<'a>, AllocError>
     ensures { say.Makes result say.init_command }
 {
-    with_wait(alloc, file_command(alloc, "init", stores::INIT))
+    let growing = flag(alloc, "growing", "Makes it of version 3, a growing store");
+    let init = with_argument(file_command(alloc, "init", stores::INIT), growing);
+    with_wait(alloc, init)
+}
+
+fn grow_command<'a>(alloc: Global) -> Result<Command<'a>, AllocError>
+    ensures { say.Makes result say.grow_command }
+{
+    with_wait(alloc, file_command(alloc, "grow", stores::GROW))
 }
 
 /// What a command that writes a store file can be asked for, where another run writes it, too.

@@ -71,8 +71,8 @@ Refusals:
                         Ambiguous, NoParent, WrongKind or NoSuchPath
   gx: store: KIND       the text of FILE. KIND is OutOfMemory, BadMagic,
                         BadVersion, Truncated, BadRecord, NameMismatch,
-                        DuplicateObject, Dangling, BadObject, BadRef, RefOrder
-                        or TrailingBytes
+                        DuplicateObject, Dangling, BadObject, BadRef, RefOrder,
+                        TrailingBytes or BadRows
   gx: export: KIND      OutOfMemory or WriteFailed
   gx: adapt: KIND       OutOfMemory, ReadFailed, WriteFailed, TruncatedData or
                         BadNumber

@@ -5,7 +5,10 @@ use super::Page;
 /// The page of `init`.
 pub(crate) const INIT: Page = Page {
     about: "Makes an empty store",
-    description: "Makes an empty store, which has no objects and no refs.",
+    description: "\
+Makes an empty store, which has no objects and no refs.
+
+With --growing it is of version 3, as gx grow makes one of another.",
     details: "\
 Output:
   None.
@@ -15,6 +18,44 @@ Refusals:
   gx: read failed       whether FILE is there can't be told
   gx: write failed
   gx: lock failed       as gx --help has it
+  gx: out of memory",
+};
+
+/// The page of `grow`.
+pub(crate) const GROW: Page = Page {
+    about: "Makes a growing store of a store",
+    description: "\
+Makes a growing store of a store: one of version 3, in which tables say where
+each object stands. It has the same objects and refs, and all commands take it
+as they take others. A store that is one already stays as it is. The next store
+is written to FILE.new, which then takes the place of FILE.",
+    details: "\
+Output:
+  None.
+
+Refusals, each of which leaves FILE as it was:
+  gx: read failed
+  gx: lock failed       as gx --help has it
+  gx: store: KIND       as gx --help has it
+  gx: write failed
+  gx: out of memory",
+};
+
+/// The page of `verify`.
+pub(crate) const VERIFY: Page = Page {
+    about: "Reads a store as a whole, and tells what it holds",
+    description: "\
+Reads a store of any version as a whole, and tells what it holds. Of a growing
+store it looks at the tables, too, which other commands need not do.",
+    details: "\
+Output:
+  Lines of a word and a number: version, blobs, trees, commits, tags, refs and
+  bytes, which is how long the text of the store is.
+
+Refusals:
+  gx: read failed
+  gx: store: KIND       the first fault of FILE, as gx --help has it
+  gx: write failed
   gx: out of memory",
 };
 

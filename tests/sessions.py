@@ -253,6 +253,10 @@ class Runner:
         files = os.listdir(self.folder)
         return next((self.folder / word for word in words[1:] if word in files), None)
 
+    def held(self, store: Path) -> str:
+        """What a store holds."""
+        return counts(store.read_bytes())
+
     def do_gx(self, step: Step, words: list[str], source: str | None) -> bytes:
         """Runs gx, and compares what it tells. Answers what it printed."""
         store = self.store_of(words)
@@ -267,8 +271,8 @@ class Runner:
         store = self.store_of(words)
         if refused and not step.held and store and store.read_bytes() != before:
             raise Wrong("the store as it was\n", shown(store.read_bytes()))
-        if step.held and counts(store.read_bytes()) != step.held:
-            raise Wrong(f"{HELD}{step.held}\n", f"{HELD}{counts(store.read_bytes())}\n")
+        if step.held and self.held(store) != step.held:
+            raise Wrong(f"{HELD}{step.held}\n", f"{HELD}{self.held(store)}\n")
         return out
 
     def do(self, step: Step) -> None:

@@ -19,11 +19,12 @@ use crate::streams::reports::{
 };
 use crate::streams::traced::Traced;
 use gx_cli::{
-    CliFault, Explanation, Features, ImportReport, Repo, StoreForm, collect_opened, drop_named,
-    form_of, import_opened, lines_from, names_in, open_store, report_opened,
+    CliFault, Explanation, Features, ImportReport, Repo, collect_opened, drop_named, import_opened,
+    lines_from, names_in, report_opened,
 };
 use gx_object::Sha1Namer;
 use gx_text::{FromRead, IntoWrite};
+use gx_versions::StoreForm;
 use next_text::NextText;
 pub(crate) use push::push;
 pub(crate) use put::put;
@@ -51,13 +52,11 @@ pub(crate) fn init(
 /// Makes a growing text of a store file's text, and leaves one that is.
 pub(crate) fn grow(run: &Run<'_>, file: &str, state: RandomState) -> Result<(), RunFault> {
     let mut next = NextText::claim_next(run, file)?;
-    let store = next.read_store()?;
-    if form_of(&store) == StoreForm::Growing {
-        return Ok(());
+    let repo = next.read_repo(state)?;
+    if next.form() == StoreForm::Plain {
+        next.shape(StoreForm::Growing);
+        next.publish_store(&repo)?;
     }
-    let repo = open_store(run.rt.alloc(), Sha1Namer, store, state)?;
-    next.shape(StoreForm::Growing);
-    next.publish_store(&repo)?;
     Ok(())
 }
 
@@ -70,8 +69,7 @@ pub(crate) fn drop_refs(
     state: RandomState,
 ) -> Result<(), RunFault> {
     let mut next = NextText::claim_next(run, file)?;
-    let store = next.read_store()?;
-    let repo = open_store(run.rt.alloc(), Sha1Namer, store, state)?;
+    let repo = next.read_repo(state)?;
     let source = FromRead::new(Noted::input(run));
     let left = drop_named(run.rt.alloc(), repo, refs, stdin, source)?;
     next.publish_store(&left)?;
@@ -93,9 +91,8 @@ pub(crate) fn collect(
         None => Vec::new(alloc),
     };
     let mut next = NextText::claim_next(run, file)?;
-    let store = next.read_store()?;
     let kept = names_in(alloc, lines.as_slice())?;
-    let repo = open_store(alloc, Sha1Namer, store, state)?;
+    let repo = next.read_repo(state)?;
     let (left, gone) = collect_opened(repo, kept.as_slice())?;
     next.publish_store(&left)?;
     drop(next);
@@ -127,9 +124,9 @@ pub(crate) fn import(
     state: RandomState,
 ) -> Result<(), RunFault> {
     let mut next = NextText::claim_next(run, file)?;
-    let store = next.read_store()?;
+    let repo = next.read_repo(state)?;
     tell_typed_stream(run);
-    let (left, answer, nameless) = import_shown(run, store, features, report, state);
+    let (left, answer, nameless) = import_shown(run, repo, features, report);
     let changes = match left {
         Some((repo, changes)) => {
             next.publish_store(&repo)?;
@@ -149,10 +146,9 @@ pub(crate) fn import(
 /// Imports standard input, and shows how far it is. Where a report is asked for, identities without a name are counted.
 fn import_shown(
     run: &Run<'_>,
-    store: Vec<u8>,
+    repo: Repo<Sha1Namer, Global>,
     features: Features,
     report: bool,
-    state: RandomState,
 ) -> (Left, Result<ImportReport, CliFault>, u64) {
     let alloc = run.rt.alloc();
     let progress = ProgressLine::new(run);
@@ -160,13 +156,11 @@ fn import_shown(
     let mut told = Explanation::none();
     let mut sink = IntoWrite::new(Beside::new(&progress));
     let source = FromRead::new(&mut input);
-    let (left, answer) = match open_store(alloc, Sha1Namer, store, state) {
-        Ok(repo) if report => report_opened(alloc, repo, source, &mut sink, features, &mut told),
-        Ok(repo) => {
-            let (left, answer) = import_opened(alloc, repo, source, &mut sink, features, &mut told);
-            (left.map(|repo| (repo, Vec::new(alloc))), answer)
-        }
-        Err(fault) => (None, Err(fault)),
+    let (left, answer) = if report {
+        report_opened(alloc, repo, source, &mut sink, features, &mut told)
+    } else {
+        let (left, answer) = import_opened(alloc, repo, source, &mut sink, features, &mut told);
+        (left.map(|repo| (repo, Vec::new(alloc))), answer)
     };
     progress.clear();
     let nameless = input.trail().map_or(0, |trail| trail.nameless());

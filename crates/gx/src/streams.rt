@@ -8,16 +8,16 @@ pub(crate) mod traced;
 mod trail;
 
 use crate::run::Run;
-use crate::stores::files::read_store;
+use crate::stores::files::{open_text, read_store};
 use devices::{Noted, flushed};
 use explanation::explained;
 use gx_cli::{
-    CliFault, Explanation, Features, Line, StoreForm, adapt_status, adapt_stream, answer,
-    batch_opened, check_stream, find_fault, form_of, open_store, print_counts, serve_owned,
-    try_revision,
+    CliFault, Explanation, Features, Line, adapt_status, adapt_stream, answer, batch_opened,
+    check_stream, find_fault, serve_owned, try_revision,
 };
 use gx_object::Sha1Namer;
 use gx_text::{FromRead, IntoWrite};
+use gx_versions::{StoreForm, VerifyFault, form_of, verify_store};
 use progress::{Beside, ProgressLine};
 use reports::{tell_adaption, tell_typed_stream};
 use std::hash::RandomState;
@@ -55,7 +55,7 @@ fn answer_growing<R: Read + Drop, W: Write + Drop>(
     state: RandomState,
 ) -> Result<(), CliFault> {
     let alloc = run.rt.alloc();
-    let repo = open_store(alloc, Sha1Namer, store, state)?;
+    let repo = open_text(run, store, state)?;
     match line {
         Line::Batch {
             form,
@@ -95,17 +95,11 @@ pub(crate) fn print(
 /// Tells what a store holds, which is read as a whole.
 pub(crate) fn verify(run: &Run<'_>, file: &str, state: RandomState) -> Result<(), CliFault> {
     let store = read_store(run, file)?;
-    let (version, bytes) = (store_version(&store), store.len() as u64);
-    let repo = open_store(run.rt.alloc(), Sha1Namer, store, state)?;
-    print_counts(&repo, version, bytes, &mut IntoWrite::new(Noted::output(run)))
-}
-
-/// The version that a store's text says, where it is read.
-fn store_version(store: &[u8]) -> u64 {
-    match form_of(store) {
-        StoreForm::Growing => 3,
-        StoreForm::Plain if store.starts_with(b"gxstore 1") => 1,
-        StoreForm::Plain => 2,
+    let mut sink = IntoWrite::new(Noted::output(run));
+    match verify_store(run.rt.alloc(), Sha1Namer, store, state, &mut sink) {
+        Ok(()) => Ok(()),
+        Err(VerifyFault::Store(fault)) => Err(CliFault::from(fault)),
+        Err(VerifyFault::WriteFailed) => Err(CliFault::WriteFailed),
     }
 }
 

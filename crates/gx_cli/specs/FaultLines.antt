@@ -7,12 +7,11 @@ use Rattle.gx_model.specs.Faults.StoreFaults as store
 use Rattle.gx_adapt.specs.AdaptFaults as adapt
 use Rattle.gx_blobs.specs.BlobsFaults as blobs
 use Rattle.gx_export.specs.Faults as export
-use Rattle.gx_growing.specs.Faults as growing
 use Rattle.gx_push.specs.Faults as refs
 use Rattle.gx_rev.specs.RevFaults as rev
 use Rattle.gx_where.specs.Faults as place
 use Rattle.gx_cli.specs.declared.fault.CliFault.{CliFault}
-use Rattle.gx_cli.specs.declared.fault.CliFault.TheVariants.{Adapt, BadFormat, Blobs, Export, Growing, Import, Keep, OutOfMemory, Push, ReadFailed, Ref, Revision, Store, StoreExists, Where, WriteFailed}
+use Rattle.gx_cli.specs.declared.fault.CliFault.TheVariants.{Adapt, BadFormat, BadRows, Blobs, Export, Import, Keep, OutOfMemory, Push, ReadFailed, Ref, Revision, Store, StoreExists, Where, WriteFailed}
 
 -- the line of a refusal, without its line feed
 abbrev pub line_of : CliFault → Bytes
@@ -22,7 +21,7 @@ line_of (Revision number kind) = codes "gx: revision " ++ decimal number ++ code
 line_of (Push number kind) = codes "gx: push " ++ decimal number ++ codes ": " ++ refs.word kind
 line_of (Ref number kind) = codes "gx: ref " ++ decimal number ++ codes ": " ++ refs.word kind
 line_of (Store fault) = codes "gx: store: " ++ store.word fault
-line_of (Growing fault) = codes "gx: store: " ++ growing.word fault
+line_of BadRows = codes "gx: store: BadRows"
 line_of (Export fault) = codes "gx: export: " ++ export.word fault
 line_of (Adapt fault) = codes "gx: adapt: " ++ word_of (adapt.fault_of fault)
 line_of (Where fault) = codes "gx: where: " ++ place.refusal fault

@@ -18,13 +18,15 @@ use Rattle.gx_batch.specs.declared.fault.BatchFault.{BatchFault}
 use Rattle.gx_batch.specs.declared.fault.BatchFault.TheVariants as batch
 use Rattle.gx_batch.specs.declared.fault.FormatFault.{FormatFault}
 use Rattle.gx_batch.specs.declared.fault.FormatFault.TheVariants as format
+use Rattle.gx_growing.specs.declared.fault.GrowingFault.{GrowingFault}
+use Rattle.gx_growing.specs.declared.fault.GrowingFault.TheVariants as growing
 use Rattle.gx_push.specs.declared.fault.PushFault.{PushFault}
 use Rattle.gx_push.specs.declared.fault.PushFault.TheVariants as push
 use Rattle.gx_push.specs.declared.fault.SetFault.{SetFault}
 use Rattle.gx_push.specs.declared.fault.SetFault.TheVariants as set
 use Rattle.gx_cli.specs.Words.{refused_at}
 use Rattle.gx_cli.specs.declared.fault.CliFault.{CliFault}
-use Rattle.gx_cli.specs.declared.fault.CliFault.TheVariants.{Adapt, BadFormat, Import, OutOfMemory, Push, ReadFailed, Ref, WriteFailed}
+use Rattle.gx_cli.specs.declared.fault.CliFault.TheVariants.{Adapt, BadFormat, BadRows, Import, OutOfMemory, Push, ReadFailed, Ref, Store, WriteFailed}
 
 -- a source's stream goes out adapted, by whether signatures are dropped
 abbrev pub AdaptsStream : {A : Type 0} → Bool → Option Coming → Option Taken → Option Taken → Result (Adapted A) CliFault → Type 0
@@ -49,6 +51,11 @@ abbrev pub of_archive : ArchiveFault → CliFault
 of_archive (archive.Revision kind) = refused_at 1 kind
 of_archive archive.WriteFailed = WriteFailed
 of_archive archive.OutOfMemory = OutOfMemory
+
+-- a fault of a store's text of any version among those of the commands
+abbrev pub of_growing : GrowingFault → CliFault
+of_growing (growing.Text fault) = Store fault
+of_growing growing.BadRows = BadRows
 
 -- a fault of a push among those of the commands
 abbrev pub of_push : PushFault → CliFault

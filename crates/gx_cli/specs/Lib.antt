@@ -17,7 +17,6 @@ pub mod Identities
 pub mod Logs
 pub mod LogRows
 pub mod Gathering
-pub mod Growing
 pub mod Adapting
 pub mod Placing
 pub mod Pushing

@@ -2,7 +2,7 @@
 
 ghost use Rattle.std.specs.Prelude.{◌≡◌, Some};
 ghost use Rattle.gx_cli.specs.FaultLines.{line_of};
-ghost use Rattle.gx_cli.specs.Gathering.{of_archive, of_batch, of_format, of_push, of_set};
+ghost use Rattle.gx_cli.specs.Gathering.{of_archive, of_batch, of_format, of_growing, of_push, of_set};
 ghost use Rattle.gx_cli.specs.declared.fault.CliFault.TheVariants.{OutOfMemory};
 
 use crate::BlobsFault;
@@ -34,8 +34,9 @@ pub enum CliFault {
     Ref { number: u64, kind: RefFault },
     /// Why the store's text isn't read.
     Store(FileFault),
-    /// Why the store's text isn't read, which is of version 3.
-    Growing(GrowingFault),
+    /// The store's text, of version 3, isn't read, since its rows don't tell where each object stands. The program answers it,
+    /// which reads such texts.
+    BadRows,
     /// Why the store isn't exported as a whole.
     Export(ExportFault),
     /// Why a stream isn't adapted to its end.
@@ -68,7 +69,7 @@ impl fmt::Display for CliFault {
             CliFault::Push { number, kind } => write!(f, "gx: push {number}: {kind}"),
             CliFault::Ref { number, kind } => write!(f, "gx: ref {number}: {kind}"),
             CliFault::Store(fault) => write!(f, "gx: store: {fault}"),
-            CliFault::Growing(fault) => write!(f, "gx: store: {fault}"),
+            CliFault::BadRows => f.write_str("gx: store: BadRows"),
             CliFault::Export(fault) => write!(f, "gx: export: {fault}"),
             CliFault::Adapt(fault) => write!(f, "gx: adapt: {fault}"),
             CliFault::Where(fault) => write!(f, "gx: where: {fault}"),
@@ -110,6 +111,17 @@ impl From<BatchFault> for CliFault {
             BatchFault::OutOfMemory => CliFault::OutOfMemory,
             BatchFault::ReadFailed => CliFault::ReadFailed,
             BatchFault::WriteFailed => CliFault::WriteFailed,
+        }
+    }
+}
+
+impl From<GrowingFault> for CliFault {
+    ghost from_gives = { λ from fault. fault ≡ of_growing from };
+
+    fn from(fault: GrowingFault) -> CliFault {
+        match fault {
+            GrowingFault::Text(fault) => CliFault::Store(fault),
+            GrowingFault::BadRows => CliFault::BadRows,
         }
     }
 }

@@ -59,7 +59,10 @@ pub fn collect_store_keeping<N: Namer + Drop, A: Allocator + Copy>(
 /// The names that these lines give, each by its 40 digits, of either case.
 ///
 /// `Keep`: the first line that isn't 40 digits, by its number from 1. `OutOfMemory`: a growth was refused.
-pub fn names_in<A: Allocator + Copy>(alloc: A, lines: &[Vec<u8, A>]) -> Result<Vec<Name, A>, CliFault>
+pub fn names_in<A: Allocator + Copy>(
+    alloc: A,
+    lines: &[Vec<u8, A>],
+) -> Result<Vec<Name, A>, CliFault>
     ensures { GivesNames (kept_names (texts_of lines.now)) result }
 {
     let mut names = Vec::new(alloc);

@@ -37,10 +37,9 @@ pub struct Outcome<A: Allocator> {
 /// what [`find_fault`] finds. These, and `init`, have no use for the store's bytes. An import with `--push`, which
 /// [`push_store`](crate::push_store) does, `gc` with
 /// `--keep`, which [`collect_store_keeping`](crate::collect_store_keeping) does, and `put` read a file that isn't here, and are
-/// refused by `ReadFailed`; so are `init --growing`, `grow` and `verify`, which [`open_store`](crate::open_store),
-/// [`send_grown`](crate::send_grown) and [`print_counts`](crate::print_counts) do. The other commands read the store's text first, then all words, and then evaluate
-/// each in its order; but `batch` reads its format before. `import` and `batch` read their source then, and so do `drop` and
-/// `log` before the words, where its lines are words, and `set-ref`, where they are its changes. Only `init`, `import`, `drop`,
+/// refused by `ReadFailed`; so are `init --growing`, `grow` and `verify`, since no text of version 3 is read or made here. The
+/// other commands read the store's text first, then all words, and then evaluate each in its order; but `batch` reads its
+/// format before. `import` and `batch` read their source then, and so do `drop` and `log` before the words, where its lines are words, and `set-ref`, where they are its changes. Only `init`, `import`, `drop`,
 /// `set-ref` and `gc` answer a next store text: where they are accepted, and `import` also where it is refused after a
 /// checkpoint. What `import` and `gc` report is told by [`import_store_reporting`](crate::import_store_reporting) and
 /// [`collect_store`](crate::collect_store).

@@ -3,12 +3,15 @@
 use super::host::Host;
 use crate::fault::RunFault;
 use crate::run::{Run, Subject};
+use crate::stores::files::open_text;
 use crate::streams::devices::{Noted, flushed};
-use gx_cli::{CliFault, Repo, StoreForm, form_of, send_grown, send_store};
+use gx_cli::{CliFault, Repo};
 use gx_object::Sha1Namer;
 use gx_place::Stamp;
 use gx_text::IntoWrite;
+use gx_versions::{StoreForm, WriteFault, form_of, send_store};
 use std::alloc::Global;
+use std::hash::RandomState;
 use std::io::{BufWriter, Write};
 
 /// So many bytes are written at once.
@@ -61,12 +64,20 @@ impl<'a> NextText<'a> {
         })
     }
 
-    /// The bytes of the store file, which has to be the same one still when the next text takes its place.
-    pub(crate) fn read_store(&mut self) -> Result<Vec<u8>, RunFault> {
+    /// The repository of the store file, which has to be the same one still when the next text takes its place.
+    pub(crate) fn read_repo(
+        &mut self,
+        state: RandomState,
+    ) -> Result<Repo<Sha1Namer, Global>, RunFault> {
         let read = self.text.read_store(self.run.rt.alloc());
         let store = self.run.placed(read)?;
         self.form = form_of(&store);
-        Ok(store)
+        Ok(open_text(self.run, store, state)?)
+    }
+
+    /// The form of the next text.
+    pub(crate) fn form(&self) -> StoreForm {
+        self.form
     }
 
     /// Has the next text be of this form.
@@ -106,9 +117,10 @@ fn write_store(
     match BufWriter::with_capacity(run.rt.alloc(), BUFFER, noted) {
         Ok(mut out) => {
             let mut sink = IntoWrite::new(&mut out);
-            let sent = match form {
-                StoreForm::Plain => send_store(repo, &mut sink),
-                StoreForm::Growing => send_grown(run.rt.alloc(), repo, &mut sink),
+            let sent = match send_store(run.rt.alloc(), repo, form, &mut sink) {
+                Ok(()) => Ok(()),
+                Err(WriteFault::OutOfMemory) => Err(CliFault::OutOfMemory),
+                Err(WriteFault::Failed) => Err(CliFault::WriteFailed),
             };
             flushed(&mut out, sent)
         }

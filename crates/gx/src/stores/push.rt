@@ -8,7 +8,7 @@ use crate::streams::explanation::explained;
 use crate::streams::progress::{Beside, ProgressLine};
 use crate::streams::reports::{tell_changes, tell_import, tell_nameless, tell_typed_stream};
 use crate::streams::traced::Traced;
-use gx_cli::{CliFault, Explanation, Pushed, open_store, push_opened, refused_text};
+use gx_cli::{CliFault, Explanation, Pushed, Repo, push_opened, refused_text};
 use gx_object::Sha1Namer;
 use gx_text::{FromRead, IntoWrite};
 use std::alloc::Global;
@@ -27,9 +27,9 @@ pub(crate) fn push(
 ) -> Result<(), RunFault> {
     let mut next = NextText::claim_next(run, file)?;
     let lines = told_lines(run, told)?;
-    let store = next.read_store()?;
+    let repo = next.read_repo(state)?;
     tell_typed_stream(run);
-    let (pushed, nameless) = push_shown(run, store, lines.as_slice(), done, report, state);
+    let (pushed, nameless) = push_shown(run, repo, lines.as_slice(), done, report);
     if let Err(CliFault::Push { number, .. }) = &pushed {
         explain_line(run, &mut next, lines.as_slice(), *number, state);
     }
@@ -49,11 +49,10 @@ pub(crate) fn push(
 /// Pushes standard input, and shows how far it is. Where a report is asked for, identities without a name are counted.
 fn push_shown(
     run: &Run<'_>,
-    store: Vec<u8>,
+    repo: Repo<Sha1Namer, Global>,
     lines: &[Vec<u8>],
     done: bool,
     report: bool,
-    state: RandomState,
 ) -> (Result<Pushed<Sha1Namer, Global>, CliFault>, u64) {
     let alloc = run.rt.alloc();
     let progress = ProgressLine::new(run);
@@ -61,10 +60,7 @@ fn push_shown(
     let mut told = Explanation::none();
     let mut sink = IntoWrite::new(Beside::new(&progress));
     let source = FromRead::new(&mut input);
-    let pushed = match open_store(alloc, Sha1Namer, store, state) {
-        Ok(repo) => push_opened(alloc, repo, lines, source, &mut sink, done, &mut told),
-        Err(fault) => Err(fault),
-    };
+    let pushed = push_opened(alloc, repo, lines, source, &mut sink, done, &mut told);
     progress.clear();
     let nameless = input.trail().map_or(0, |trail| trail.nameless());
     (explained(run, &input, pushed, &told), nameless)
@@ -85,12 +81,9 @@ fn explain_line(
     let Some(line) = lines.get(number.saturating_sub(1) as usize) else {
         return;
     };
-    let alloc = run.rt.alloc();
-    if let Ok(store) = next.read_store() {
-        if let Ok(repo) = open_store(alloc, Sha1Namer, store, state) {
-            if let Ok(told) = refused_text(alloc, &repo, line.as_slice()) {
-                run.explain(told);
-            }
+    if let Ok(repo) = next.read_repo(state) {
+        if let Ok(told) = refused_text(run.rt.alloc(), &repo, line.as_slice()) {
+            run.explain(told);
         }
     }
 }

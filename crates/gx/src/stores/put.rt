@@ -4,10 +4,11 @@ use super::next_text::NextText;
 use super::stamp::{read_expected, stamp_text};
 use crate::fault::RunFault;
 use crate::run::{Run, Subject};
+use crate::stores::files::open_text;
 use crate::streams::devices::Noted;
-use gx_cli::{CliFault, form_of, open_store};
-use gx_object::Sha1Namer;
+use gx_cli::CliFault;
 use gx_place::Expected;
+use gx_versions::form_of;
 use std::hash::RandomState;
 use std::io::{ErrorKind, Read};
 
@@ -24,7 +25,7 @@ pub(crate) fn put(
     };
     let text = read_input(run)?;
     let form = form_of(&text);
-    let repo = open_store(run.rt.alloc(), Sha1Namer, text, state)?;
+    let repo = open_text(run, text, state)?;
     let mut next = match expected {
         Expected::Nothing => NextText::claim_new(run, file)?,
         Expected::Stamped(known) => NextText::claim_known(run, file, known)?,

@@ -4,8 +4,7 @@ use super::next_text::NextText;
 use crate::fault::RunFault;
 use crate::run::{Run, Subject};
 use crate::streams::devices::{Noted, WholeLines};
-use gx_cli::{RefChange, open_store, set_told};
-use gx_object::Sha1Namer;
+use gx_cli::{RefChange, set_told};
 use gx_text::FromRead;
 use std::hash::RandomState;
 
@@ -18,12 +17,10 @@ pub(crate) fn set_ref(
     state: RandomState,
 ) -> Result<(), RunFault> {
     let mut next = NextText::claim_next(run, file)?;
-    let store = next.read_store()?;
-    let alloc = run.rt.alloc();
-    let repo = open_store(alloc, Sha1Namer, store, state)?;
+    let repo = next.read_repo(state)?;
     let lines = WholeLines::new(run.rt.stdin());
     let source = FromRead::new(Noted::new(run, Subject::Input, lines));
-    let left = set_told(alloc, repo, change, source, force)?;
+    let left = set_told(run.rt.alloc(), repo, change, source, force)?;
     next.publish_store(&left)?;
     Ok(())
 }

@@ -4,7 +4,8 @@ use crate::fault::RunFault;
 use crate::run::Run;
 use crate::stores::{collect, drop_refs, grow, import, init, push, put, set_ref};
 use crate::streams::{Trial, adapt, answer_input, export, print, try_stream, verify};
-use gx_cli::{CliFault, Features, Line, StoreForm};
+use gx_cli::{CliFault, Features, Line};
+use gx_versions::StoreForm;
 use std::hash::RandomState;
 use std::process::ExitCode;
 

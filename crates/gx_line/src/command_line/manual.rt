@@ -78,11 +78,14 @@ Refusals:
                         BadNumber
   gx: where: ...        as gx where --help has it
   gx: store exists      FILE is there, where a store is to be made
+  gx: store changed     FILE is another file than S tells, as gx put --help has it
+  gx: bad stamp         S is no such text
   gx: read failed       FILE or standard input can't be read
   gx: write failed      FILE or standard output can't be written
   gx: random bytes failed
                         the system gave none
   gx: lock failed       FILE.new, where the next store is written, can't be
                         locked, or another run has it for longer than --wait
+  gx: name too long     FILE's name leaves no room for .new behind it
   gx: out of memory",
 };

@@ -18,6 +18,7 @@ Refusals:
   gx: read failed       whether FILE is there can't be told
   gx: write failed
   gx: lock failed       as gx --help has it
+  gx: name too long     as gx --help has it
   gx: out of memory",
 };
 
@@ -36,6 +37,7 @@ Output:
 Refusals, each of which leaves FILE as it was:
   gx: read failed
   gx: lock failed       as gx --help has it
+  gx: name too long     as gx --help has it
   gx: store: KIND       as gx --help has it
   gx: write failed
   gx: out of memory",
@@ -49,8 +51,8 @@ Reads a store of any version as a whole, and tells what it holds. Of a growing
 store it looks at the tables, too, which other commands need not do.",
     details: "\
 Output:
-  Lines of a word and a number: version, blobs, trees, commits, tags, refs and
-  bytes, which is how long the text of the store is.
+  Lines of a word and a number: version, objects, refs and bytes, which is how
+  long the text of the store is.
 
 Refusals:
   gx: read failed
@@ -110,6 +112,7 @@ Output:
 Refusals, each of which leaves FILE as it was but for those checkpoints:
   gx: read failed
   gx: lock failed       as gx --help has it
+  gx: name too long     as gx --help has it
   gx: store: KIND       as gx --help has it
   gx: command N: KIND   the Nth command, or the one that would follow the last.
                         KIND is OutOfMemory, ReadFailed, WriteFailed,
@@ -146,6 +149,7 @@ Output:
 Refusals, each of which leaves FILE as it was:
   gx: read failed       FILE or standard input can't be read
   gx: lock failed       as gx --help has it
+  gx: name too long     as gx --help has it
   gx: store: KIND       as gx --help has it
   gx: revision N: UnknownRef
                         the Nth REF is no ref's name, or is given before:
@@ -179,6 +183,7 @@ Output:
 Refusals, each of which leaves FILE as it was:
   gx: read failed       FILE or standard input can't be read
   gx: lock failed       as gx --help has it
+  gx: name too long     as gx --help has it
   gx: store: KIND       as gx --help has it
   gx: ref N: KIND       the Nth change, from 1. KIND is
                         BadLine         it isn't such a change, or its ref is
@@ -210,8 +215,10 @@ Output:
 Refusals, each of which leaves FILE as it was:
   gx: bad stamp         S is no such text
   gx: store changed     FILE is another file than S tells
+  gx: store exists      FILE is there, and S is new
   gx: read failed       FILE or standard input can't be read
   gx: lock failed       as gx --help has it
+  gx: name too long     as gx --help has it
   gx: store: KIND       as gx --help has it, of the text on standard input
   gx: write failed
   gx: out of memory",
@@ -237,6 +244,7 @@ Output:
 Refusals, each of which leaves FILE as it was:
   gx: read failed
   gx: lock failed       as gx --help has it
+  gx: name too long     as gx --help has it
   gx: store: KIND       as gx --help has it
   gx: keep N: BadLine   the Nth line of F isn't 40 digits
   gx: write failed

@@ -25,7 +25,11 @@ ENUMS = {
     ],
     "Pushes": ["gx_push/src/fault.rt RefFault"],
     "Revisions": ["gx_rev/src/fault.rt RevFault"],
-    "Stores": ["gx_model/src/store_faults.rt FileFault", "gx_repo/src/fault.rt AddFault"],
+    "Stores": [
+        "gx_model/src/store_faults.rt FileFault",
+        "gx_repo/src/fault.rt AddFault",
+        "gx_growing/src/fault.rt GrowingFault",
+    ],
     "Exports": ["gx_export/src/fault.rt ExportFault"],
     "Adapted streams": ["gx_adapt/src/fault.rt AdaptFault"],
     "Changes of refs": ["gx_push/src/fault.rt RefFault"],
@@ -48,14 +52,16 @@ UNTOLD = {("Pushes", word) for word in ("BadRefName", "UnknownObject", "WrongKin
 
 
 def words_of(place):
-    """The words that an enum's variants print: each its own text, or its name. Those of no text or another fault's have none."""
+    """The words that an enum's variants print: each its own text, or its name. Those of no text, another fault's, or one behind the
+    word of a part, have none."""
     file, name = place.split()
     text = (TOP / "crates" / file).read_text()
     body = re.search(rf"^pub(?:\(crate\))? enum {name} \{{\n(.*?)^\}}", text, re.M | re.S).group(1)
     told = dict(re.findall(rf'\b{name}::(\w+)(?:\(\w+\)| \{{.*?\}})? => (?:f\.write_str\(|write!\(f, )?(?:"([^"]*)"|\w+\.word\(\))', text))
     variants = re.findall(r'^ {4}(?:#\[error\("(.*)"\)\]\n {4})?(\w+)\b', body, re.M)
     words = (own or told.get(variant, variant) for own, variant in variants)
-    return {word.removeprefix("gx: ") for word in words if word and "{" not in word}
+    told = {word.removeprefix("gx: ") for word in words if word and "{" not in word}
+    return {word for word in told if ": " not in word}
 
 
 def numbered():

@@ -1,5 +1,5 @@
 -- Commands for whose store's text there is no memory.
-use Rattle.std.proofs.Common.{◌≡◌, refl, sym, subst, inl, inr, List, Option, Some, None, Ok, Err}
+use Rattle.std.proofs.Common.{◌≡◌, refl, sym, subst, inl, inr, true, false, List, Option, Some, None, Ok, Err}
 use Rattle.gx_model.specs.declared.objects.Kind.{Kind}
 use Rattle.gx_model.specs.declared.features.Features.{Features}
 use Rattle.gx_model.specs.Texts.{Bytes}
@@ -50,7 +50,9 @@ module _ (name : Kind → Bytes → Bytes) {A : Type 0} (o : Outcome A) (was : O
   roomless_served (line.Adapt drops) store coming f e h = absurd (cc)
   roomless_served (line.Where command) store coming f e h = absurd (cc)
   roomless_served (line.WhereFault done force) store coming f e h = absurd (cc)
-  roomless_served (line.Init path wait) store coming f e h = absurd (cc)
+  roomless_served (line.Init path growing wait) store coming f e h = absurd (cc)
+  roomless_served (line.Grow path wait) store coming f e h = absurd (cc)
+  roomless_served (line.Verify path) store coming f e h = absurd (cc)
   roomless_served (line.Push path push done report explain wait) store coming f e h = absurd (cc)
   roomless_served (line.Put path stamp wait) store coming f e h = absurd (cc)
   roomless_served (line.Batch form format nul path) store coming f e h = batch_unread form (format_parts format) (ending_of nul) store coming (refused_so o f OutOfMemory e h)
@@ -72,7 +74,10 @@ module _ (name : Kind → Bytes → Bytes) {A : Type 0} (o : Outcome A) where
   unread_served other store coming (line.Adapt drops) was now e h = h
   unread_served other store coming (line.Where command) was now e h = h
   unread_served other store coming (line.WhereFault done force) was now e h = h
-  unread_served other store coming (line.Init path wait) was now e h = h
+  unread_served other store coming (line.Init path false wait) was now e h = h
+  unread_served other store coming (line.Init path true wait) was now e h = h
+  unread_served other store coming (line.Grow path wait) was now e h = h
+  unread_served other store coming (line.Verify path) was now e h = h
   unread_served other store coming (line.Push path push done report explain wait) was now e h = h
   unread_served other store coming (line.Put path stamp wait) was now e h = h
   unread_served other store coming _ was now e h = absurd (cc)

@@ -1,5 +1,5 @@
 -- Commands that read a store's text first, told apart from those that don't, and those that ask from those that leave a text.
-use Rattle.std.proofs.Common.{◌≡◌, ℕ, Bool, Bor, Global, Option, None, Vec, refl}
+use Rattle.std.proofs.Common.{◌≡◌, ℕ, Bool, true, false, Bor, Global, Option, None, Vec, refl}
 use Rattle.std.specs.Prelude.{IsSome}
 use Rattle.gx_model.specs.declared.objects.Kind.{Kind}
 use Rattle.gx_model.specs.Texts.{Bytes}
@@ -34,7 +34,9 @@ module _ (name : Kind → Bytes → Bytes) {A : Type 0} (o : Outcome A) (coming 
   opened_served (line.Adapt drops) store s i m h = absurd (cc s)
   opened_served (line.Where command) store s i m h = absurd (cc s)
   opened_served (line.WhereFault done force) store s i m h = absurd (cc s)
-  opened_served (line.Init file wait) store s i m h = absurd (cc s)
+  opened_served (line.Init file growing wait) store s i m h = absurd (cc s)
+  opened_served (line.Grow file wait) store s i m h = absurd (cc s)
+  opened_served (line.Verify file) store s i m h = absurd (cc s)
   opened_served (line.Push file push done report explain wait) store s i m h = absurd (cc s)
   opened_served (line.Put file stamp wait) store s i m h = absurd (cc s)
   opened_served (line.Import file done force report explain wait) store s i m h = absurd (i file done force report explain wait refl)
@@ -46,17 +48,22 @@ module _ (name : Kind → Bytes → Bytes) {A : Type 0} (o : Outcome A) (coming 
       → ((done force explain : Bool) → l ≡ line.Check done force explain → ⊥) → ((done force : Bool) → l ≡ line.WhereFault done force → ⊥) → ((drops : Bool) → l ≡ line.Adapt drops → ⊥) → ((command : ℕ) → l ≡ line.Where command → ⊥)
       → ((file push : Bor Bytes) (done report explain : Bool) (wait : Option ℕ) → l ≡ line.Push file push done report explain wait → ⊥)
       → ((file stamp : Bor Bytes) (wait : Option ℕ) → l ≡ line.Put file stamp wait → ⊥)
+      → ((file : Bor Bytes) (wait : Option ℕ) → l ≡ line.Init file true wait → ⊥) → ((file : Bor Bytes) (wait : Option ℕ) → l ≡ line.Grow file wait → ⊥)
+      → ((file : Bor Bytes) → l ≡ line.Verify file → ⊥)
       → IsWritten name empty_repository o × (now ≡ was) → Serves name l store coming was now o
-  made_served line.Blobs store e b t k f a w p q h = absurd (b refl)
-  made_served (line.Try word done force explain) store e b t k f a w p q h = absurd (t word done force explain refl)
-  made_served (line.Check done force explain) store e b t k f a w p q h = absurd (k done force explain refl)
-  made_served (line.WhereFault done force) store e b t k f a w p q h = absurd (f done force refl)
-  made_served (line.Adapt drops) store e b t k f a w p q h = absurd (a drops refl)
-  made_served (line.Where command) store e b t k f a w p q h = absurd (w command refl)
-  made_served (line.Push file push done report explain wait) store e b t k f a w p q h = absurd (p file push done report explain wait refl)
-  made_served (line.Put file stamp wait) store e b t k f a w p q h = absurd (q file stamp wait refl)
-  made_served (line.Init file wait) store e b t k f a w p q h = h
-  made_served _ store e b t k f a w p q h = absurd (cc e)
+  made_served line.Blobs store e b t k f a w p q n g v h = absurd (b refl)
+  made_served (line.Try word done force explain) store e b t k f a w p q n g v h = absurd (t word done force explain refl)
+  made_served (line.Check done force explain) store e b t k f a w p q n g v h = absurd (k done force explain refl)
+  made_served (line.WhereFault done force) store e b t k f a w p q n g v h = absurd (f done force refl)
+  made_served (line.Adapt drops) store e b t k f a w p q n g v h = absurd (a drops refl)
+  made_served (line.Where command) store e b t k f a w p q n g v h = absurd (w command refl)
+  made_served (line.Push file push done report explain wait) store e b t k f a w p q n g v h = absurd (p file push done report explain wait refl)
+  made_served (line.Put file stamp wait) store e b t k f a w p q n g v h = absurd (q file stamp wait refl)
+  made_served (line.Init file true wait) store e b t k f a w p q n g v h = absurd (n file wait refl)
+  made_served (line.Init file false wait) store e b t k f a w p q n g v h = h
+  made_served (line.Grow file wait) store e b t k f a w p q n g v h = absurd (g file wait refl)
+  made_served (line.Verify file) store e b t k f a w p q n g v h = absurd (v file refl)
+  made_served _ store e b t k f a w p q n g v h = absurd (cc e)
 
   -- and of what it makes of an export, nothing is told
   pub other_again : (l : Line) (store : Bytes) → ((file : Bor Bytes) (done force report explain : Bool) (wait : Option ℕ) → l ≡ line.Import file done force report explain wait → ⊥) → ServesExported name l store coming o

@@ -340,10 +340,9 @@ def test_beside_git(
 )
 @pytest.mark.parametrize("name", ["a..b", "refs/heads/.a", "main/"])
 def test_removal_under_no_name(store: Store, name: str, line: str) -> None:
-    """No ref has such a name, so none goes."""
-    was = store.refs()
-    assert store.taken("--stdin", lines=line.format(name) + "\n") == was
-    store.refused("ref 1: RefMoved", "--stdin", lines=f"delete {name} {store.main}\n")
+    """A name that no ref can have is refused, as git refuses it, though none would go."""
+    store.refused("ref 1: BadRefName", "--stdin", lines=line.format(name) + "\n")
+    store.refused("ref 1: BadRefName", "--stdin", lines=f"delete {name} {store.main}\n")
 
 
 def test_line_ends(store: Store) -> None:

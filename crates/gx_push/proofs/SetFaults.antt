@@ -74,13 +74,14 @@ or_none (Some f) moved e = absurd (cc e)
 pub allowed_new : (forced : Bool) (r : Records) (names : List Bytes) (o : Option Set) (s : Set) → allowed forced r names o ≡ Ok s
     → (is_among names s.ref ≡ false) × (after_fault forced r s.ref s.moves.1 ≡ None)
 allowed_new forced r names None s e = absurd (cc e)
-allowed_new forced r names (Some t) s e = by (is_among names t.ref) refl (is_before t.moves.0 (object_named r.refs t.ref)) (after_fault forced r t.ref t.moves.1) refl e where
-  by : (b : Bool) → is_among names t.ref ≡ b → (c : Bool) (f : Option RefFault) → after_fault forced r t.ref t.moves.1 ≡ f → (if b then Err BadLine else (if c then unless_fault f t else Err RefMoved)) ≡ Ok s
+allowed_new forced r names (Some t) s e = by (is_ref_name t.ref) (is_among names t.ref) refl (is_before t.moves.0 (object_named r.refs t.ref)) (after_fault forced r t.ref t.moves.1) refl e where
+  by : (m b : Bool) → is_among names t.ref ≡ b → (c : Bool) (f : Option RefFault) → after_fault forced r t.ref t.moves.1 ≡ f → (if not m then Err BadRefName else if b then Err BadLine else (if c then unless_fault f t else Err RefMoved)) ≡ Ok s
       → (is_among names s.ref ≡ false) × (after_fault forced r s.ref s.moves.1 ≡ None)
-  by true n c f k e = absurd (cc e)
-  by false n false f k e = absurd (cc e)
-  by false n true (Some fault) k e = absurd (cc e)
-  by false n true None k e =
+  by false b n c f k e = absurd (cc e)
+  by true true n c f k e = absurd (cc e)
+  by true false n false f k e = absurd (cc e)
+  by true false n true (Some fault) k e = absurd (cc e)
+  by true false n true None k e =
       let is : t ≡ s = cc e in
       subst (λ (u : Set). (is_among names u.ref ≡ false) × (after_fault forced r u.ref u.moves.1 ≡ None)) is (n, k)
 

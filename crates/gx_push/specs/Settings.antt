@@ -1,10 +1,11 @@
 -- What lines make of refs, and what is against them. Source: git-update-ref(1), "--stdin", and git-check-ref-format(1).
-use Rattle.std.specs.Prelude.{Bool, true, false, if◌then◌else◌, codes, List, map, Option, None, Some, Result, Ok, Err}
+use Rattle.std.specs.Prelude.{Bool, true, false, not, if◌then◌else◌, codes, List, map, Option, None, Some, Result, Ok, Err}
 use Rattle.std.specs.List.{filter, filter_map}
 use Rattle.std.specs.Option.{option_eq, option_map}
 use Rattle.gx_model.specs.declared.faults.Fault.{Fault}
 use Rattle.gx_model.specs.declared.faults.Fault.TheVariants as model
 use Rattle.gx_model.specs.Texts.{Bytes, cut_at, same_bytes}
+use Rattle.gx_model.specs.Texts.RefNames.{is_ref_name}
 use Rattle.gx_model.specs.Histories.{Records}
 use Rattle.gx_model.specs.Records.Publishing.{Change, Ref, change_fault, with_changes}
 use Rattle.gx_object.specs.Parts.{bytes_if}
@@ -153,7 +154,8 @@ unless_fault (Some fault) set = Err fault
 abbrev pub allowed : Bool → Records → List Bytes → Option Set → Result Set RefFault
 allowed forced r names None = Err BadLine
 allowed forced r names (Some set) =
-    if is_among names set.ref then Err BadLine
+    if not (is_ref_name set.ref) then Err BadRefName
+    else if is_among names set.ref then Err BadLine
     else (if is_before set.moves.0 (object_named r.refs set.ref) then unless_fault (after_fault forced r set.ref set.moves.1) set else Err RefMoved)
 
 -- the ref that is told of

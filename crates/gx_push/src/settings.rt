@@ -91,6 +91,9 @@ fn allowed<'a, N: Namer, A: Allocator + Copy>(
     let Some(setting) = setting_in(line) else {
         return Err(Against::Fault(RefFault::BadLine));
     };
+    if !is_ref_name(setting.name) {
+        return Err(Against::Fault(RefFault::BadRefName));
+    }
     if names.contains(setting.name) {
         return Err(Against::Fault(RefFault::BadLine));
     }

@@ -26,9 +26,9 @@ use std::alloc::{AllocFailed, Allocator};
 /// and 40 zeros are no object: as NEW they remove the ref. Where there is OLD, the ref has to hold it. `create`, and `verify` without
 /// OLD, want no such ref. Without `forced` a ref that is set to an object moves forward.
 ///
-/// `Line`: the first line that isn't one, or whose ref another line before it has (`BadLine`), whose ref isn't so (`RefMoved`),
-/// whose REF is no ref's name (`BadRefName`), whose NEW isn't held (`UnknownObject`) or isn't a commit or a tag whose own name makes the
-/// ref's (`WrongKind`), or whose ref would lose commits (`NotFastForward`). `OutOfMemory`: a growth was refused.
+/// `Line`: the first line that isn't one (`BadLine`), whose REF is no ref's name (`BadRefName`), whose ref another line before it has
+/// (`BadLine`), whose ref isn't so (`RefMoved`), whose NEW isn't held (`UnknownObject`) or isn't a commit or a tag whose own name makes
+/// the ref's (`WrongKind`), or whose ref would lose commits (`NotFastForward`). `OutOfMemory`: a growth was refused.
 /// Cost: for each line some look-ups among the refs and objects, and `gx_rev::is_ancestor`; those of `Repo::drop_refs` and
 /// `Repo::publish`.
 pub fn set_refs<N: Namer + Drop, A: Allocator + Copy>(

@@ -16,7 +16,7 @@ use Rattle.gx_model.specs.Revisions.{RangeWord, range_of}
 use Rattle.gx_model.specs.Stores.StoreReading.{Stored, store_of}
 use Rattle.gx_model.specs.Stores.StoreText.{store_text, stored_ref}
 use Rattle.gx_model.specs.Texts.{Bytes}
-use Rattle.gx_file.specs.Faults as file
+use Rattle.gx_lines.specs.Reads as file
 use Rattle.gx_rev.specs.RevFaults.{fault_of}
 use Rattle.gx_rev.specs.Views.{shown_range}
 use Rattle.gx_rev.specs.declared.fault.RevFault.{RevFault}

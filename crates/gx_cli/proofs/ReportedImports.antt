@@ -11,7 +11,7 @@ use Rattle.gx_model.specs.Records.Publishing.{Ref}
 use Rattle.gx_model.specs.Stores.StoreReading.{Stored}
 use Rattle.gx_model.specs.Texts.Sinks.{Taken}
 use Rattle.gx_text.specs.Devices.{Coming}
-use Rattle.gx_file.specs.Faults.{IsFaultOf}
+use Rattle.gx_lines.specs.Reads.{IsFaultOf}
 use Rattle.gx_repo.specs.Reporting.{IsReport}
 use Rattle.gx_import.specs.declared.report.Report.{Report}
 use Rattle.gx_cli.specs.Reporting.{ReportsStored, Reports}

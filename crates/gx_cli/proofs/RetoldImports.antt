@@ -9,7 +9,7 @@ use Rattle.gx_model.specs.Faults.{Given}
 use Rattle.gx_model.specs.Histories.{Records, empty_repository}
 use Rattle.gx_model.specs.Stores.StoreReading.{Stored}
 use Rattle.gx_model.specs.Texts.Sinks.{Taken}
-use Rattle.gx_file.specs.Faults.{IsFaultOf}
+use Rattle.gx_lines.specs.Reads.{IsFaultOf}
 use Rattle.gx_import.specs.Explaining.{TellsNothing}
 use Rattle.gx_import.specs.Retelling.{IsOfOneReplay}
 use Rattle.gx_import.specs.declared.explanation.Explanation.{Explanation}

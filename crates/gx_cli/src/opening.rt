@@ -3,7 +3,7 @@
 ghost use Rattle.std.specs.Prelude.{◌≡◌, IfOk};
 ghost use Rattle.gx_model.specs.Stores.StoreReading.{store_of};
 ghost use Rattle.gx_model.specs.Stores.StoreText.{IsStoreText};
-ghost use Rattle.gx_file.specs.Faults.{Reads};
+ghost use Rattle.gx_lines.specs.Reads.{Reads};
 ghost use Rattle.gx_file.specs.Reading.{RefusesOthers};
 
 use gx_file::{FileFault, Text, read_text};

@@ -7,7 +7,7 @@ use Rattle.gx_model.specs.Faults.{◌>>=◌}
 use Rattle.gx_model.specs.Histories.{Record}
 use Rattle.gx_model.specs.Stores.StoreReading.{Stored, next_record, next_records}
 use Rattle.gx_model.specs.declared.store_faults.FileFault.{FileFault}
-use Rattle.gx_file.specs.Faults.{IsFaultOf}
+use Rattle.gx_lines.specs.Reads.{IsFaultOf}
 use Rattle.gx_file.proofs.Steps.{moved}
 
 module _ (name : Kind → Bytes → Bytes) (v : Version) (given : Stored (List Record × Bytes)) (n k : ℕ) (rs : List Record) (text : Bytes)

@@ -7,7 +7,7 @@ use Rattle.gx_model.specs.Stores.StoreReading.{Stored, is_after}
 use Rattle.gx_model.specs.Records.Publishing.{Ref}
 use Rattle.gx_model.specs.declared.store_faults.FileFault.{FileFault}
 use Rattle.gx_model.specs.declared.store_faults.FileFault.TheVariants.{OutOfMemory, RefOrder}
-use Rattle.gx_file.specs.Faults.{IsFaultOf}
+use Rattle.gx_lines.specs.Reads.{IsFaultOf}
 use Rattle.gx_file.specs.Gathering.{Gathered, Gathers, before, first_ref, gathered, gathered_from}
 
 -- these refs were gathered, and what the rest of the text has follows them

@@ -1,6 +1,4 @@
 pub mod Steps
-pub mod NumberTexts
-pub mod LineFronts
 pub mod StatedNames
 pub mod CountedRecords
 pub mod GatheredRefs

@@ -31,7 +31,8 @@ use Rattle.gx_repo.specs.Publishing.{fault_of as published_fault}
 use Rattle.gx_model.proofs.Records.SortedRefs.{order}
 use Rattle.gx_model.specs.declared.store_faults.FileFault.{FileFault}
 use Rattle.gx_model.specs.declared.store_faults.FileFault.TheVariants.{OutOfMemory}
-use Rattle.gx_file.specs.Faults.{IsFaultOf, Reads, refs_fault}
+use Rattle.gx_lines.specs.Reads.{IsFaultOf, Reads}
+use Rattle.gx_file.specs.Faults.{refs_fault}
 use Rattle.gx_file.specs.Gathering.{Gathered, Gathers, before, first_ref, gathered, gathered_from, ref_of_line, with_rest}
 use Rattle.gx_file.proofs.GatheredRefs.{first_gathered, no_more}
 

@@ -3,7 +3,7 @@ use Rattle.std.proofs.Common.{◌≡◌, ◌≢◌, Err, refl}
 use Rattle.gx_model.specs.Stores.StoreReading.{Stored}
 use Rattle.gx_model.specs.declared.store_faults.FileFault.{FileFault}
 use Rattle.gx_model.specs.declared.store_faults.FileFault.TheVariants.{OutOfMemory}
-use Rattle.gx_file.specs.Faults.{IsFaultOf}
+use Rattle.gx_lines.specs.Reads.{IsFaultOf}
 
 -- What gives a fault where another thing does has that one's fault.
 pub moved : {Y Z : Type 0} (fault : FileFault) (given : Stored Y) (other : Stored Z) → (given ≡ Err fault → other ≡ Err fault)

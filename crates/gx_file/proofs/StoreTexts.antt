@@ -9,7 +9,8 @@ use Rattle.gx_model.specs.Stores.StoreReading.{store_of}
 use Rattle.gx_model.specs.Laws.StoreLaws.{StoresAreRead}
 use Rattle.gx_model.specs.declared.store_faults.FileFault.{FileFault}
 use Rattle.gx_model.specs.declared.store_faults.FileFault.TheVariants.{OutOfMemory}
-use Rattle.gx_file.specs.Faults.{IsNoStoreText, Reads}
+use Rattle.gx_lines.specs.Reads.{Reads}
+use Rattle.gx_file.specs.Faults.{IsNoStoreText}
 use Rattle.gx_file.proofs.Steps.{explained}
 
 module _ (name : Kind → Bytes → Bytes) (law : StoresAreRead name) (text : Bytes) where

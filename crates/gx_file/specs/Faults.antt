@@ -1,5 +1,5 @@
--- How answers of a store text's readers go with what the definitions give. Source: this project's own format.
-use Rattle.std.specs.Prelude.{◌≡◌, ◌≢◌, Result, Ok, Err, ⊤}
+-- What refusals of a store text say. Source: this project's own format.
+use Rattle.std.specs.Prelude.{◌≢◌}
 use Rattle.gx_model.specs.declared.objects.Kind.{Kind}
 use Rattle.gx_model.specs.declared.store_versions.Version.{Version}
 use Rattle.gx_model.specs.declared.store_faults.FileFault.{FileFault}
@@ -8,19 +8,8 @@ use Rattle.gx_model.specs.Texts.{Bytes}
 use Rattle.gx_model.specs.Histories.{Records}
 use Rattle.gx_model.specs.Records.Sound.{IsSound}
 use Rattle.gx_model.specs.Stores.StoreText.{store_text}
-use Rattle.gx_model.specs.Stores.StoreReading.{Stored}
 use Rattle.gx_repo.specs.declared.fault.PublishFault.{PublishFault}
 use Rattle.gx_repo.specs.declared.fault.PublishFault.TheVariants as publish
-
--- a fault is the definition's; want of memory isn't
-abbrev pub IsFaultOf : {Y : Type 0} → FileFault → Stored Y → Type 0
-IsFaultOf OutOfMemory given = ⊤
-IsFaultOf f given = given ≡ Err f
-
--- an answer, seen so, is what the definition gives, unless memory ran out
-abbrev pub Reads : {X Y : Type 0} → (X → Y) → Result X FileFault → Stored Y → Type 0
-Reads view (Ok x) given = given ≡ Ok (view x)
-Reads view (Err e) given = IsFaultOf e given
 
 -- no sound repository has this text, in either version
 abbrev pub IsNoStoreText : (Kind → Bytes → Bytes) → Bytes → Type 0

@@ -9,7 +9,8 @@ use Rattle.gx_model.specs.Histories.{Records}
 use Rattle.gx_model.specs.Stores.StoreReading.{is_stated, next_record, next_records, next_refs, only_if, store_of, with_stored}
 use Rattle.gx_model.specs.Texts.{Bytes}
 use Rattle.gx_object.specs.declared.name.Name.{Name}
-use Rattle.gx_file.specs.Faults.{IsNoStoreText, Reads}
+use Rattle.gx_lines.specs.Reads.{Reads}
+use Rattle.gx_file.specs.Faults.{IsNoStoreText}
 use Rattle.gx_object.specs.Parts.{bytes_if}
 
 -- what is refused, but for want of memory, is the text of no sound repository

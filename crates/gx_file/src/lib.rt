@@ -3,7 +3,6 @@
 #![tactic(auto)]
 
 mod faults;
-mod lines;
 mod reading;
 mod records;
 mod refs;
@@ -12,4 +11,6 @@ mod sending;
 pub use gx_model::FileFault;
 pub use gx_repo::{OutOfMemory, Text};
 pub use reading::{read, read_text};
-pub use sending::{write, write_to};
+pub use records::read_record;
+pub use refs::{is_after, read_ref, read_refs};
+pub use sending::{send_all, send_count, send_records, send_refs, send_text, write, write_to};

@@ -3,15 +3,15 @@ ghost use Rattle.std.specs.Prelude.{◌≡◌, [], Err, IfErr, IfOk, OnOk};
 ghost use Rattle.gx_model.specs.Faults.{NeedsNoMemory};
 ghost use Rattle.gx_model.specs.Stores.StoreReading.{after_magic, store_of, stored_count};
 ghost use Rattle.gx_model.specs.Stores.StoreText.{IsStoreText};
-ghost use Rattle.gx_file.specs.Faults.{Reads};
+ghost use Rattle.gx_lines.specs.Reads.{Reads};
 ghost use Rattle.gx_file.specs.Reading.{RefusesOthers};
 ghost use Rattle.gx_file.specs.TextEnds.{EndsWith};
 ghost use Rattle.gx_file.specs.Wanting.{HasHead, RunsOut, WantsWhere};
 
 use crate::FileFault;
-use crate::lines::{read_count, read_end, read_magic};
 use crate::records::read_records;
 use crate::refs::read_refs;
+use gx_lines::{read_count, read_end, read_magic};
 use gx_model::store_laws::stores_are_read;
 use gx_object::Namer;
 use gx_repo::{OutOfMemory, Repo, Text};

@@ -4,8 +4,8 @@ ghost use Rattle.std.specs.Map.{lookup};
 ghost use Rattle.std.specs.Option.{option_map};
 ghost use Rattle.gx_model.specs.Histories.{record_for};
 ghost use Rattle.gx_model.specs.Texts.{same_bytes};
-ghost use Rattle.gx_model.specs.Stores.StoreReading.{kind_words, length_field, record_line, stored_body};
-ghost use Rattle.gx_file.specs.Faults.{Reads};
+ghost use Rattle.gx_model.specs.Stores.StoreReading.{kind_words, length_field, record_line};
+ghost use Rattle.gx_lines.specs.Reads.{Reads};
 ghost use Rattle.gx_model.specs.Faults.{NeedsNoMemory};
 ghost use Rattle.gx_file.specs.Reading.{AddsStated, ChecksName, ReadsRecord, ReadsRecords};
 ghost use Rattle.gx_file.specs.TextEnds.{EndsWith};
@@ -14,11 +14,10 @@ ghost use Rattle.gx_file.specs.Wanting.{RunsOutAmong, RunsOutAt, RunsOutFor, Wan
 ghost use Rattle.gx_object.specs.Parts.{bytes_if};
 ghost use Rattle.gx_repo.specs.Calls.{HidesNoFault};
 ghost use Rattle.gx_repo.specs.Records.{AddsRecord};
-ghost use Rattle.gx_text.specs.Lent.{lent_pair};
 
 use crate::FileFault;
 use crate::faults::record_fault;
-use crate::lines::{read_line, read_number};
+use gx_lines::{read_body, read_line, read_number};
 use gx_model::Version;
 use gx_object::{Kind, Name, Namer};
 use gx_repo::{AddFault, Body, Repo, Text, TextRange};
@@ -47,8 +46,12 @@ pub(crate) fn read_records<'a, N: Namer, A: Allocator + Copy>(
     Ok(rest)
 }
 
-/// Adds the record that comes next, and answers what follows it.
-fn read_record<'a, N: Namer, A: Allocator + Copy>(
+/// Adds the record that comes next, whose body stands in a text that is shared, and answers what follows it.
+///
+/// The faults are those of `read_text` for a record. `OutOfMemory` comes behind what is read whole and is right.
+/// Cost: the body is hashed once, and that of a record that is refused twice; a look-up for each link. Memory: what a record
+/// takes beside its body. Source: this project's own format.
+pub fn read_record<'a, N: Namer, A: Allocator + Copy>(
     repo: &mut Repo<N, A>,
     whole: &Text<A>,
     version: Version,
@@ -171,20 +174,5 @@ fn kind_named(word: &[u8]) -> Option<Kind>
         Some(Kind::Tag)
     } else {
         None
-    }
-}
-
-/// So many bytes, and what follows the LF behind them.
-fn read_body(length: u64, text: &[u8]) -> Result<(&[u8], &[u8]), FileFault>
-    ensures body { Reads lent_pair result (stored_body length text.now) }
-    ensures memory { NeedsNoMemory FileFault.OutOfMemory result }
-{
-    if length >= text.len() as u64 {
-        return Err(FileFault::Truncated);
-    }
-    let (body, rest) = text.split_at(length as usize);
-    match rest.strip_prefix(b"\n") {
-        Some(rest) => Ok((body, rest)),
-        None => Err(FileFault::BadRecord),
     }
 }

@@ -3,7 +3,7 @@ ghost use Rattle.std.specs.Prelude.{◌≡◌, [], None, map};
 ghost use Rattle.std.specs.Option.{option_map};
 ghost use Rattle.gx_model.specs.Stores.StoreReading.{is_after, ref_line};
 ghost use Rattle.gx_repo.specs.Refs.{shown_update};
-ghost use Rattle.gx_file.specs.Faults.{Reads};
+ghost use Rattle.gx_lines.specs.Reads.{Reads};
 ghost use Rattle.gx_model.specs.Faults.{NeedsNoMemory};
 ghost use Rattle.gx_file.specs.Gathering.{Gathers, first_ref, gathered, shown_change};
 ghost use Rattle.gx_file.specs.Reading.{ReadsRefs};
@@ -11,7 +11,7 @@ ghost use Rattle.gx_file.specs.Wanting.{RunsOutAmongRefs, RunsOutBehind, WantsWh
 
 use crate::FileFault;
 use crate::faults::refs_fault;
-use crate::lines::read_line;
+use gx_lines::read_line;
 use gx_object::{Name, Namer};
 use gx_repo::{PublishFault, RefChange, Repo};
 use gx_text::{cut, is_ref_name};
@@ -19,8 +19,9 @@ use std::alloc::Allocator;
 
 /// Sets the refs that come next in a repository that has none, so many of them, and answers what follows them.
 ///
-/// Cost: the refs are looked at once, and each object that one holds is looked up once.
-pub(crate) fn read_refs<'a, N: Namer, A: Allocator + Copy>(
+/// The faults are those of `read_text` for refs. Cost: the refs are looked at once, and each object that one holds is looked up
+/// once. Memory: the refs. Source: git-check-ref-format(1).
+pub fn read_refs<'a, N: Namer, A: Allocator + Copy>(
     alloc: A,
     repo: &mut Repo<N, A>,
     count: u64,
@@ -72,8 +73,11 @@ fn gather<'a, A: Allocator + Copy>(
 }
 
 /// The change that sets the ref in the first line, and what follows the line.
+///
+/// `Truncated`: no LF stands in the text. `BadRef`: the line isn't as written. Cost: the line. Takes no memory. Source:
+/// git-check-ref-format(1).
 #[tactic(auto, unfolding(crate::specs::Gathering::first_ref))]
-fn read_ref(text: &[u8]) -> Result<(RefChange<'_>, &[u8]), FileFault>
+pub fn read_ref(text: &[u8]) -> Result<(RefChange<'_>, &[u8]), FileFault>
     ensures change { Reads shown_change result (first_ref text.now) }
     ensures memory { NeedsNoMemory FileFault.OutOfMemory result }
 {
@@ -84,8 +88,9 @@ fn read_ref(text: &[u8]) -> Result<(RefChange<'_>, &[u8]), FileFault>
     Ok((RefChange { name, target }, rest))
 }
 
-/// Whether a name is greater than the one before, where there is one.
-fn is_after(last: Option<&[u8]>, name: &[u8]) -> bool
+/// Whether a name is greater than the one before, where there is one. Cost: the names. Takes no memory. Source: this project's
+/// own format.
+pub fn is_after(last: Option<&[u8]>, name: &[u8]) -> bool
     ensures { result ≡ is_after (option_map (λ last. last.now) last.entry) name.now }
 {
     match last {

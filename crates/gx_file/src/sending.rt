@@ -50,7 +50,7 @@ pub fn write_to<N: Namer, A: Allocator + Copy, W: Sink>(
 }
 
 /// Sends the number of the records and the records.
-fn send_records<N: Namer, A: Allocator + Copy, W: Sink>(
+pub fn send_records<N: Namer, A: Allocator + Copy, W: Sink>(
     repo: &Repo<N, A>,
     sink: &mut W,
 ) -> Result<(), Failed>
@@ -102,7 +102,7 @@ fn send_body<W: Sink>(sink: &mut W, word: &[u8], name: &Name, body: &[u8]) -> Re
 }
 
 /// Sends the number of the refs and the refs.
-fn send_refs<N: Namer, A: Allocator + Copy, W: Sink>(
+pub fn send_refs<N: Namer, A: Allocator + Copy, W: Sink>(
     repo: &Repo<N, A>,
     sink: &mut W,
 ) -> Result<(), Failed>
@@ -125,7 +125,7 @@ fn send_ref<W: Sink>(sink: &mut W, name: &[u8], object: &Name) -> Result<(), Fai
 }
 
 /// Sends a line with a word and a number.
-fn send_count<W: Sink>(sink: &mut W, word: &[u8], count: usize) -> Result<(), Failed>
+pub fn send_count<W: Sink>(sink: &mut W, word: &[u8], count: usize) -> Result<(), Failed>
     ensures { Sent (line word.now (number_text count)) (W.taken sink.old) (W.taken sink.new) result }
 {
     let mut digits = Buffer::new();
@@ -133,7 +133,7 @@ fn send_count<W: Sink>(sink: &mut W, word: &[u8], count: usize) -> Result<(), Fa
 }
 
 /// Sends these texts, one after the other.
-fn send_all<W: Sink>(sink: &mut W, parts: &[&[u8]]) -> Result<(), Failed>
+pub fn send_all<W: Sink>(sink: &mut W, parts: &[&[u8]]) -> Result<(), Failed>
     ensures { SendsParts W.taken parts.now sink.old sink.new result }
 {
     for part in parts {
@@ -143,7 +143,7 @@ fn send_all<W: Sink>(sink: &mut W, parts: &[&[u8]]) -> Result<(), Failed>
 }
 
 /// Sends a text.
-fn send_text<W: Sink>(sink: &mut W, text: &[u8]) -> Result<(), Failed>
+pub fn send_text<W: Sink>(sink: &mut W, text: &[u8]) -> Result<(), Failed>
     ensures { Sent text.now (W.taken sink.old) (W.taken sink.new) result }
 {
     match send(sink, text) {

@@ -1,5 +1,5 @@
-use Rattle.gx_file.proofs.LineFronts.{no_word, word_cut}
-use Rattle.gx_file.proofs.lines.after_word.Goals as goal
+use Rattle.gx_lines.proofs.LineFronts.{no_word, word_cut}
+use Rattle.gx_lines.proofs.lines.after_word.Goals as goal
 
 pub returns-in_err-strip_prefix : goal.returns-in_err-strip_prefix
 returns-in_err-strip_prefix c = rw c.from_residual.ensures (no_word c.args.word.now c.args.line.now c.in_err-strip_prefix.ensures.cases)

@@ -15,7 +15,7 @@ use Rattle.gx_model.specs.declared.store_faults.FileFault.{FileFault}
 use Rattle.gx_model.specs.Texts.{Bytes, cut_at}
 use Rattle.gx_model.specs.Faults.{NeedsNoMemory, ◌>>=◌}
 use Rattle.gx_model.specs.Stores.StoreReading.{after_word, only_if, stored_body, stored_line}
-use Rattle.gx_file.specs.Faults.{Reads}
+use Rattle.gx_lines.specs.Reads.{Reads}
 use Rattle.gx_text.specs.Lent.{lent_pair}
 
 -- A line begins with a word and a space where it begins with the word and what follows begins with the space.

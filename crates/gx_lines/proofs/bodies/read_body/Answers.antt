@@ -1,6 +1,6 @@
 use Rattle.std.proofs.Common.{arith}
-use Rattle.gx_file.proofs.LineFronts.{body_cut}
-use Rattle.gx_file.proofs.records.read_body.Goals as goal
+use Rattle.gx_lines.proofs.LineFronts.{body_cut}
+use Rattle.gx_lines.proofs.bodies.read_body.Goals as goal
 
 pub returns-in-Some-clause-body : goal.returns-in-Some-clause-body
 returns-in-Some-clause-body c =

@@ -1,7 +1,7 @@
 use Rattle.std.proofs.Common.{sym, ◌∙◌}
-use Rattle.gx_file.proofs.NumberTexts.{led_by_zero, plain_number, short_number}
-use Rattle.gx_file.proofs.lines.read_number.Goals as goal
-use Rattle.gx_file.proofs.lines.read_number.Goals.{else-text-gt1-via-then-text-gt1+else-starts_with, else-text-gt1-via-else-text-gt1}
+use Rattle.gx_lines.proofs.NumberTexts.{led_by_zero, plain_number, short_number}
+use Rattle.gx_lines.proofs.lines.read_number.Goals as goal
+use Rattle.gx_lines.proofs.lines.read_number.Goals.{else-text-gt1-via-then-text-gt1+else-starts_with, else-text-gt1-via-else-text-gt1}
 
 pub returns-then-starts_with : goal.returns-then-starts_with
 returns-then-starts_with c = led_by_zero c.args.text.now c.if-text-gt1.true (sym c.starts_with.ensures.value ∙ c.if-starts_with.true)

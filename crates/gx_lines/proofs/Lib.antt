@@ -1,0 +1,2 @@
+pub mod NumberTexts
+pub mod LineFronts

@@ -1,0 +1,3 @@
+pub mod DigitPairs
+pub mod PageDigests
+pub mod CutTables

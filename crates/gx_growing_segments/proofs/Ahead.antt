@@ -10,7 +10,7 @@ use Rattle.gx_model.specs.Texts.{Bytes}
 use Rattle.gx_lines.specs.Reads.{IsFaultOf}
 use Rattle.gx_growing_segments.proofs.Steps.{moved}
 use Rattle.gx_growing.specs.GrowingReading.{Front, next_segment, next_segments, no_front}
-use Rattle.gx_growing_segments.specs.Placing.{rows_of}
+use Rattle.gx_growing_parts.specs.Placing.{rows_of}
 use Rattle.gx_growing_segments.specs.Seen.{seen_so_far}
 
 module _ (name : Kind → Bytes → Bytes) (ends fuel : ℕ) (text : Bytes) where

@@ -11,7 +11,7 @@ use Rattle.std.specs.declared.vec.Vec.{Vec}
 use Rattle.gx_growing_parts.specs.declared.runs.Run.{Run as GivenRun}
 use Rattle.gx_growing_parts.specs.Shown.{shown_run}
 use Rattle.gx_growing_segments.specs.declared.segments.Tail.{Tail}
-use Rattle.gx_growing_segments.specs.Placing.{rows_of}
+use Rattle.gx_growing_parts.specs.Placing.{rows_of}
 
 -- the refs that were read, where these were
 abbrev pub refs_told : Stored (List (Bytes × Bytes) × Bytes) → List (Bytes × Bytes)

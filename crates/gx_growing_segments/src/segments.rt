@@ -8,7 +8,7 @@ ghost use Rattle.gx_file.specs.TextEnds.{EndsWith};
 ghost use Rattle.gx_lines.specs.Reads.{Reads};
 ghost use Rattle.gx_growing.specs.GrowingText.{placed};
 ghost use Rattle.gx_growing.specs.GrowingReading.{after_end, next_runs, next_segment, next_segments, next_tail, no_front};
-ghost use Rattle.gx_growing_segments.specs.Placing.{rows_of};
+ghost use Rattle.gx_growing_parts.specs.Placing.{rows_of};
 ghost use Rattle.gx_growing_segments.specs.Seen.{HasRefs, seen_so_far, seen_with, shown_next_runs, shown_next_segment, shown_next_tail};
 
 use crate::refs::check_refs;

@@ -1,7 +1,6 @@
 -- What was read of a growing text, without where it lies in memory. Source: this project's own format.
 use Rattle.std.specs.Borrow.{Bor}
-use Rattle.std.specs.Prelude.{◌≡◌, ℕ, List, [], None, Ok, Err, Result, map}
-use Rattle.gx_model.specs.declared.store_faults.FileFault.{FileFault}
+use Rattle.std.specs.Prelude.{◌≡◌, ℕ, List, [], None, Ok, Err, map}
 use Rattle.gx_model.specs.Histories.{Record}
 use Rattle.gx_model.specs.Stores.StoreReading.{Stored, next_refs}
 use Rattle.gx_model.specs.Texts.{Bytes}

@@ -2,13 +2,15 @@
 
 from __future__ import annotations
 
+import errno
 import os
 import shutil
 import struct
 from pathlib import Path
 
 import pytest
-from mirror_world import FAILED, Counted, Repository, Store, World
+from failing import Call, needs_faults, run_watched
+from mirror_world import FAILED, MIRROR, Counted, Repository, Store, World
 from programs import SCRIPTS, Done, Program, run_program
 from store_files import needs_strace, needs_users
 
@@ -243,6 +245,22 @@ def test_full_disk(world: World, ending: str) -> None:
     assert done.status == FAILED and told.encode() in done.err, done
     assert not list(world.folder.glob("s.gx*.new"))
     world.follows()
+
+
+@needs_faults
+def test_store_that_cannot_be_looked_at(world: World) -> None:
+    """It isn't taken for one that is away, and the cause is told with its name."""
+    world.repository.delete(b"refs/heads/side")
+
+    def judge(call: Call) -> int:
+        is_look = call.program().startswith("python3 gx-mirror")
+        return errno.EIO if is_look and call.place() == str(world.store.path) else 0
+
+    words = [*MIRROR, world.repository.path, world.store.path]
+    how = {"env": world.environment, "cwd": world.folder}
+    done = run_watched(words, ["newfstatat", "stat"], judge, b"", 60, **how)
+    told = f"gx-mirror: [Errno 5] Input/output error: '{world.store.path}'\n"
+    assert done.status == FAILED and done.err == told.encode(), done
 
 
 def test_long_name(world: World) -> None:

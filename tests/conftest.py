@@ -44,6 +44,10 @@ def pytest_addoption(parser: pytest.Parser) -> None:
     group.addoption(
         "--long", action="store_true", help="run what is marked long, and longer histories"
     )
+    group.addoption(
+        "--ledger", metavar="FILE", type=Path, help="note there what calls failed, and go on behind"
+    )
+    group.addoption("--fault", metavar="TEXT", help="have that call fail alone")
 
 
 def pytest_configure(config: pytest.Config) -> None:

@@ -1,35 +1,35 @@
-"""System calls that fail under a push, a mirror and the Python module, one kind and one time after
-the other: the store is as before or as after, and the status tells.
+"""System calls that fail under a push, a mirror and the Python module, one of one program each
+time: the store is as before or as after, and the status tells.
+
+With --long there are 2,000 of each, and `--ledger FILE` notes them there, so that another run goes
+on behind them. `--fault "PROGRAM: CALL NUMBER ERROR"`, as the ledger has it, tries that one alone.
 """
 
 from __future__ import annotations
 
+import errno
 import os
 import random
-import re
 import shutil
-import subprocess
 import sys
+import threading
 from collections import Counter
-from collections.abc import Callable
+from collections.abc import Callable, Iterator
+from concurrent.futures import ThreadPoolExecutor
 from dataclasses import dataclass, field
 from pathlib import Path
-from types import ModuleType
+from subprocess import TimeoutExpired
+from typing import NamedTuple
 
 import pytest
 
-from libraries import built, ginlarch, shared  # noqa: F401
-from programs import SCRIPTS, TOP, Done, Program, Word, counted
-from store_files import needs_strace
+from failing import NUMBERS, Call, needs_faults, program_of, run_watched
+from libraries import built, shared  # noqa: F401
+from programs import SCRIPTS, TOP, Done, Program, Word
 
-CALLS = """
-access chdir chmod clone close dup dup2 execve fchmod fchown fcntl flock fstat fsync ftruncate
-getcwd getdents64 link lseek mkdir mkdirat mmap newfstatat openat pipe2 poll pread64 read readlink
-rename renameat2 rmdir statx symlink unlink unlinkat utimensat vfork wait4 write
-""".split()
-Call = tuple[str, int]
 ERRORS = ("EIO", "ENOSPC", "EACCES", "EINTR", "ENOMEM")
-TIME = 600  # seconds that a run may take, on a busy machine
+OURS = program_of(os.getpid())  # what a process is before it runs another program
+TIME = 120  # seconds that a run may take, on a busy machine
 CHANGE = """
 import sys
 from ginlarch import Repository
@@ -56,123 +56,217 @@ SECOND = (
 )
 
 
+class Place(NamedTuple):
+    """A call of a run: the Nth of its kind that programs of this command line make."""
+
+    program: str
+    name: str
+    number: int
+
+
+class Fault(NamedTuple):
+    """What one of them fails with."""
+
+    place: Place
+    error: str
+
+    def __str__(self) -> str:
+        return f"{self.place.program}: {self.place.name} {self.place.number} {self.error}"
+
+    @classmethod
+    def read(cls, text: str) -> Fault:
+        program, _, rest = text.rpartition(": ")
+        name, number, error = rest.split()
+        return cls(Place(program, name, int(number)), error)
+
+
+class Calls:
+    """Counts the calls of a run, and has one of them fail."""
+
+    def __init__(self, fault: Fault | None = None):
+        self.fault, self.has_failed = fault, False
+        self.made: Counter[tuple[str, str]] = Counter()
+        # those on the store and beside it, and the others
+        self.near: list[Place] = []
+        self.others: list[Place] = []
+
+    def judge(self, call: Call) -> int:
+        kind = call.program(), call.name
+        if kind[0] == OURS:
+            return 0
+        self.made[kind] += 1
+        place = Place(*kind, self.made[kind])
+        if not self.fault:
+            (self.near if "s.gx" in call.place() else self.others).append(place)
+        elif self.fault.place == place:
+            self.has_failed = True
+            return getattr(errno, self.fault.error)
+        return 0
+
+
 @dataclass
 class Door:
     """A command that changes the store, and what it may leave."""
 
+    name: str
     folder: Path
     words: list[Word]
     environment: dict[str, str]
     stdin: bytes = b""
     # whether what stands beside the store tells what went out of it
     is_noted: Callable[[Path], bool] = lambda store: True
+    # how the command lines begin of programs that may wait for ever, as git's own do where a call
+    # fails whose result they leave out
+    may_hang: tuple[str, ...] = ()
     before: bytes = b""
     after: bytes = b""
-    # the kinds of calls, with how many such a process has made by then: all, and those on the store
-    calls: list[Call] = field(default_factory=list)
-    near: list[Call] = field(default_factory=list)
+    calls: Calls = field(default_factory=Calls)
 
-    @property
-    def store(self) -> Path:
-        return self.folder / "world/s.gx"
+    def fresh(self, world: Path) -> None:
+        shutil.rmtree(world, ignore_errors=True)
+        shutil.copytree(self.folder / "template", world, symlinks=True)
+        (world / "tmp").mkdir()
 
-    @property
-    def next(self) -> Path:
-        return self.folder / "world/s.gx.new"
-
-    def fresh(self) -> None:
-        shutil.rmtree(self.folder / "world", ignore_errors=True)
-        shutil.copytree(self.folder / "template", self.folder / "world", symlinks=True)
-        (self.folder / "world/tmp").mkdir()
-
-    def run(self, *traced: str) -> Done:
-        """A run under strace, with its log."""
-        counted["programs run"] += 1
-        strace = ["strace", "-f", "--seccomp-bpf", "-qq", "-o", self.folder / "log", *traced]
-        how = {"env": self.environment, "cwd": self.folder / "world", "start_new_session": True}
-        pipe = subprocess.PIPE
-        child = subprocess.Popen(
-            [*strace, *self.words], stdin=pipe, stdout=pipe, stderr=pipe, **how
-        )
-        try:
-            out, err = child.communicate(self.stdin, timeout=TIME)
-        finally:
-            if child.poll() is None:
-                os.killpg(child.pid, 9)
-        return Done(child.returncode, out, err)
+    def run(self, world: Path, calls: Calls, *names: str) -> Done:
+        environment = {**self.environment, "TMPDIR": str(world / "tmp")}
+        how = {"cwd": world, "env": environment}
+        return run_watched(self.words, names, calls.judge, self.stdin, TIME, **how)
 
     def learn(self) -> None:
         """What a run leaves of which no call fails, and what calls there are."""
-        self.fresh()
-        self.before = self.store.read_bytes()
-        done = self.run("-y", "-e", f"trace={','.join(f'?{call}' for call in CALLS)}")
+        world = self.folder / "world"
+        self.fresh(world)
+        store = world / "s.gx"
+        self.before = store.read_bytes()
+        done = self.run(world, self.calls, *NUMBERS)
         assert done.status == 0, done
-        self.after = self.store.read_bytes()
+        self.after = store.read_bytes()
         assert self.before != self.after
-        made: Counter[tuple[str, str]] = Counter()
-        calls, near = set(), set()
-        for process, call, words in re.findall(r"(?m)^([0-9]+) +([a-z0-9_]+)\((.*)", self.log()):
-            made[process, call] += 1
-            calls.add((call, made[process, call]))
-            if self.store.name in words:
-                near.add((call, made[process, call]))
-        self.calls, self.near = sorted(calls), sorted(near)
+        told = f"{len(self.calls.near)} calls near the store, {len(self.calls.others)} others"
+        print(f"{self.name}: {told}", flush=True)
 
-    def log(self) -> str:
-        return (self.folder / "log").read_text(errors="replace")
+    def faults(self, randoms: random.Random) -> Iterator[Fault]:
+        """All of them, none twice: by turns one on the store and another. Of the others, programs
+        with few calls come as often as those with many."""
+        near = [Fault(place, error) for place in self.calls.near for error in ERRORS]
+        randoms.shuffle(near)
+        by_kind: dict[str, dict[str, list[Fault]]] = {}
+        for place in self.calls.others:
+            kinds = by_kind.setdefault(place.program, {})
+            kinds.setdefault(place.name, []).extend(Fault(place, error) for error in ERRORS)
+        while near or by_kind:
+            if near:
+                yield near.pop()
+            if by_kind:
+                program = randoms.choice(list(by_kind))
+                name = randoms.choice(list(by_kind[program]))
+                faults = by_kind[program][name]
+                yield faults.pop(randoms.randrange(len(faults)))
+                if not faults:
+                    del by_kind[program][name]
+                if not by_kind[program]:
+                    del by_kind[program]
 
-    def fault(self, randoms: random.Random) -> str:
-        """A call that is to fail: as many on the store as others."""
-        call, time = randoms.choice(randoms.choice((self.near, self.calls)))
-        return f"inject={call}:error={randoms.choice(ERRORS)}:when={time}"
+    def verdict(self, world: Path, fault: Fault) -> str | None:
+        """What came of a run with a fault; None where the call wasn't made."""
+        self.fresh(world)
+        calls, store = Calls(fault), world / "s.gx"
+        try:
+            done = self.run(world, calls, fault.place.name)
+        except TimeoutExpired:
+            is_whole = store.read_bytes() in (self.before, self.after)
+            may_hang = fault.place.program.startswith(self.may_hang)
+            return "git hangs" if may_hang and is_whole else "bad: hangs"
+        if not calls.has_failed:
+            return None
+        verdict = self.verdict_of(world, store, done)
+        if verdict not in ("before", "after"):
+            said = (done.out + done.err).decode(errors="replace").strip()[-300:]
+            print(f"{self.name}: {fault}: {verdict}, status {done.status}: {said!r}", flush=True)
+        return verdict
 
-    def verdict(self, done: Done) -> str:
-        """What came of a run."""
-        text = self.store.read_bytes() if self.store.exists() else b""
+    def verdict_of(self, world: Path, store: Path, done: Done) -> str:
+        text = store.read_bytes() if store.exists() else b""
         if text not in (self.before, self.after):
             return "bad: neither before nor after"
         if done.status == 0 and text == self.before:
             return "bad: not done, and told as done"
-        if self.next.exists():
+        if store.with_name("s.gx.new").exists():
             # gx was killed, as where Python can't read what it says: the next run removes it
-            self.run("-e", "trace=none")
-            text, left = self.store.read_bytes(), self.next.exists()
+            self.run(world, Calls(), "execve")
+            text, left = store.read_bytes(), store.with_name("s.gx.new").exists()
             return "bad: not made good" if left or text != self.after else "made good"
-        if text == self.after and not self.is_noted(self.store):
+        if text == self.after and not self.is_noted(store):
             return "bad: what went isn't noted"
         if done.status and text == self.after:
             return "after, and told as failed"
         return "after" if text == self.after else "before"
 
 
-def tried(door: Door, count: int, randoms: random.Random) -> Counter[str]:
-    """Runs with so many faults, and how many came to what."""
-    door.learn()
-    verdicts: Counter[str] = Counter()
-    while sum(verdicts.values()) < count:
-        door.fresh()
-        fault = door.fault(randoms)
-        try:
-            done = door.run("-e", f"trace={fault[7:].partition(':')[0]}", "-e", fault)
-        except subprocess.TimeoutExpired:
-            verdicts["bad: hangs"] += 1
-            print(fault, "hangs")
-            continue
-        if "(INJECTED)" not in door.log():
-            continue
-        verdict = door.verdict(done)
-        verdicts[verdict] += 1
-        if verdict not in ("before", "after"):
-            said = (done.out + done.err).decode(errors="replace").strip()[-300:]
-            print(f"{fault}: {verdict}, status {done.status}: {said!r}", flush=True)
-        if sum(verdicts.values()) % 20 == 0:
-            print(f"{len(door.calls)} calls, {len(door.near)} near: {dict(verdicts)}", flush=True)
-    return verdicts
+class Ledger:
+    """The faults that were tried of a door, and what came of them, in a file if there is one."""
+
+    def __init__(self, path: Path | None, door: str):
+        self.path, self.door, self.lock = path, door, threading.Lock()
+        text = path.read_text() if path and path.exists() else ""
+        rows = [line.split("\t") for line in text.splitlines()]
+        self.verdicts = {fault: verdict for name, fault, verdict in rows if name == door}
+
+    def note(self, fault: Fault, verdict: str) -> None:
+        with self.lock:
+            self.verdicts[str(fault)] = verdict
+            if self.path:
+                with open(self.path, "a") as file:
+                    file.write(f"{self.door}\t{fault}\t{verdict}\n")
+            if len(self.verdicts) % 100 == 0:
+                print(f"{self.door}: {dict(self.counts())}", flush=True)
+
+    def counts(self) -> Counter[str]:
+        return Counter(self.verdicts.values())
+
+
+class Trial:
+    """How many faults are to be tried, and where that is noted."""
+
+    def __init__(self, config: pytest.Config, randoms: random.Random):
+        self.is_long = config.getoption("long")
+        self.count = 2000 if self.is_long else 12
+        self.ledger: Path | None = config.getoption("ledger")
+        self.fault: str | None = config.getoption("fault")
+        self.randoms = randoms
+
+    def of(self, door: Door, count: int | None = None) -> Counter[str]:
+        """What came of so many faults, several at a time."""
+        door.learn()
+        if self.fault:
+            verdict = door.verdict(door.folder / "world", Fault.read(self.fault))
+            return Counter([verdict or "bad: no such call"])
+        ledger, wanted = Ledger(self.ledger, door.name), count or self.count
+        known = set(ledger.verdicts)
+        faults = (one for one in door.faults(self.randoms) if str(one) not in known)
+        lock = threading.Lock()
+
+        def work(number: int) -> None:
+            while True:
+                with lock:
+                    fault = next(faults, None) if len(ledger.verdicts) < wanted else None
+                if fault is None:
+                    return
+                verdict = door.verdict(door.folder / f"world{number}", fault)
+                if verdict:
+                    ledger.note(fault, verdict)
+
+        workers = len(os.sched_getaffinity(0)) if self.is_long else 1
+        with ThreadPoolExecutor(workers) as pool:
+            for _ in pool.map(work, range(workers)):
+                pass
+        print(f"{door.name}: {dict(ledger.counts())}")
+        return ledger.counts()
 
 
 @pytest.fixture
-def count(request: pytest.FixtureRequest) -> int:
-    return 2000 if request.config.getoption("long") else 12
+def trial(request: pytest.FixtureRequest, randoms: random.Random) -> Trial:
+    return Trial(request.config, randoms)
 
 
 @pytest.fixture
@@ -180,7 +274,7 @@ def template(tmp_path: Path, gx: Program, git: Callable[..., bytes]) -> Path:
     """A store of a repository that has gone on: a branch further, one away, a tag new."""
     folder = tmp_path / "template"
     folder.mkdir()
-    git("init", "-q", "-b", "main", folder / "project")
+    git("init", "-q", "--template=", "-b", "main", folder / "project")
     git("fast-import", "--quiet", cwd=folder / "project", stdin=FIRST)
     gx.prints("init", folder / "s.gx")
     gx.prints("import", folder / "s.gx", stdin=FIRST)
@@ -190,13 +284,9 @@ def template(tmp_path: Path, gx: Program, git: Callable[..., bytes]) -> Path:
 
 
 @pytest.fixture
-def through(template: Path, gx: Program, shared: Path) -> Callable[..., Door]:
-    paths = {"PYTHONPATH": str(TOP / "python"), "GINLARCH_LIBRARY": str(shared)}
-    top = template.parent
-    environment = {**gx.environment, **paths, "TMPDIR": str(top / "world/tmp")}
-
-    def made(*words: Word, **more) -> Door:
-        return Door(top, list(words), environment, **more)
+def through(template: Path, gx: Program) -> Callable[..., Door]:
+    def made(name: str, *words: Word, **more) -> Door:
+        return Door(name, template.parent, list(words), **{"environment": gx.environment, **more})
 
     return made
 
@@ -205,10 +295,12 @@ def passed(verdicts: Counter[str]) -> bool:
     return not any(verdict.startswith("bad") for verdict in verdicts)
 
 
-@needs_strace
-def test_push(through: Callable[..., Door], count: int, randoms: random.Random) -> None:
+@needs_faults
+def test_push(through: Callable[..., Door], trial: Trial) -> None:
     words = ["git", "-C", "project", "push", "-q", "--atomic", "gx::../s.gx"]
-    assert passed(tried(through(*words, "main", "v1", ":side"), count, randoms))
+    of_git = ("git -C project push", "git remote-gx")
+    door = through("push", *words, "main", "v1", ":side", may_hang=of_git)
+    assert passed(trial.of(door))
 
 
 def notes_side(store: Path) -> bool:
@@ -216,21 +308,18 @@ def notes_side(store: Path) -> bool:
     return noted.exists() and b" refs/heads/side\n" in noted.read_bytes()
 
 
-@needs_strace
-def test_mirror(through: Callable[..., Door], count: int, randoms: random.Random) -> None:
+@needs_faults
+def test_mirror(through: Callable[..., Door], trial: Trial) -> None:
     words = [sys.executable, SCRIPTS / "gx-mirror", "project", "s.gx"]
-    door = through(*words, is_noted=notes_side)
-    assert passed(tried(door, count, randoms))
+    assert passed(trial.of(through("mirror", *words, is_noted=notes_side)))
 
 
-@needs_strace
-@pytest.mark.parametrize("code", [CHANGE, SAVE], ids=["change", "save"])
+@needs_faults
+@pytest.mark.parametrize("way, code", [("change", CHANGE), ("save", SAVE)])
 def test_python(
-    ginlarch: ModuleType,
-    through: Callable[..., Door],
-    code: str,
-    count: int,
-    randoms: random.Random,
+    gx: Program, shared: Path, through: Callable[..., Door], trial: Trial, way: str, code: str
 ) -> None:
-    door = through(sys.executable, "-c", code, "s.gx", stdin=SECOND)
-    assert passed(tried(door, count // 2, randoms))
+    paths = {"PYTHONPATH": str(TOP / "python"), "GINLARCH_LIBRARY": str(shared)}
+    more = {"environment": {**gx.environment, **paths}, "stdin": SECOND}
+    door = through(way, sys.executable, "-c", code, "s.gx", **more)
+    assert passed(trial.of(door, trial.count // 2))

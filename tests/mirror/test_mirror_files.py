@@ -2,13 +2,15 @@
 
 from __future__ import annotations
 
+import errno
 import os
 import shutil
 import struct
 from pathlib import Path
 
 import pytest
-from mirror_world import FAILED, Counted, Repository, Store, World
+from failing import Call, needs_faults, run_watched
+from mirror_world import FAILED, MIRROR, Counted, Repository, Store, World
 from programs import SCRIPTS, Done, Program, run_program
 from store_files import needs_strace, needs_users
 
@@ -145,50 +147,89 @@ def test_store_by_a_link(world: World) -> None:
     assert target.with_name("s.gx.dropped").exists()
 
 
+class Group:
+    """Users whose folder it is, with a store that a repository is mirrored into."""
+
+    def __init__(self, tmp_path: Path, gx_of_all: Path, environment: dict[str, str]):
+        self.folder, self.scripts = tmp_path / "shared", tmp_path / "scripts"
+        for made in (self.folder, self.scripts):
+            made.mkdir()
+        for name in ("gx-mirror", "git-remote-gx"):
+            shutil.copy(SCRIPTS / name, self.scripts / name)
+        more = {"GX": str(gx_of_all), "HOME": str(tmp_path), "GIT_CONFIG_GLOBAL": "/dev/null"}
+        safe = {"COUNT": "1", "KEY_0": "safe.directory", "VALUE_0": "*"}
+        more |= {f"GIT_CONFIG_{name}": value for name, value in safe.items()}
+        self.environment = {**environment, **more, "TMPDIR": "/tmp"}
+        self.repository = Repository(tmp_path / "project", self.environment)
+        os.chown(self.folder, 1001, 2001)
+        self.folder.chmod(0o2775)
+        self.store = Store(self.folder / "s.gx", Program(gx_of_all, self.environment))
+        self.noted = self.store.beside(".dropped")
+
+    def mirror(self, user: int, group: int = 2001) -> Done:
+        who = {"user": user, "group": user, "extra_groups": [group], "umask": 0o002}
+        words = ["python3", self.scripts / "gx-mirror", self.repository.path, self.store.path]
+        return run_program(words, env=self.environment, **who)
+
+
+@pytest.fixture
+def shared_by(tmp_path: Path, gx_of_all: Path, environment: dict[str, str]) -> Group:
+    return Group(tmp_path, gx_of_all, environment)
+
+
 @needs_users
 @pytest.mark.parametrize("mode", [0o664, 0o640], ids=oct)
-def test_store_of_a_group(
-    tmp_path: Path, gx_of_all: Path, environment: dict[str, str], mode: int
-) -> None:
+def test_store_of_a_group(shared_by: Group, mode: int) -> None:
     """Where the members of a group may put another store in the place of one, each of them may run
     the mirror, and nobody else may read or lock what it notes."""
-    folder, scripts = tmp_path / "shared", tmp_path / "scripts"
-    for made in (folder, scripts):
-        made.mkdir()
-    for name in ("gx-mirror", "git-remote-gx"):
-        shutil.copy(SCRIPTS / name, scripts / name)
-    more = {"GX": str(gx_of_all), "HOME": str(tmp_path), "GIT_CONFIG_GLOBAL": "/dev/null"}
-    safe = {"COUNT": "1", "KEY_0": "safe.directory", "VALUE_0": "*"}
-    more |= {f"GIT_CONFIG_{name}": value for name, value in safe.items()}
-    env = {**environment, **more}
-    repository = Repository(tmp_path / "project", env)
-    os.chown(folder, 1001, 2001)
-    folder.chmod(0o2775)
-    store = Store(folder / "s.gx", Program(gx_of_all, env))
-
-    def mirror(user: int, group: int = 2001) -> Done:
-        who = {"user": user, "group": user, "extra_groups": [group], "umask": 0o002}
-        words = ["python3", scripts / "gx-mirror", repository.path, store.path]
-        return run_program(words, env={**env, "TMPDIR": "/tmp"}, **who)
-
+    repository, store = shared_by.repository, shared_by.store
     for number, user in enumerate([1001, 1002, 1003, 1002, 1001]):
         repository.commit("main")
         repository.commit(f"new{number}")
         if number:
             repository.delete(b"refs/heads/new%d" % (number - 1))
-        done = mirror(user)
+        done = shared_by.mirror(user)
         assert done.status == 0, done
         assert store.refs() == repository.refs()
         assert len(store.notes()) == number
         store.path.chmod(mode)
-        rights = {path.name: mode_of(path) for path in folder.iterdir()}
+        rights = {path.name: mode_of(path) for path in shared_by.folder.iterdir()}
         assert rights.get("s.gx.dropped", 0o660) == 0o660
-    noted = store.beside(".dropped")
-    assert noted.stat().st_gid == 2001
-    before = noted.read_bytes()
+    assert shared_by.noted.stat().st_gid == 2001
+    before = shared_by.noted.read_bytes()
     repository.delete(b"refs/heads/new4")
-    assert mirror(1004, 2002).status == FAILED
-    assert noted.read_bytes() == before
+    assert shared_by.mirror(1004, 2002).status == FAILED
+    assert shared_by.noted.read_bytes() == before
+
+
+@needs_users
+def test_notes_in_a_sticky_folder(shared_by: Group) -> None:
+    """Where only its owner may put another store in its place, nobody else gets at the notes."""
+    shared_by.folder.chmod(0o3775)
+    for name in ("main", "gone"):
+        shared_by.repository.commit(name)
+    assert shared_by.mirror(1002).status == 0
+    shared_by.repository.delete(b"refs/heads/gone")
+    assert shared_by.mirror(1002).status == 0
+    assert mode_of(shared_by.noted) == 0o600 and len(shared_by.store.notes()) == 1
+
+
+@needs_users
+def test_notes_that_are_another_file(shared_by: Group) -> None:
+    """What stands in the notes' place under a second name isn't opened to the group."""
+    for name in ("main", "gone"):
+        shared_by.repository.commit(name)
+    assert shared_by.mirror(1001).status == 0
+    shared_by.repository.delete(b"refs/heads/gone")
+    secret = shared_by.folder.parent / "secret"
+    secret.write_bytes(b"secret\n")
+    secret.chmod(0o600)
+    os.chown(secret, 1001, 1001)
+    shared_by.noted.hardlink_to(secret)
+    done = shared_by.mirror(1001)
+    assert done.status == FAILED and b"line 1 isn't" in done.err, done
+    found = secret.stat()
+    assert (mode_of(secret), found.st_gid, found.st_nlink) == (0o600, 1001, 2)
 
 
 @needs_strace
@@ -204,6 +245,22 @@ def test_full_disk(world: World, ending: str) -> None:
     assert done.status == FAILED and told.encode() in done.err, done
     assert not list(world.folder.glob("s.gx*.new"))
     world.follows()
+
+
+@needs_faults
+def test_store_that_cannot_be_looked_at(world: World) -> None:
+    """It isn't taken for one that is away, and the cause is told with its name."""
+    world.repository.delete(b"refs/heads/side")
+
+    def judge(call: Call) -> int:
+        is_look = call.program().startswith("python3 gx-mirror")
+        return errno.EIO if is_look and call.place() == str(world.store.path) else 0
+
+    words = [*MIRROR, world.repository.path, world.store.path]
+    how = {"env": world.environment, "cwd": world.folder}
+    done = run_watched(words, ["newfstatat", "stat"], judge, b"", 60, **how)
+    told = f"gx-mirror: [Errno 5] Input/output error: '{world.store.path}'\n"
+    assert done.status == FAILED and done.err == told.encode(), done
 
 
 def test_long_name(world: World) -> None:

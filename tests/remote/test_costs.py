@@ -126,3 +126,12 @@ def test_tags_are_read_at_once(world: World) -> None:
         world.git("push", "-q", "origin", *tags, more={"GIT_TRACE": str(trace)})
         counts.append(trace.read_text().count("trace: built-in: "))
     assert 0 < counts[1] <= counts[0], counts
+
+
+def test_modules_that_are_loaded(world: World) -> None:
+    """A push and a fetch don't load what only a run with a turn needs."""
+    world.started()
+    world.commit({"more": "1\n"})
+    for words in (["push", "origin", "main"], ["fetch", "-q", "origin"]):
+        done = world.run(*words, more={"PYTHONPROFILEIMPORTTIME": "1"})
+        assert done.status == 0 and b"| tempfile\n" in done.err and b"ctypes" not in done.err

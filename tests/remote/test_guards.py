@@ -11,7 +11,7 @@ import time
 from pathlib import Path
 
 import pytest
-from programs import SCRIPTS, processes
+from programs import SCRIPTS, processes, run_program
 from remote_world import World
 
 LEASE = "--force-with-lease"
@@ -214,3 +214,19 @@ def test_turn_of_a_killed_helper(world: World) -> None:
     stream = b"commit refs/heads/new\ncommitter A <a@x> 1 +0000\ndata 0\n\n"
     world.store("import", "--wait=20", stdin=stream)
     assert not processes(is_of_turn)
+
+
+def test_turn_of_another_system(world: World) -> None:
+    """A run has its turn also where a system can't end it with its parent, as only Linux can."""
+    world.started()
+    other = "import sys\nsys.platform, sys.modules['ctypes'] = 'other', None\n"
+    (world.folder / "sitecustomize.py").write_text(other)
+    words = [SCRIPTS / "git-remote-gx", "origin", world.remote]
+    elsewhere = {"GIT_DIR": ".git", "PYTHONPATH": str(world.folder)}
+    how = {"cwd": world.folder / "work", "env": {**world.environment, **elsewhere}}
+    told = world.named()
+    asked = b"option gx-turn true\nlist for-push\npush %s:refs/heads/new\n\n"
+    asked %= told["refs/heads/main"].encode()
+    done = run_program(words, asked, **how)
+    assert done.status == 0 and done.out.endswith(b"\nok refs/heads/new\n\n"), done
+    assert world.named() == {**told, "refs/heads/new": told["refs/heads/main"]}

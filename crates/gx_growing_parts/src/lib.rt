@@ -10,5 +10,5 @@ mod runs;
 pub use digests::{digest_of, read_digest};
 pub use gx_lines::FileFault;
 pub use head::{HEAD, Slot, read_head};
-pub use pages::{read_table, standing_rows};
+pub use pages::{first_page, read_table, standing_rows};
 pub use runs::{Run, read_run};

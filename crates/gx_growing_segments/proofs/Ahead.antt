@@ -1,16 +1,15 @@
 -- Segments that are read one by one.
-use Rattle.std.proofs.Common.{◌≡◌, ℕ, zero, suc, ◌<◌, ◌≤◌, Bool, true, false, cond, refl, sym, ap, ◌∙◌, List, [], length, Ok, Err, arith}
+use Rattle.std.proofs.Common.{◌≡◌, ℕ, zero, suc, ◌<◌, false, cond, refl, ap, ◌∙◌, List, [], length, Ok, arith}
 use Rattle.std.specs.Prelude.{nat_eq}
 use Rattle.gx_model.specs.declared.objects.Kind.{Kind}
 use Rattle.gx_model.specs.declared.store_faults.FileFault.{FileFault}
 use Rattle.gx_model.specs.Faults.{◌>>=◌}
 use Rattle.gx_model.specs.Histories.{Record}
-use Rattle.gx_model.specs.Stores.StoreReading.{Stored}
 use Rattle.gx_model.specs.Texts.{Bytes}
 use Rattle.gx_lines.specs.Reads.{IsFaultOf}
 use Rattle.gx_growing_segments.proofs.Steps.{moved}
 use Rattle.gx_growing.specs.GrowingReading.{Front, next_segment, next_segments, no_front}
-use Rattle.gx_growing_segments.specs.Placing.{rows_of}
+use Rattle.gx_growing_parts.specs.Placing.{rows_of}
 use Rattle.gx_growing_segments.specs.Seen.{seen_so_far}
 
 module _ (name : Kind → Bytes → Bytes) (ends fuel : ℕ) (text : Bytes) where

@@ -1,9 +1,8 @@
 -- What is left of a text is no longer than the text.
 use Rattle.std.proofs.Common.{◌≡◌, ℕ, ◌+◌, ◌<◌, ◌≤◌, true, [], ◌∷◌, ◌++◌, length, Ok, ap, arith, refl, subst, sym}
-use Rattle.std.specs.Prelude.{codes, nat_eq}
+use Rattle.std.specs.Prelude.{nat_eq}
 use Rattle.std.proofs.lemmas.Bool.Decides.{nat_tests}
 use Rattle.std.proofs.lemmas.List.{length-append}
-use Rattle.gx_model.specs.Objects.{line}
 use Rattle.gx_model.specs.Stores.StoreReading.{stored_body, stored_count}
 use Rattle.gx_model.specs.Texts.{Bytes}
 use Rattle.gx_model.specs.Texts.Numbers.{number_text}

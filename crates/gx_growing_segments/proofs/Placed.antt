@@ -1,5 +1,5 @@
 -- Records that are read one by one, with their places.
-use Rattle.std.proofs.Common.{◌≡◌, ℕ, suc, ◌+◌, ◌-◌, ◌<◌, ◌≤◌, refl, sym, ap, subst, ◌∙◌, List, [], ◌∷◌, ◌++◌, length, drop, Ok, arith, append_assoc, append-nil}
+use Rattle.std.proofs.Common.{◌≡◌, ℕ, ◌+◌, ◌-◌, ◌≤◌, refl, sym, ap, ◌∙◌, List, [], ◌∷◌, ◌++◌, length, drop, Ok, arith, append_assoc, append-nil}
 use Rattle.std.specs.List.{flat_map}
 use Rattle.std.proofs.lemmas.Grind.{flat_map-append}
 use Rattle.std.proofs.Math.Seq.{drop-append_seam}
@@ -12,7 +12,7 @@ use Rattle.gx_model.specs.Stores.StoreReading.{next_record}
 use Rattle.gx_model.specs.Texts.{Bytes}
 use Rattle.gx_model.proofs.Stores.StoredRecords.{record_of_text}
 use Rattle.gx_growing.specs.GrowingText.{placed}
-use Rattle.gx_growing_segments.specs.Placing.{rows_of}
+use Rattle.gx_growing_parts.specs.Placing.{rows_of}
 
 -- A record more has its place behind those of the others.
 row_more : (rs : List Record) (ps : List ℕ) (r : Record) (p : ℕ) → length ps ≡ length rs → rows_of (rs ++ r ∷ []) (ps ++ p ∷ []) ≡ rows_of rs ps ++ (r.name, p) ∷ []

@@ -1,7 +1,6 @@
 -- What was read of a growing text, without where it lies in memory. Source: this project's own format.
 use Rattle.std.specs.Borrow.{Bor}
-use Rattle.std.specs.Prelude.{◌≡◌, ℕ, List, [], None, Ok, Err, Result, map}
-use Rattle.gx_model.specs.declared.store_faults.FileFault.{FileFault}
+use Rattle.std.specs.Prelude.{◌≡◌, ℕ, List, [], None, Ok, Err, map}
 use Rattle.gx_model.specs.Histories.{Record}
 use Rattle.gx_model.specs.Stores.StoreReading.{Stored, next_refs}
 use Rattle.gx_model.specs.Texts.{Bytes}
@@ -11,7 +10,7 @@ use Rattle.std.specs.declared.vec.Vec.{Vec}
 use Rattle.gx_growing_parts.specs.declared.runs.Run.{Run as GivenRun}
 use Rattle.gx_growing_parts.specs.Shown.{shown_run}
 use Rattle.gx_growing_segments.specs.declared.segments.Tail.{Tail}
-use Rattle.gx_growing_segments.specs.Placing.{rows_of}
+use Rattle.gx_growing_parts.specs.Placing.{rows_of}
 
 -- the refs that were read, where these were
 abbrev pub refs_told : Stored (List (Bytes × Bytes) × Bytes) → List (Bytes × Bytes)

@@ -8,7 +8,7 @@ ghost use Rattle.gx_file.specs.TextEnds.{EndsWith};
 ghost use Rattle.gx_lines.specs.Reads.{Reads};
 ghost use Rattle.gx_growing.specs.GrowingText.{placed};
 ghost use Rattle.gx_growing.specs.GrowingReading.{after_end, next_runs, next_segment, next_segments, next_tail, no_front};
-ghost use Rattle.gx_growing_segments.specs.Placing.{rows_of};
+ghost use Rattle.gx_growing_parts.specs.Placing.{rows_of};
 ghost use Rattle.gx_growing_segments.specs.Seen.{HasRefs, seen_so_far, seen_with, shown_next_runs, shown_next_segment, shown_next_tail};
 
 use crate::refs::check_refs;
@@ -79,7 +79,7 @@ fn read_segment<'a, N: Namer, A: Allocator + Copy>(
     ensures aligned { OnOk result (length places.new.items ≡ length repo.new.1.records) }
     ensures segment { Reads (shown_next_segment repo.new.1.records places.new.items) result
         (next_segment (N.name_of repo.old.0) (length whole.now)
-            (seen_so_far repo.old.1.records places.old.items) text.now) }
+        (seen_so_far repo.old.1.records places.old.items) text.now) }
     ensures told { IfOk result (λ parts. HasRefs repo.new.1.records parts.0) }
     ensures within { IfOk result (λ parts. length parts.0.text.now ≤ length whole.now) }
     ensures left { IfOk result (λ parts. EndsWith whole.now parts.1.now) }

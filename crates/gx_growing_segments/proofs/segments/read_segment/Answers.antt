@@ -1,7 +1,6 @@
-use Rattle.std.proofs.Common.{◌≡◌, ◌<◌, ◌≤◌, ap, arith, codes, length}
+use Rattle.std.proofs.Common.{ap, arith, codes, length}
 use Rattle.std.proofs.lemmas.Result.{IfOk-weaker}
 use Rattle.gx_growing.specs.GrowingText.{table_length}
-use Rattle.gx_file.specs.TextEnds.{EndsWith}
 use Rattle.gx_file.proofs.LeftTexts.{left_after, left_body, left_count}
 use Rattle.gx_growing_segments.proofs.Ends.{body_less, count_less, ends_long, ends_more}
 use Rattle.gx_growing_segments.proofs.segments.read_segment.Goals as goal

@@ -1,4 +1,4 @@
-use Rattle.std.proofs.Common.{◌≡◌, [], ap, length, refl, subst, sym, ◌∙◌}
+use Rattle.std.proofs.Common.{[], ap, length, refl, subst, sym, ◌∙◌}
 use Rattle.std.proofs.lemmas.Result.{err_from_is_err_and}
 use Rattle.gx_growing_segments.specs.Seen.{seen_with}
 use Rattle.gx_growing_segments.proofs.Ahead.{SegmentsAhead, last_segment, no_segments, one_segment, segment_refused}

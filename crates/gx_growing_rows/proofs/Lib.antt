@@ -1,0 +1,4 @@
+pub mod GatheredRows
+pub mod LaidOut
+pub mod RisingRows
+pub mod SortedRows

@@ -1,0 +1,133 @@
+//! The table of rows that a writer lays out for all objects of a store. Source: this project's own format.
+ghost use Rattle.std.specs.Prelude.{◌≡◌, ◌+◌, ◌≤◌, length, IfOk, IfSome};
+ghost use Rattle.std.specs.List.{flat_map};
+ghost use Rattle.sha2.specs.Sha256.{sha256};
+ghost use Rattle.gx_model.specs.Objects.{line};
+ghost use Rattle.gx_model.specs.Texts.Numbers.{number_text};
+ghost use Rattle.gx_model.specs.declared.store_versions.Version.TheVariants.{Two};
+ghost use Rattle.gx_model.specs.Stores.StoreText.{stored_record};
+ghost use Rattle.gx_growing.specs.GrowingText.{first_rows, page_digests, placed, row_text, rows_place};
+
+use crate::checking::Row;
+use gx_growing_parts::{HEAD, digest_of, first_page};
+use gx_object::{Kind, Name, Namer};
+use gx_store::Store;
+use itoa::Buffer;
+use std::alloc::{AllocError, Allocator};
+
+/// Where rows begin, their bytes, and the digests of their pages.
+#[derive(Drop)]
+pub struct Table<A: Allocator> {
+    pub place: u64,
+    pub rows: Vec<u8, A>,
+    pub digests: Vec<u8, A>,
+}
+
+/// The rows of all objects of a store, where these are the records of a growing text's first segment.
+///
+/// `AllocError`: a growth was refused, or the segment ends behind 2^64 bytes. Cost: the rows are sorted and hashed. Memory: two
+/// rows for each object. Source: this project's own format.
+pub fn first_table<N: Namer, A: Allocator + Copy>(
+    alloc: A,
+    store: &Store<N, A>,
+) -> Result<Table<A>, AllocError>
+    ensures place { IfOk result (λ table. table.place ≡ rows_place store.now.1) }
+    ensures rows { IfOk result (λ table. table.rows.items ≡ first_rows store.now.1) }
+    ensures digests { IfOk result (λ table. table.digests.items ≡ page_digests sha256 table.rows.items) }
+{
+    let count = store.len();
+    let (mut rows, behind) = placed(alloc, store, HEAD as u64 + line_length(b"objects", count))?;
+    rows.sort_unstable();
+    let Some(place) = behind.checked_add(line_length(b"rows", count)) else {
+        return Err(AllocError);
+    };
+    let rows = row_bytes(alloc, rows.as_slice())?;
+    let digests = page_digests(alloc, rows.as_slice())?;
+    Ok(Table {
+        place,
+        rows,
+        digests,
+    })
+}
+
+/// The names of all objects of a store with the places of their lines, of which this is the first, and where the last one ends.
+fn placed<N: Namer, A: Allocator + Copy>(
+    alloc: A,
+    store: &Store<N, A>,
+    first: u64,
+) -> Result<(Vec<Row, A>, u64), AllocError>
+    ensures rows { IfOk result (λ laid. laid.0.items ≡ placed first store.now.1) }
+    ensures behind { IfOk result (λ laid.
+        laid.1 ≡ first + length (flat_map (stored_record Two) store.now.1)) }
+{
+    let mut rows = Vec::new(alloc);
+    let mut place = first;
+    for at in 0..store.len() {
+        let Some((name, kind, body)) = store.record(at) else {
+            unreachable!();
+        };
+        let Some(behind) = behind_record(place, &name, kind, body) else {
+            return Err(AllocError);
+        };
+        let bytes = name.bytes;
+        rows.push((bytes, place))?;
+        place = behind;
+    }
+    Ok((rows, place))
+}
+
+/// Where the text of a record ends that begins at a place, if that is below 2^64.
+fn behind_record(place: u64, name: &Name, kind: Kind, body: &[u8]) -> Option<u64>
+    ensures { IfSome result (λ behind. behind ≡ place
+        + length (stored_record Two (record { name = name.now.bytes; kind = kind; body = body.now }))) }
+{
+    // two spaces and an LF stand in the line beside the digits of the name, and an LF behind the body
+    let line = kind.word().len() + digits_length(body.len()) + 2 * name.bytes.as_slice().len() + 4;
+    let begins = place.checked_add(line as u64)?;
+    let behind = begins.checked_add(body.len() as u64)?;
+    Some(behind)
+}
+
+/// How many bytes a line has in which a number follows a word.
+fn line_length(word: &[u8], number: usize) -> u64
+    requires { length word.now ≤ 20 }
+    ensures length { result ≡ length (line word.now (number_text number)) }
+    ensures bound { result ≤ 42 }
+{
+    (word.len() + digits_length(number) + 2) as u64
+}
+
+/// How many digits a number has.
+fn digits_length(number: usize) -> usize
+    ensures length { result ≡ length (number_text number) }
+    ensures bound { result ≤ 20 }
+{
+    let mut digits = Buffer::new();
+    digits.format(number).len()
+}
+
+/// The bytes of rows.
+fn row_bytes<A: Allocator + Copy>(alloc: A, rows: &[Row]) -> Result<Vec<u8, A>, AllocError>
+    ensures { IfOk result (λ bytes. bytes.items ≡ flat_map row_text rows.now) }
+{
+    let mut bytes = Vec::new(alloc);
+    for row in rows {
+        bytes.extend_from_slice(&row.0)?;
+        bytes.extend_from_slice(&row.1.to_be_bytes())?;
+    }
+    Ok(bytes)
+}
+
+/// The digests of the pages of rows.
+fn page_digests<A: Allocator + Copy>(alloc: A, rows: &[u8]) -> Result<Vec<u8, A>, AllocError>
+    ensures { IfOk result (λ digests. digests.items ≡ page_digests sha256 rows.now) }
+{
+    let mut digests = Vec::new(alloc);
+    let mut rest = rows;
+    while !rest.is_empty() {
+        let (page, behind) = first_page(rest);
+        digests.extend_from_slice(&digest_of(page))?;
+        rest = behind;
+    }
+    Ok(digests)
+}

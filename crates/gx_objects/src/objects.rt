@@ -1,0 +1,59 @@
+//! What objects and refs are asked of.
+
+ghost use Rattle.std.specs.Prelude.{IfOk, IfSome, Option};
+ghost use Rattle.gx_model.specs.declared.objects.Kind.{Kind};
+ghost use Rattle.gx_model.specs.Histories.{Records};
+ghost use Rattle.gx_model.specs.Objects.{IsNamer};
+ghost use Rattle.gx_model.specs.Records.Sound.{IsSound};
+ghost use Rattle.gx_model.specs.Texts.{Bytes};
+ghost use Rattle.gx_objects.specs.Answers.{FindsRef, Holds, IsNamed, OnlyUntold, Tells};
+
+use crate::LookFault;
+use gx_object::{Kind, Name};
+use std::alloc::Allocator;
+
+/// An object: its kind, and its body where it stands.
+#[derive(Clone, Copy, Debug, PartialEq, Eq, Drop)]
+pub struct Object<'a> {
+    pub kind: Kind,
+    pub body: &'a [u8],
+}
+
+/// What holds objects and refs.
+///
+/// Whatever it holds, an object that it shows has the name that was asked for. Where it tells a repository, each answer is that
+/// repository's, and none is `Damaged`.
+pub trait Objects {
+    /// The bytes of the name that a kind and a body get.
+    ghost name_of: { Self → Kind → Bytes → Bytes };
+
+    /// The repository whose objects and refs these are, where they are one's.
+    ghost told: { Self → Option Records };
+
+    /// A repository that is told is sound, and a name has 20 bytes. Takes no memory.
+    fn sound_if_told(&self)
+        ensures sound { IfSome (told self.now) (IsSound (name_of self.now)) }
+        ensures namer { IsNamer (name_of self.now) };
+
+    /// The object of a name, lent from where it stands or from the room.
+    ///
+    /// OutOfMemory: the room can't grow. ReadFailed: a read failed. Damaged: this is no repository's. What is in the room
+    /// before and after stands for nothing.
+    /// Source: gitglossary(7), "object name".
+    fn object<'a, A: Allocator + Copy>(
+        &'a self,
+        name: &Name,
+        room: &'a mut Vec<u8, A>,
+    ) -> Result<Option<Object<'a>>, LookFault>
+        ensures held { Tells (told self.now) (Holds name.now.bytes) result }
+        ensures named { IfOk result (IsNamed (name_of self.now) name.now.bytes) }
+        ensures fault { OnlyUntold (told self.now) result };
+
+    /// The object of the first ref among the name itself, and the name after `refs/`, `refs/tags/`, `refs/heads/` and
+    /// `refs/remotes/`, and after `refs/remotes/` with `/HEAD` behind it.
+    ///
+    /// ReadFailed and Damaged are those of `object`. Takes no memory. Source: gitrevisions(7), "refname".
+    fn object_of_ref(&self, name: &[u8]) -> Result<Option<Name>, LookFault>
+        ensures object { Tells (told self.now) (FindsRef name.now) result }
+        ensures fault { OnlyUntold (told self.now) result };
+}

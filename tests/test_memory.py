@@ -3,11 +3,12 @@
 from __future__ import annotations
 
 import resource
+import sys
 from pathlib import Path
 
 import pytest
 
-from programs import Program
+from programs import Program, printed, run_program
 
 SIZE = 40 << 20
 ROOM = int(1.35 * SIZE) + (16 << 20)
@@ -27,3 +28,39 @@ def large(new_store) -> Path:
 def test_next_text_goes_out_as_it_is_made(gx: Program, large: Path, words: str) -> None:
     given = [large if word == "FILE" else word for word in words.split()]
     gx.prints(*given, preexec_fn=lambda: resource.setrlimit(resource.RLIMIT_AS, (ROOM, ROOM)))
+
+
+BLOCK = 96 << 20
+# runs a program, and prints the most memory that it had: a small process, since a child begins with what its parent has
+MEASURED = """
+import resource, subprocess, sys
+subprocess.run(sys.argv[1:], check=True)
+print(resource.getrusage(resource.RUSAGE_CHILDREN).ru_maxrss)
+"""
+# what stands before a blob of so many bytes, and behind it
+WRITTEN = {
+    "counted": (b"blob\nmark :1\ndata %d\n" % BLOCK, b"\n"),
+    "delimited": (b"blob\nmark :1\ndata <<END\n", b"\nEND\n"),
+    "inline": (
+        b"commit refs/heads/main\ncommitter A <a@b> 1 +0000\ndata 0\n"
+        b"M 100644 inline file\ndata %d\n" % BLOCK,
+        b"\n",
+    ),
+}
+
+
+@pytest.mark.parametrize("form", WRITTEN)
+def test_large_blob_is_in_memory_once(gx: Program, tmp_path: Path, form: str) -> None:
+    store, stream = tmp_path / "store", tmp_path / "stream"
+    gx.prints("init", store)
+    before, behind = WRITTEN[form]
+    with stream.open("wb") as file:
+        file.write(before)
+        for _ in range(BLOCK >> 20):
+            file.write(b"x" * (1 << 20))
+        file.write(behind)
+    words = [sys.executable, "-c", MEASURED, gx.path, "import", store]
+    with stream.open("rb") as file:
+        used = printed(run_program(words, stdin=file, env=gx.environment), words)
+    assert store.stat().st_size > BLOCK
+    assert int(used) * 1024 < 1.2 * BLOCK

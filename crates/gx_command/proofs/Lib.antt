@@ -22,3 +22,4 @@ pub mod ExplainedItems
 pub mod ExplainedCommands
 pub mod TagNames
 pub mod PassedItems
+pub mod HeldBlocks

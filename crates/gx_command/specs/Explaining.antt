@@ -1,15 +1,16 @@
 -- What items may still come, whatever a source tells, and how an answer is explained: by items that may have come before it.
 -- Source: this project's own.
-use Rattle.std.specs.Prelude.{◌≡◌, ◌⊎◌, Option, Some, None, Result, Ok, Err, option_map}
+use Rattle.std.specs.Prelude.{◌≡◌, ◌≤◌, ◌⊎◌, Option, Some, None, Result, Ok, Err, option_map}
 use Rattle.std.specs.Borrow.{Bor}
 use Rattle.gx_model.specs.Texts.{Bytes}
 use Rattle.gx_model.specs.Streams.Items as model
 use Rattle.gx_model.specs.Streams.Items.{Stream, then_comes, Finished, Failed}
 use Rattle.gx_model.specs.Streams.Lines.{Read, rest_line}
 use Rattle.gx_stream.specs.Faults.{ended}
+use Rattle.gx_stream.specs.Input.{KeepsStream}
 use Rattle.gx_stream.specs.Reading.{Seen, MayCome}
 use Rattle.gx_stream.specs.declared.item.Item.{Item}
-use Rattle.gx_command.specs.Ahead.{ReadNext, ReadRest, shown_held_item}
+use Rattle.gx_command.specs.Ahead.{ReadNext, ReadRest, most, shown_held_item, to_come}
 use Rattle.gx_command.specs.CommandFaults.{fault_of}
 use Rattle.gx_command.specs.declared.fault.CommandFault.{CommandFault}
 use Rattle.gx_command.specs.declared.fault.CommandFault.TheVariants.{OutOfMemory}
@@ -55,3 +56,7 @@ ExplainsLine word answers old new (Ok (Some x)) = (t : Stream) → new t → (s 
 ExplainsLine word answers old new (Ok None) = (t : Stream) → new t → (s : Stream) × old s × (rest_line word s ≡ Ok (None, t))
 ExplainsLine word answers old new (Err f) =
     (f ≡ OutOfMemory) ⊎ ((s : Stream) × old s × ((rest_line word s ≡ Err (fault_of f)) ⊎ ((left : Stream) × ReadRest answers word s left (Err f))))
+
+-- where the items to come are known they stay, there are no more, and none comes that might not have come before
+abbrev pub KeepsAhead : {R A : Type 0} → Ahead R A → Ahead R A → Type 0
+KeepsAhead old new = KeepsStream (to_come old) (to_come new) × (most new ≤ most old) × ((s : Stream) → MayBeAhead new s → MayBeAhead old s)

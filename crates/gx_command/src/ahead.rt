@@ -1,12 +1,13 @@
 //! The items of a stream, with the one that was read ahead.
 
-ghost use Rattle.std.specs.Prelude.{◌≡◌, ◌-◌, ◌^◌, IfOk, None};
+ghost use Rattle.std.specs.Prelude.{◌≡◌, ◌-◌, ◌^◌, IfErr, IfOk, OnOk, None};
 ghost use Rattle.std.specs.Option.{option_map};
 ghost use Rattle.gx_model.specs.Streams.Items.{Stream};
 ghost use Rattle.gx_stream.specs.Heard.{items_from};
 ghost use Rattle.gx_stream.specs.Reading.{AreOfText, MayCome, item_of};
+ghost use Rattle.gx_command.specs.declared.fault.CommandFault.TheVariants.{OutOfMemory};
 ghost use Rattle.gx_command.specs.Ahead.{AnswersRest, Takes, TakesLine, Falls, to_come, most, shown_held_item};
-ghost use Rattle.gx_command.specs.Explaining.{ExplainsLine, ExplainsTaken, MayBeAhead};
+ghost use Rattle.gx_command.specs.Explaining.{ExplainsLine, ExplainsTaken, KeepsAhead, MayBeAhead};
 
 use crate::fault::CommandFault;
 use crate::lines::rest_in;
@@ -92,6 +93,21 @@ impl<R: Source, A: Allocator + Copy> Ahead<R, A> {
         Ok(None)
     }
 
+    /// Reads the next item ahead where it is a block, which is given away and not copied.
+    #[tactic(auto, unfolding(crate::specs::Ahead::to_come, crate::specs::Ahead::most, crate::specs::Explaining::MayBeAhead))]
+    fn hold_block(&mut self) -> Result<(), CommandFault>
+        ensures keeps { OnOk result (KeepsAhead self.old self.new) }
+        ensures fault { IfErr result (λ fault. fault ≡ OutOfMemory) }
+    {
+        if self.held.is_some() {
+            return Ok(());
+        }
+        if let Some(bytes) = self.items.next_block()? {
+            self.held = Some(Held::Data(bytes));
+        }
+        Ok(())
+    }
+
     /// Takes the next line where it has this word, and reads its rest. Otherwise the item stays.
     #[tactic(auto, unfolding(gx_model::specs::Streams::Lines::rest_line_in))]
     pub(crate) fn optional<T: Drop, F>(
@@ -106,6 +122,7 @@ impl<R: Source, A: Allocator + Copy> Ahead<R, A> {
         ensures explains { ExplainsLine word.now (F.post read) (MayBeAhead self.old) (MayBeAhead self.new) result }
         ensures falls { Falls (most self.old) (most self.new) result }
     {
+        self.hold_block()?;
         self.take(|item| read_rest(item, word, read))
     }
 }

@@ -292,11 +292,11 @@ impl<R: Source, A: Allocator + Copy> Ahead<R, A> {
             Some(Held::Line(_)) => return Err(CommandFault::BadLine),
             None => {}
         }
-        match self.items.next()? {
-            Some(Item::Data(bytes)) => Ok(Vec::from_slice(self.alloc, bytes)?),
-            Some(Item::Line(_)) => Err(CommandFault::BadLine),
-            None => Err(CommandFault::BadLine),
+        if let Some(bytes) = self.items.next_block()? {
+            return Ok(bytes);
         }
+        let _line = self.items.next()?;
+        Err(CommandFault::BadLine)
     }
 
     /// Refuses a signature.

@@ -10,3 +10,4 @@ pub mod Pieces
 pub mod Arrivals
 pub mod Follows
 pub mod FirstItems
+pub mod Given

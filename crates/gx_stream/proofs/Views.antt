@@ -1,14 +1,15 @@
 -- What a reader is seen as, before and after an item, the end or a fault.
-use Rattle.std.proofs.Common.{◌≡◌, ℕ, ◌+◌, ◌<◌, ◌≤◌, Bool, true, false, inl, inr, Option, Some, None, Result, Ok, Err, [], ◌++◌, length, drop, refl, sym, ap, subst, ◌∙◌, arith, append-nil, append_assoc}
+use Rattle.std.proofs.Common.{◌≡◌, ℕ, ◌+◌, ◌<◌, ◌≤◌, Bool, true, false, inl, inr, Option, Some, None, Result, Ok, Err, is_ok, [], ◌++◌, length, drop, refl, sym, ap, subst, ◌∙◌, arith, append-nil, append_assoc}
 use Rattle.std.proofs.lemmas.List.{length-drop}
 use Rattle.gx_model.specs.Texts.{Bytes}
-use Rattle.gx_model.specs.Streams.Items.{Item, Line, Data, Stream, Finished, Failed, then_comes, items_of}
+use Rattle.gx_model.specs.Streams.Items.{End, Item, Line, Data, Stream, Finished, Failed, then_comes, items_of}
+use Rattle.gx_model.specs.Streams.Lines.{block, block_in}
 use Rattle.gx_text.specs.Devices.{Coming}
 use Rattle.gx_stream.specs.Heard.{heard_upto}
 use Rattle.gx_stream.specs.Places.{Skipped, ComesNext, NoneComes, bytes_at}
 use Rattle.gx_stream.specs.Reading.{Seen, AnswersAs, ReadsAs, FallsAs, RefusesAs, RepeatsAs, ExplainsAs, MayFollow}
 use Rattle.gx_stream.specs.Faults.{fault_of, shown_end, ended}
-use Rattle.gx_stream.specs.Input.{shown_stream, shown_most, shown_over, shown_unread, shown_whole, answer_at, IsLonger, Looks, is_whole, Takes, Keeps, KeepsStream, KeepsOver}
+use Rattle.gx_stream.specs.Input.{shown_stream, shown_most, shown_over, shown_unread, shown_whole, answer_at, IsLonger, Looks, is_whole, Takes, ComesNoBlock, Keeps, KeepsStream, KeepsOver}
 use Rattle.gx_stream.proofs.Ends.{none_refused}
 use Rattle.gx_stream.proofs.Longer.{nothing_more}
 use Rattle.gx_stream.specs.declared.fault.StreamFault.{StreamFault}
@@ -158,19 +159,65 @@ Answers-found full old room coming text state new start at now r k l w t =
       Explains-kept _ _ _ (answer_at text r) k.3 here.4,
     )
 
--- where there is no memory for more
-pub Answers-refused : (was full : Bool) (old : Seen) (room : ℕ) (coming : Option Coming) (text : Bytes) (state : State) (r : Found) → full ≡ true → is_whole state r ≡ false → Keeps old (shown_at was state room coming text) → AnswersAs old (shown_at full (Over (Some fault.OutOfMemory)) room coming text) (Err fault.OutOfMemory)
-Answers-refused was full old room coming text Open r e w k =
-    let mid = shown_at was Open room coming text in
-    let last = shown_at full (Over (Some fault.OutOfMemory)) room coming text in (
-      Reads-kept old.stream mid.stream last.stream (Err fault.OutOfMemory) k.0 (reads coming),
-      omega arith,
-      refl,
-      Repeats-kept old mid last (Err fault.OutOfMemory) k.2 e,
-      inl refl,
-    ) where
-      reads : (o : Option Coming) → ReadsAs (shown_stream Open room o text) (Some (ended (shown_end (Some fault.OutOfMemory)))) (Err fault.OutOfMemory)
-      reads None = refl
-      reads (Some c) = (refl, inl refl)
-Answers-refused was full old room coming text (Ended fails) r e w k = absurd cc
-Answers-refused was full old room coming text (Over last) r e w k = absurd cc
+-- ---- a look that takes nothing
+
+nothing_skipped : (text : Bytes) (fails : Bool) (at : ℕ) → at ≤ length text → Skipped text fails at at
+nothing_skipped text fails at l = record { from = omega arith; within = l; same = λ more then_fails g. refl }
+
+-- what was found stands where the look ended
+pub looks_here : (text : Bytes) (state : State) (start at : ℕ) (r : Found) → Looks text state start at r → Looks text state at at r
+looks_here text Open start at r l = (nothing_skipped text true at l.0.within, l.1)
+looks_here text (Ended fails) start at r l = (nothing_skipped text fails at l.0.within, l.1)
+looks_here text (Over last) start at r l = (refl, l.1)
+
+-- behind comments the same may come
+pub skipped_keeps : (full : Bool) (state : State) (room : ℕ) (coming : Option Coming) (text : Bytes) (start at : ℕ) (r : Found) → Looks text state start at r → Keeps (shown_at full state room coming (drop start text)) (shown_at full state room coming (drop at text))
+skipped_keeps full Open room None text start at r l =
+    (tt, omega (arith, l.0.from, length-drop start text, length-drop at text), refl, λ s m. (m.0, m.1 ∙ sym (l.0.same m.0.bytes m.0.fails tt)))
+skipped_keeps full Open room (Some c) text start at r l =
+    let h = heard_upto room c in
+    (ap (λ s. Some s) (sym (l.0.same h.bytes h.fails tt)), omega (arith, l.0.from, length-drop start text, length-drop at text), refl, λ s m. (m.0, m.1 ∙ sym (l.0.same m.0.bytes m.0.fails tt)))
+skipped_keeps full (Ended fails) room coming text start at r l =
+    let same = Skipped-alone text fails start at l.0 in
+    (ap (λ s. Some s) (sym same), omega (arith, l.0.from, length-drop start text, length-drop at text), refl, λ s m. m ∙ sym same)
+skipped_keeps full (Over last) room coming text start at r l = (refl, omega arith, refl, λ s m. m)
+
+-- what is kept twice is kept
+stream_kept : (old mid new : Option Stream) → KeepsStream old mid → KeepsStream mid new → KeepsStream old new
+stream_kept None mid new k m = tt
+stream_kept (Some s) mid new k m = subst (λ o. KeepsStream o new) k m
+
+over_kept : (old mid new : Seen) → KeepsOver old.over old mid → KeepsOver mid.over mid new → KeepsOver old.over old new
+over_kept old mid new k m = by old.over refl k where
+  by : (o : Option (Option StreamFault)) → o ≡ old.over → KeepsOver o old mid → KeepsOver o old new
+  by None e k = subst (λ o. KeepsOver o mid new) k m
+  by (Some last) e k = subst (λ o. KeepsOver o old new) (sym e) (subst (λ (s : Seen). KeepsOver s.over s new) k m)
+
+pub kept_twice : (old mid new : Seen) → Keeps old mid → Keeps mid new → Keeps old new
+kept_twice old mid new k m =
+    (stream_kept old.stream mid.stream new.stream k.0 m.0, omega (arith, k.1, m.1), over_kept old mid new k.2 m.2, λ s c. k.3 s (m.3 s c))
+
+-- ---- what comes next, where it is no block
+
+line_no_block : (s left : Stream) (bytes : Bytes) → s ≡ then_comes (Line bytes) left → is_ok (block s) ≡ false
+unfolding block_in
+line_no_block s left bytes e = rw e refl
+
+end_no_block : (s : Stream) (e : End) → s ≡ ended e → is_ok (block s) ≡ false
+unfolding block_in
+end_no_block s Finished e = rw e refl
+end_no_block s (Failed f) e = rw e refl
+
+-- a line, the end or a fault that is found
+pub no_block : (full : Bool) (state : State) (room : ℕ) (coming : Option Coming) (text : Bytes) (at : ℕ) (r : Found) → Looks text state at at r → is_whole state r ≡ true → ((p : Place) → r ≡ found.Data p → ⊥) → ComesNoBlock (shown_at full state room coming (drop at text))
+no_block full Open room coming text at (found.Line p) l w n = λ s m. line_no_block s _ _ (m.1 ∙ l.1.next m.0.bytes m.0.fails tt)
+no_block full Open room coming text at (found.Data p) l w n = absurd (n p refl)
+no_block full Open room coming text at (found.End None) l w n = absurd cc
+no_block full Open room coming text at (found.End (Some fault.OutOfMemory)) l w n = absurd cc
+no_block full Open room coming text at (found.End (Some fault.ReadFailed)) l w n = absurd cc
+no_block full Open room coming text at (found.End (Some fault.TruncatedData)) l w n = absurd cc
+no_block full Open room coming text at (found.End (Some fault.BadNumber)) l w n = λ s m. end_no_block s _ (m.1 ∙ l.1.stays refl m.0.bytes m.0.fails tt)
+no_block full (Ended fails) room coming text at (found.Line p) l w n = λ s m. line_no_block s _ _ (m ∙ next_alone text fails at _ p l.1)
+no_block full (Ended fails) room coming text at (found.Data p) l w n = absurd (n p refl)
+no_block full (Ended fails) room coming text at (found.End e) l w n = λ s m. end_no_block s _ (m ∙ l.1.end)
+no_block full (Over last) room coming text at r l w n = λ s m. end_no_block s _ m

@@ -1,13 +1,14 @@
 -- What the fields of a reader stand for, and what each of its steps does to them.
-use Rattle.std.specs.Prelude.{◌≡◌, ℕ, suc, ◌+◌, ◌-◌, ◌<◌, ◌≤◌, ◌^◌, Bool, true, false, nat_lt, [], ◌++◌, length, take, drop, Option, Some, None, Result, Ok, Err}
+use Rattle.std.specs.Prelude.{◌≡◌, ℕ, suc, ◌+◌, ◌-◌, ◌<◌, ◌≤◌, ◌^◌, Bool, true, false, nat_lt, [], ◌++◌, length, take, drop, Option, Some, None, Result, Ok, Err, Vec, is_ok}
 use Rattle.std.specs.Vec.{vec_capacity}
 use Rattle.gx_model.specs.Texts.{Bytes}
 use Rattle.gx_model.specs.Streams.Items.{Stream, items_of}
 use Rattle.gx_model.specs.Streams.Items as model
+use Rattle.gx_model.specs.Streams.Lines.{block}
 use Rattle.gx_text.specs.Devices.{Coming}
 use Rattle.gx_stream.specs.Heard.{heard_upto}
 use Rattle.gx_stream.specs.Faults.{shown_end, ended}
-use Rattle.gx_stream.specs.Reading.{Seen, MayCome}
+use Rattle.gx_stream.specs.Reading.{Seen, AnswersAs, MayCome}
 use Rattle.gx_stream.specs.Places.{bytes_at, GoesTo, IsWithin, IsScanned, Skipped, Finds}
 use Rattle.gx_stream.specs.declared.fault.StreamFault.{StreamFault}
 use Rattle.gx_stream.specs.declared.fault.StreamFault.TheVariants.{OutOfMemory, ReadFailed, TruncatedData, BadNumber}
@@ -170,3 +171,35 @@ pulls_left (Over last) room = 0
 -- fewer pulls may follow
 abbrev pub LeavesFewer : {R A : Type 0} → Input R A → Input R A → Type 0
 LeavesFewer old new = pulls_left new.state new.room < pulls_left old.state old.room
+
+-- ---- a block that is given away
+
+-- the same may still come, whatever room there is
+pub record SameToCome (old new : Seen) : Type 0 where
+  pub stream : new.stream ≡ old.stream
+  pub most : new.most ≡ old.most
+  pub over : new.over ≡ old.over
+  pub unread : new.unread ≡ old.unread
+  pub whole : new.whole ≡ old.whole
+
+-- the same of what came from a source
+abbrev pub KeepsRest : {R A : Type 0} → (R → Option Coming) → Input R A → Input R A → Type 0
+KeepsRest coming old new = SameToCome (shown_input old (coming old.source)) (shown_input new (coming new.source))
+
+-- it is over for want of memory, and has no room for another piece
+abbrev pub IsRefused : {R A : Type 0} → Input R A → Type 0
+IsRefused i = (i.state ≡ Over (Some OutOfMemory)) × (is_full i ≡ true)
+
+-- what comes next stands there, where nothing that may still come plays a part in it, or it is the end or a fault
+abbrev pub FindsNext : {R A : Type 0} → Input R A → Found → Type 0
+FindsNext i found = Looks (text_of i) i.state i.at i.at found × (is_whole i.state found ≡ true)
+
+-- none of what may come next is a block
+abbrev pub ComesNoBlock : Seen → Type 0
+ComesNoBlock seen = (s : Stream) → MayCome seen s → is_ok (block s) ≡ false
+
+-- A block that comes next is given. Otherwise what may come stays, and no block comes next. No fault is answered but want of memory.
+abbrev pub GivesBlock : {A : Type 0} → Seen → Seen → Result (Option (Vec ℕ A)) StreamFault → Type 0
+GivesBlock old new (Ok None) = Keeps old new × ComesNoBlock new
+GivesBlock old new (Ok (Some bytes)) = AnswersAs old new (Ok (Some (model.Data bytes.items)))
+GivesBlock old new (Err f) = (f ≡ OutOfMemory) × AnswersAs old new (Err f)

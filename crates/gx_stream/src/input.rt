@@ -1,16 +1,22 @@
 //! What came from a source, and the items in it.
 
-ghost use Rattle.std.specs.Prelude.{◌≡◌, ◌<◌, ◌≤◌, ◌+◌, ◌-◌, ◌^◌, length, take, drop, true, None, IsTrue, OnOk, OnErr};
+ghost use Rattle.std.specs.Prelude.{◌≡◌, ◌<◌, ◌≤◌, ◌+◌, ◌-◌, ◌^◌, length, take, drop, true, None, IsTrue, IfOk, OnOk, OnErr};
 ghost use Rattle.std.specs.Vec.{vec_capacity};
-ghost use Rattle.gx_stream.specs.Input.{IsSound, FitsState, IsLonger, IsFoundWithin, Looks, is_whole, Takes, KeepsInput, KeepsStream, LeavesFewer, answer_at, is_full, shown_input, shown_over, shown_stream, text_of, pulls_left, state_of};
+ghost use Rattle.gx_stream.specs.Input.{IsSound, FitsState, IsLonger, IsFoundWithin, FindsNext, GivesBlock, Looks, is_whole, Takes, KeepsInput, KeepsRest, KeepsStream, IsRefused, LeavesFewer, answer_at, is_full, shown_input, shown_over, shown_stream, text_of, pulls_left, state_of};
+ghost use Rattle.gx_stream.specs.Places.{IsWithin, bytes_at};
 ghost use Rattle.gx_stream.specs.Reading.{AnswersAs};
 ghost use Rattle.gx_stream.specs.declared.input.State.TheVariants.{Open};
 
 use crate::fault::StreamFault;
-use crate::places::{Found, Scan, find_item};
+use crate::places::{Found, Place, Scan, find_item};
 use crate::pulls::{SourceState, pull_piece};
 use gx_text::{PIECE, Source};
 use std::alloc::{AllocError, Allocator};
+use std::mem;
+
+/// From this length on a block is given away with the memory that it stands in. A shorter one is copied: new memory would
+/// cost more than that.
+const LARGE: usize = 1 << 20;
 
 /// What is known of the text: more of it may come, or it came whole and may fail at its end, or the last answer was given:
 /// the end, or a fault.
@@ -36,7 +42,6 @@ pub(crate) struct Input<R: Source, A: Allocator> {
 
 impl<R: Source, A: Allocator + Copy> Input<R, A> {
     /// Takes the next item and answers where it stands in the text, or takes the end or a fault.
-    /// More bytes are pulled only where no whole item is left.
     pub(crate) fn take_next(&mut self) -> Found
         requires { IsSound self.old }
         ensures sound { IsSound self.new }
@@ -45,19 +50,93 @@ impl<R: Source, A: Allocator + Copy> Input<R, A> {
             (shown_input self.old (R.coming self.old.source)) (shown_input self.new (R.coming self.new.source))
             (answer_at (text_of self.new) result) }
     {
+        let Ok(found) = self.find_next() else {
+            self.state = State::Over(Some(StreamFault::OutOfMemory));
+            return Found::End(Some(StreamFault::OutOfMemory));
+        };
+        take(&mut self.at, &mut self.state, found);
+        self.scan = Scan::from_line(self.at);
+        found
+    }
+
+    /// Takes the next item where it is a block, and gives that away. Whatever else comes next stays. Where there is no memory,
+    /// nothing more comes, and what stands here is let go.
+    pub(crate) fn take_block(&mut self) -> Result<Option<Vec<u8, A>>, StreamFault>
+        requires { IsSound self.old }
+        ensures sound { IsSound self.new }
+        ensures gives { GivesBlock
+            (shown_input self.old (R.coming self.old.source)) (shown_input self.new (R.coming self.new.source))
+            result }
+    {
+        let Ok(found) = self.find_next() else {
+            self.refuse();
+            return Err(StreamFault::OutOfMemory);
+        };
+        let Found::Data(place) = found else {
+            return Ok(None);
+        };
+        self.at = place.next;
+        self.scan = Scan::from_line(self.at);
+        let Ok(bytes) = self.part_with(place) else {
+            self.refuse();
+            return Err(StreamFault::OutOfMemory);
+        };
+        Ok(Some(bytes))
+    }
+
+    /// Where the next item stands, which stays, or how the items end.
+    /// More bytes are pulled only where no whole item is left.
+    fn find_next(&mut self) -> Result<Found, AllocError>
+        requires { IsSound self.old }
+        ensures sound { IsSound self.new }
+        ensures keeps { OnOk result (KeepsInput R.coming self.old self.new) }
+        ensures found { IfOk result (λ found. FindsNext self.new found) }
+        ensures refused { OnErr result ((shown_over self.old.state ≡ None) × (is_full self.new ≡ true)) }
+    {
         loop {
             let came = &self.text[..self.came];
             let found = look(came, &mut self.at, &mut self.scan, self.state);
             if is_whole(self.state, found) {
-                take(&mut self.at, &mut self.state, found);
-                self.scan = Scan::from_line(self.at);
-                return found;
+                return Ok(found);
             }
-            if self.pull_wanted().is_err() {
-                self.state = State::Over(Some(StreamFault::OutOfMemory));
-                return Found::End(Some(StreamFault::OutOfMemory));
-            }
+            self.pull_wanted()?;
         }
+    }
+
+    /// A copy of a block, or for a large one the memory that it stands in. What isn't read yet stays, in new memory then.
+    fn part_with(&mut self, place: Place) -> Result<Vec<u8, A>, AllocError>
+        requires sound { IsSound self.old }
+        requires within { IsWithin (text_of self.old) place }
+        ensures bytes { IfOk result (λ bytes. bytes.items ≡ bytes_at (text_of self.old) place) }
+        ensures sound { OnOk result (IsSound self.new) }
+        ensures keeps { OnOk result (KeepsRest R.coming self.old self.new) }
+        ensures room { self.new.room ≡ self.old.room }
+    {
+        let alloc = *self.text.allocator();
+        let came = &self.text[..self.came];
+        if place.end - place.start < LARGE {
+            return Vec::from_slice(alloc, &came[place.start..place.end]);
+        }
+        let rest = Vec::from_slice(alloc, &came[self.at..])?;
+        self.came = rest.len();
+        self.at = 0;
+        self.scan = Scan::from_line(0);
+        let mut bytes = mem::replace(&mut self.text, rest);
+        cut_to(&mut bytes, place);
+        Ok(bytes)
+    }
+
+    /// Is over for want of memory, and lets go of what it has.
+    fn refuse(&mut self)
+        requires { self.old.room ≤ 2 ^ 63 - 1 }
+        ensures sound { IsSound self.new }
+        ensures refused { IsRefused self.new }
+    {
+        self.text = Vec::new(*self.text.allocator());
+        self.came = 0;
+        self.at = 0;
+        self.scan = Scan::from_line(0);
+        self.state = State::Over(Some(StreamFault::OutOfMemory));
     }
 
     /// Pulls one piece, and more of them while a block is known to have more bytes than came.
@@ -158,6 +237,17 @@ fn remove_front(text: &mut [u8], came: &mut usize, count: usize)
         text.copy_within(count..*came, 0);
         *came -= count;
     }
+}
+
+/// Cuts a text to what stands at a place in it.
+fn cut_to<A: Allocator>(text: &mut Vec<u8, A>, place: Place)
+    requires { (place.start ≤ place.end) × (place.end ≤ length text.old.items) }
+    ensures { text.new.items ≡ drop place.start (take place.end text.old.items) }
+{
+    text.truncate(place.end);
+    text.rotate_left(place.start);
+    text.truncate(place.end - place.start);
+    text.shrink_to_fit();
 }
 
 /// Makes room for a piece behind so many bytes, where there is none.

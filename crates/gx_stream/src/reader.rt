@@ -6,6 +6,7 @@ ghost use Rattle.std.specs.Borrow.{sem};
 ghost use Rattle.std.specs.Io.BufRead.{Rests};
 ghost use Rattle.gx_stream.specs.Heard.{items_from};
 ghost use Rattle.gx_model.specs.Streams.Items.{Stream};
+ghost use Rattle.gx_stream.specs.Input.{GivesBlock};
 ghost use Rattle.gx_stream.specs.Reading.{Answers, AreOfText, MayCome};
 ghost use Rattle.gx_stream.specs.contracts.reader.ItemReader.{the_row};
 
@@ -78,5 +79,19 @@ impl<R: Source, A: Allocator + Copy> ItemReader<R, A> {
             Found::End(None) => Ok(None),
             Found::End(Some(fault)) => Err(fault),
         }
+    }
+
+    /// The next item where it is a block, given away: one of 1 MiB and more in the memory that it came to, so that it never
+    /// stands there twice, and a shorter one as a copy. `None` where a line, the end or a fault comes, which `next` answers
+    /// then.
+    ///
+    /// `OutOfMemory`: there was no memory for the block, and the reader lets go of its own.
+    ///
+    /// Cost: the bytes of the block. What stays isn't looked through again.
+    /// Source: git-fast-import(1), "data".
+    pub fn next_block(&mut self) -> Result<Option<Vec<u8, A>>, StreamFault>
+        ensures gives { GivesBlock self.old self.new result }
+    {
+        self.input.take_block()
     }
 }

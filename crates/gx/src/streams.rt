@@ -13,7 +13,7 @@ use devices::{Noted, flushed};
 use explanation::explained;
 use gx_cli::{
     CliFault, Explanation, Features, Line, adapt_status, adapt_stream, answer, batch_opened,
-    check_stream, find_fault, serve_owned, try_revision,
+    check_stream, ending_of, find_fault, read_format, serve_owned, try_revision,
 };
 use gx_object::Sha1Namer;
 use gx_text::{FromRead, IntoWrite};
@@ -55,15 +55,18 @@ fn answer_growing<R: Read + Drop, W: Write + Drop>(
     state: RandomState,
 ) -> Result<(), CliFault> {
     let alloc = run.rt.alloc();
-    let repo = open_text(run, store, state)?;
     match line {
         Line::Batch {
             form,
             format,
             nul,
             file: _,
-        } => batch_opened(alloc, &repo, *form, *format, *nul, source, sink),
-        _ => answer(alloc, &repo, line, source, sink),
+        } => {
+            let format = read_format(alloc, *format)?;
+            let repo = open_text(run, store, state)?;
+            batch_opened(alloc, &repo, *form, &format, ending_of(*nul), source, sink)
+        }
+        _ => answer(alloc, &open_text(run, store, state)?, line, source, sink),
     }
 }
 

@@ -1,7 +1,6 @@
 -- Batches in a format, and texts that are no format.
-use Rattle.std.proofs.Common.{◌≡◌, inl, inr, refl, sym, subst, List, Option, Some, None, Result, Err}
+use Rattle.std.proofs.Common.{◌≡◌, inl, inr, sym, subst, List, Option, Some, None, Err}
 use Rattle.gx_model.specs.declared.objects.Kind.{Kind}
-use Rattle.gx_model.specs.Histories.{Records}
 use Rattle.gx_model.specs.Stores.StoreReading.{store_of}
 use Rattle.gx_model.specs.Texts.{Bytes}
 use Rattle.gx_model.specs.Texts.Sinks.{Taken}
@@ -13,7 +12,7 @@ use Rattle.gx_batch.specs.declared.fault.FormatFault.TheVariants as format
 use Rattle.gx_batch.specs.declared.format.Part.{Part}
 use Rattle.gx_line.specs.declared.command_line.BatchForm.{BatchForm}
 use Rattle.gx_cli.specs.Gathering.{of_format}
-use Rattle.gx_cli.specs.Serving.{AnswersBatch, AnswersFormatted, AnswersLines, EndsAnswered, EndsOpened, IsRefused, ReadsParts}
+use Rattle.gx_cli.specs.Serving.{AnswersBatch, AnswersLines, EndsAnswered, EndsOpened, IsRefused, ReadsParts}
 use Rattle.gx_cli.specs.declared.fault.CliFault.{CliFault}
 use Rattle.gx_cli.specs.declared.fault.CliFault.TheVariants.{BadFormat, OutOfMemory}
 use Rattle.gx_cli.specs.declared.serving.Outcome.{Outcome}
@@ -38,18 +37,3 @@ module _ (name : Kind → Bytes → Bytes) {A : Type 0} (form : BatchForm) (give
       by None = (inr r, same)
       by (Some parts) = inl (r, same)
   lines_unformatted wanted fault h r same = absurd h
-
--- the same over a repository, whose answer is that of the lines
-module _ (name : Kind → Bytes → Bytes) (form : BatchForm) (given : Option (List Part)) (r : Records) (coming : Option Coming) (was now : Option Taken) where
-  pub formatted : (parts : List Part) (ending wanted : LineEnding) (answer : Result (Unit {0}) CliFault) → given ≡ Some parts → ending ≡ wanted → AnswersBatch name form parts ending r coming was now answer → AnswersFormatted name form given wanted r coming was now answer
-  formatted parts ending wanted answer read same h =
-      subst (λ p. AnswersFormatted name form p wanted r coming was now answer) (sym read) (inr (subst (λ e. AnswersBatch name form parts e r coming was now answer) same h))
-
-  pub unformatted : {A : Type 0} (wanted : LineEnding) (fault : CliFault) → ReadsParts {A = A} given (Err fault) → now ≡ was → AnswersFormatted name form given wanted r coming was now (Err fault)
-  unformatted wanted BadFormat h same = subst (λ p. AnswersFormatted name form p wanted r coming was now (Err BadFormat)) (sym h) (inl refl, same)
-  unformatted wanted OutOfMemory h same = by given
-    where
-      by : (p : Option (List Part)) → AnswersFormatted name form p wanted r coming was now (Err OutOfMemory)
-      by None = (inr refl, same)
-      by (Some parts) = inl (refl, same)
-  unformatted wanted fault h same = absurd h

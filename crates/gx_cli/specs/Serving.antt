@@ -150,12 +150,6 @@ module _ (name : Kind → Bytes → Bytes) where
       × Answers (line_answer name form parts repository) ending coming was now answer
       × (result ≡ result_map_both (λ done. done) of_batch answer)
 
-  -- The same in a format, which is read before. A text that is no format is refused, and nothing went out.
-  abbrev pub AnswersFormatted : BatchForm → Option (List Part) → LineEnding → Records → Option Coming → Option Taken → Option Taken → Result (Unit {0}) CliFault → Type 0
-  AnswersFormatted form None ending r coming was now result = (result ≡ Err BadFormat ⊎ (result ≡ Err OutOfMemory)) × (now ≡ was)
-  AnswersFormatted form (Some parts) ending r coming was now result =
-      ((result ≡ Err OutOfMemory) × (now ≡ was)) ⊎ AnswersBatch form parts ending r coming was now result
-
   -- what is answered to what a line asks of a repository; to one that asks nothing, nothing
   abbrev pub IsAnswered : Line → Records → Option Coming → Option Taken → Option Taken → Result (Unit {0}) CliFault → Type 0
   IsAnswered (line.Show file word) r coming was now answer = Prints (show_text name (history_of r) word.now) was now answer

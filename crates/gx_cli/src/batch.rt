@@ -6,7 +6,7 @@ ghost use Rattle.gx_model.specs.Stores.StoreReading.{store_of};
 ghost use Rattle.gx_batch.specs.Batches.{Answers};
 ghost use Rattle.gx_batch.specs.declared.fault.BatchFault.{BatchFault};
 ghost use Rattle.gx_cli.specs.Gathering.{of_batch};
-ghost use Rattle.gx_cli.specs.Serving.{AnswersBatch, AnswersFormatted, AnswersLines, EndsAnswered, EndsOpened, ReadsParts, ending_of, format_parts};
+ghost use Rattle.gx_cli.specs.Serving.{AnswersBatch, AnswersLines, EndsAnswered, EndsOpened, ReadsParts, ending_of, format_parts};
 
 use crate::commands::Commands;
 use crate::opening::open;
@@ -54,7 +54,9 @@ pub(crate) fn batch_stored<N: Namer + Drop, R: Source + Drop, W: Sink, A: Alloca
 }
 
 /// The format of a text, or the usual one.
-fn read_format<A: Allocator + Copy>(alloc: A, text: Option<&str>) -> Result<Format<A>, CliFault>
+///
+/// `BadFormat`: the text is none. `OutOfMemory`: a growth was refused.
+pub fn read_format<A: Allocator + Copy>(alloc: A, text: Option<&str>) -> Result<Format<A>, CliFault>
     ensures { ReadsParts (format_parts text.entry) result }
 {
     match text {
@@ -69,7 +71,8 @@ fn read_format<A: Allocator + Copy>(alloc: A, text: Option<&str>) -> Result<Form
     }
 }
 
-fn ending_of(nul: bool) -> LineEnding
+/// How lines end, with NUL or with LF.
+pub fn ending_of(nul: bool) -> LineEnding
     ensures { result ≡ ending_of nul }
 {
     if nul { LineEnding::Nul } else { LineEnding::Lf }
@@ -94,34 +97,15 @@ fn batch_formatted<N: Namer + Drop, R: Source + Drop, W: Sink, A: Allocator + Co
         (W.taken sink.old) (W.taken sink.new) result }
 {
     match open(alloc, namer, store, state) {
-        Ok(repo) => outcome_of(batch(alloc, &repo, form, format, ending, source, sink)),
+        Ok(repo) => outcome_of(batch_opened(alloc, &repo, form, format, ending, source, sink)),
         Err(fault) => refused(CliFault::Store(fault)),
     }
 }
 
-/// Answers each line of a source over the repository of a store. The format is read first.
+/// Answers each line of a source over the repository of a store, in a format.
 ///
-/// `BadFormat`: the format isn't one, and nothing went out. Cost: that of `gx_batch::answer_lines`.
+/// `ReadFailed`, `WriteFailed`, `OutOfMemory`: the answers end there. Cost: that of `gx_batch::answer_lines`.
 pub fn batch_opened<N: Namer, R: Source + Drop, W: Sink, A: Allocator + Copy>(
-    alloc: A,
-    repo: &Repo<N, A>,
-    form: BatchForm,
-    format: Option<&str>,
-    nul: bool,
-    source: R,
-    sink: &mut W,
-) -> Result<(), CliFault>
-    ensures { AnswersFormatted (N.name_of repo.now.0) form (format_parts format.entry) (ending_of nul)
-        repo.now.1 (R.coming source) (W.taken sink.old) (W.taken sink.new) result }
-{
-    match read_format(alloc, format) {
-        Ok(format) => batch(alloc, repo, form, &format, ending_of(nul), source, sink),
-        Err(fault) => Err(fault),
-    }
-}
-
-/// Answers each line of a source over a repository.
-fn batch<N: Namer, R: Source + Drop, W: Sink, A: Allocator + Copy>(
     alloc: A,
     repo: &Repo<N, A>,
     form: BatchForm,

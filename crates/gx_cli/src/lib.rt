@@ -41,7 +41,7 @@ mod where_place;
 mod words;
 
 pub use adapt::{adapt_status, adapt_stream, lost_lines};
-pub use batch::batch_opened;
+pub use batch::{batch_opened, ending_of, read_format};
 pub use check::check_stream;
 pub use drop_refs::{drop_named, drop_store};
 pub use explaining::{explanation_lines, item_line};

@@ -7,7 +7,7 @@ use Rattle.gx_cli.proofs.batch.batch_formatted.Goals as goal
 pub returns-in-Ok : goal.returns-in-Ok
 returns-in-Ok g c =
     let was = g.W.Sink.taken c.args.sink.now in
-    let now = g.W.Sink.taken c.batch.new.sink in
+    let now = g.W.Sink.taken c.batch_opened.new.sink in
     of_read c.args.namer c.in-Ok.repo (store_of (g.N.Namer.name_of c.args.namer) c.args.store.items)
     (λ namer stored. EndsOpened stored (λ r. EndsAnswered (AnswersBatch (g.N.Namer.name_of namer) c.args.form c.args.format.now.parts.items c.args.ending r (g.R.Source.coming c.args.source) was now) c.outcome_of.result) was now c.outcome_of.result)
-    c.in-Ok.ensures.namer c.in-Ok.ensures.store (inr (c.batch.result, c.batch.ensures, c.outcome_of.ensures))
+    c.in-Ok.ensures.namer c.in-Ok.ensures.store (inr (c.batch_opened.result, c.batch_opened.ensures, c.outcome_of.ensures))

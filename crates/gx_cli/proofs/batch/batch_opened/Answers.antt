@@ -1,14 +1,18 @@
-use Rattle.std.proofs.Common.{refl}
-use Rattle.gx_cli.specs.Serving.{ending_of, format_parts}
-use Rattle.gx_cli.proofs.FormattedLines.{formatted, unformatted}
+use Rattle.std.proofs.Common.{subst, sym}
+use Rattle.gx_cli.specs.Serving.{AnswersBatch}
 use Rattle.gx_cli.proofs.batch.batch_opened.Goals as goal
 
-pub returns-in-Ok : goal.returns-in-Ok
-returns-in-Ok g c =
-    formatted (g.N.Namer.name_of c.args.repo.now.0) c.args.form (format_parts c.args.format) c.args.repo.now.1 (g.R.Source.coming c.args.source) (g.W.Sink.taken c.args.sink.now) (g.W.Sink.taken c.batch.new.sink)
-    c.in-Ok.format.parts.items c.ending_of.result (ending_of c.args.nul) c.batch.result c.in-Ok.ensures c.ending_of.ensures c.batch.ensures
+pub returns-in-Bytes : goal.returns-in-Bytes
+returns-in-Bytes g c =
+    let r = c.args.repo.now in
+    subst (λ form. AnswersBatch (g.N.Namer.name_of r.0) form c.args.format.now.parts.items c.args.ending r.1 (g.R.Source.coming c.args.source) (g.W.Sink.taken c.args.sink.now) (g.W.Sink.taken c.answer_all.new.sink) c.answer_all.result) (sym c.in-Bytes.is) c.answer_all.ensures
 
-pub returns-in-Err : goal.returns-in-Err
-returns-in-Err g c =
-    let was = g.W.Sink.taken c.args.sink.now in
-    unformatted (g.N.Namer.name_of c.args.repo.now.0) c.args.form (format_parts c.args.format) c.args.repo.now.1 (g.R.Source.coming c.args.source) was was (ending_of c.args.nul) c.in-Err.fault c.in-Err.ensures refl
+pub returns-in-Check : goal.returns-in-Check
+returns-in-Check g c =
+    let r = c.args.repo.now in
+    subst (λ form. AnswersBatch (g.N.Namer.name_of r.0) form c.args.format.now.parts.items c.args.ending r.1 (g.R.Source.coming c.args.source) (g.W.Sink.taken c.args.sink.now) (g.W.Sink.taken c.answer_all-in-Check.new.sink) c.answer_all-in-Check.result) (sym c.in-Check.is) c.answer_all-in-Check.ensures
+
+pub returns-in-Commands : goal.returns-in-Commands
+returns-in-Commands g c =
+    let r = c.args.repo.now in
+    subst (λ form. AnswersBatch (g.N.Namer.name_of r.0) form c.args.format.now.parts.items c.args.ending r.1 (g.R.Source.coming c.args.source) (g.W.Sink.taken c.args.sink.now) (g.W.Sink.taken c.answer_all-in-Commands.new.sink) c.answer_all-in-Commands.result) (sym c.in-Commands.is) c.answer_all-in-Commands.ensures

@@ -52,7 +52,7 @@ store it looks at the tables, too, which other commands need not do.",
     details: "\
 Output:
   Lines of a word and a number: version, objects, refs and bytes, which is how
-  long the text of the store is.
+  long FILE is.
 
 Refusals:
   gx: read failed

@@ -1,0 +1,4 @@
+pub mod Digests
+pub mod SentGrowing
+pub mod SentParts
+pub mod Whole

@@ -65,20 +65,6 @@ fn text_to<A: Allocator + Copy>(alloc: A, text: Text<A>, ends: u64) -> Result<Te
     Ok(front)
 }
 
-/// The text up to this place: itself where it ends there, and otherwise a copy of its front.
-fn text_to_w5<A: Allocator + Copy>(alloc: A, text: Text<A>, ends: u64) -> Result<Text<A>, OutOfMemory>
-    requires { ends ≤ length text }
-    ensures { IfOk result (λ front. front ≡ take ends text) }
-{
-    let bytes = text.as_slice();
-    if ends <= bytes.len() as u64 {
-        return Ok(text);
-    }
-    let front = Vec::from_slice(alloc, &bytes[..ends as usize])?;
-    let front = Text::new(alloc, front)?;
-    Ok(front)
-}
-
 /// Reads what stands behind the head of a text, which ends where its slot says, into a repository that holds nothing.
 fn read_into<N: Namer, A: Allocator + Copy>(
     alloc: A,
@@ -109,96 +95,6 @@ fn read_into<N: Namer, A: Allocator + Copy>(
     Ok(())
 }
 
-/// Reads what stands behind the head of a text, which ends where its slot says, into a repository that holds nothing.
-fn read_into_w7<N: Namer, A: Allocator + Copy>(
-    alloc: A,
-    repo: &mut Repo<N, A>,
-    whole: &Text<A>,
-    slot: &Slot,
-) -> Result<(), GrowingFault>
-    requires empty { repo.old.1 ≡ record { records = []; refs = [] } }
-    requires ends { slot.now.ends ≡ length whole.now }
-    ensures namer { repo.new.0 ≡ repo.old.0 }
-    ensures store { ReadsGrown (λ _. repo.new.1) result
-        (grown_behind (N.name_of repo.old.0) sha256 (shown_slot slot.now) whole.now) }
-{
-    let bytes = whole.as_slice();
-    let mut places = Vec::new(alloc);
-    if bytes.len() < HEAD {
-        return Err(GrowingFault::Text(FileFault::Truncated));
-    }
-    let (_head, rest) = bytes.split_at(HEAD);
-    let tail = read_segments(alloc, repo, &mut places, whole, rest)?;
-    if slot.tail == u64::MAX {
-        return Err(GrowingFault::Text(FileFault::BadRecord));
-    }
-    if !has_rows(alloc, repo, places.as_slice(), bytes, slot, &tail)? {
-        return Err(GrowingFault::BadRows);
-    }
-    let _rest = read_refs(alloc, repo, tail.count, tail.refs)?;
-    Ok(())
-}
-
-/// Reads what stands behind the head of a text, which ends where its slot says, into a repository that holds nothing.
-fn read_into_w6<N: Namer, A: Allocator + Copy>(
-    alloc: A,
-    repo: &mut Repo<N, A>,
-    whole: &Text<A>,
-    slot: &Slot,
-) -> Result<(), GrowingFault>
-    requires empty { repo.old.1 ≡ record { records = []; refs = [] } }
-    requires ends { slot.now.ends ≡ length whole.now }
-    ensures namer { repo.new.0 ≡ repo.old.0 }
-    ensures store { ReadsGrown (λ _. repo.new.1) result
-        (grown_behind (N.name_of repo.old.0) sha256 (shown_slot slot.now) whole.now) }
-{
-    let bytes = whole.as_slice();
-    let mut places = Vec::new(alloc);
-    if bytes.len() < HEAD {
-        return Err(GrowingFault::Text(FileFault::Truncated));
-    }
-    let (_head, rest) = bytes.split_at(HEAD);
-    let tail = read_segments(alloc, repo, &mut places, whole, rest)?;
-    if (bytes.len() - tail.text.len()) as u64 != slot.tail {
-        return Err(GrowingFault::Text(FileFault::BadRecord));
-    }
-    if !has_rows(alloc, repo, places.as_slice(), bytes, slot, &tail)? {
-        return Err(GrowingFault::BadRows);
-    }
-    let _rest = read_refs(alloc, repo, 0, tail.refs)?;
-    Ok(())
-}
-
-/// Reads what stands behind the head of a text, which ends where its slot says, into a repository that holds nothing.
-fn read_into_w3<N: Namer, A: Allocator + Copy>(
-    alloc: A,
-    repo: &mut Repo<N, A>,
-    whole: &Text<A>,
-    slot: &Slot,
-) -> Result<(), GrowingFault>
-    requires empty { repo.old.1 ≡ record { records = []; refs = [] } }
-    requires ends { slot.now.ends ≡ length whole.now }
-    ensures namer { repo.new.0 ≡ repo.old.0 }
-    ensures store { ReadsGrown (λ _. repo.new.1) result
-        (grown_behind (N.name_of repo.old.0) sha256 (shown_slot slot.now) whole.now) }
-{
-    let bytes = whole.as_slice();
-    let mut places = Vec::new(alloc);
-    if bytes.len() < HEAD {
-        return Err(GrowingFault::Text(FileFault::Truncated));
-    }
-    let (_head, rest) = bytes.split_at(HEAD);
-    let tail = read_segments(alloc, repo, &mut places, whole, rest)?;
-    if (bytes.len() - tail.text.len()) as u64 != slot.tail {
-        return Err(GrowingFault::Text(FileFault::BadRecord));
-    }
-    if slot.ends == 0 && !has_rows(alloc, repo, places.as_slice(), bytes, slot, &tail)? {
-        return Err(GrowingFault::BadRows);
-    }
-    let _rest = read_refs(alloc, repo, tail.count, tail.refs)?;
-    Ok(())
-}
-
 /// Whether the last tail of a text has the digest of its slot, and its live runs tell where the records are.
 fn has_rows<N: Namer, A: Allocator + Copy>(
     alloc: A,
@@ -214,29 +110,6 @@ fn has_rows<N: Namer, A: Allocator + Copy>(
     ensures fault { IfErr result (λ fault. fault ≡ faults.OutOfMemory) }
 {
     if digest_of(tail.text) != slot.digest {
-        return Ok(false);
-    }
-    match check_rows(alloc, repo.store(), places, text, tail.runs.as_slice()) {
-        Ok(told) => Ok(told),
-        Err(_) => Err(FileFault::OutOfMemory),
-    }
-}
-
-/// Whether the last tail of a text has the digest of its slot, and its live runs tell where the records are.
-fn has_rows_w2<N: Namer, A: Allocator + Copy>(
-    alloc: A,
-    repo: &Repo<N, A>,
-    places: &[u64],
-    text: &[u8],
-    slot: &Slot,
-    tail: &Tail<'_, A>,
-) -> Result<bool, FileFault>
-    requires aligned { length places.now ≡ length repo.now.1.records }
-    ensures rows { IfOk result (λ told. told ≡ has_rows sha256 text.now (shown_slot slot.now)
-        (seen_with repo.now.1.records places.now tail.now)) }
-    ensures fault { IfErr result (λ fault. fault ≡ faults.OutOfMemory) }
-{
-    if tail.text.is_empty() {
         return Ok(false);
     }
     match check_rows(alloc, repo.store(), places, text, tail.runs.as_slice()) {

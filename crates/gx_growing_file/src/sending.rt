@@ -111,34 +111,6 @@ fn run_of<A: Allocator>(count: usize, table: &Table<A>) -> Option<Run>
     })
 }
 
-/// The run of a table with so many rows, and none where it has none.
-fn run_of_w9<A: Allocator>(count: usize, table: &Table<A>) -> Option<Run>
-    ensures { runs_of result ≡ runs_from table.now.place count table.now.digests.items }
-{
-    if count <= 1 {
-        return None;
-    }
-    Some(Run {
-        place: table.place,
-        count: count as u64,
-        digest: digest_of(table.digests.as_slice()),
-    })
-}
-
-/// The run of a table with so many rows, and none where it has none.
-fn run_of_w1<A: Allocator>(count: usize, table: &Table<A>) -> Option<Run>
-    ensures { runs_of result ≡ runs_from table.now.place count table.now.digests.items }
-{
-    if count == 0 {
-        return None;
-    }
-    Some(Run {
-        place: table.place,
-        count: count as u64,
-        digest: digest_of(table.rows.as_slice()),
-    })
-}
-
 /// The slot of a text that ends with a table and a tail, if it has fewer than 2^63 bytes.
 fn slot_of<A: Allocator>(table: &Table<A>, tail: &[u8]) -> Option<Slot>
     ensures slot { IfSome result (λ slot.
@@ -155,26 +127,6 @@ fn slot_of<A: Allocator>(table: &Table<A>, tail: &[u8]) -> Option<Slot>
     Some(Slot {
         ends,
         tail: begins,
-        digest: digest_of(tail),
-    })
-}
-
-/// The slot of a text that ends with a table and a tail, if it has fewer than 2^63 bytes.
-fn slot_of_w8<A: Allocator>(table: &Table<A>, tail: &[u8]) -> Option<Slot>
-    ensures slot { IfSome result (λ slot.
-        shown_slot slot ≡ slot_from (ends_of table.now tail.now) tail.now) }
-    ensures short { IfSome result (λ slot. slot.ends < 2 ^ 63) }
-{
-    let rows = table.place.checked_add(table.rows.len() as u64)?;
-    let digests = rows.checked_add(table.digests.len() as u64)?;
-    let begins = digests.checked_add(1)?;
-    let ends = begins.checked_add(tail.len() as u64)?;
-    if ends >= 1 << 63 {
-        return None;
-    }
-    Some(Slot {
-        ends,
-        tail: digests,
         digest: digest_of(tail),
     })
 }
@@ -278,34 +230,6 @@ fn send_head<W: Sink>(sink: &mut W, ends: u64, tail: u64, digest: &[u8; 32]) -> 
         sink,
         &[
             b"gxstore 3\na\n",
-            zeros_before(ends_text),
-            ends_text,
-            b" ",
-            zeros_before(tail_text),
-            tail_text,
-            b" ",
-            digits.as_slice(),
-            b"\n00000000000000000000 00000000000000000000 ",
-            b"0000000000000000000000000000000000000000000000000000000000000000\n",
-        ],
-    )
-}
-
-/// Sends the head of a growing text whose first slot is picked, and says this.
-fn send_head_w4<W: Sink>(sink: &mut W, ends: u64, tail: u64, digest: &[u8; 32]) -> Result<(), Failed>
-    ensures { Sent (head_text (codes "a")
-        (slot_text (record { ends = ends; tail = tail; digest = digest.now })) (slot_text no_slot))
-        (W.taken sink.old) (W.taken sink.new) result }
-{
-    let mut ends_digits = Buffer::new();
-    let ends_text = ends_digits.format(ends).as_bytes();
-    let mut tail_digits = Buffer::new();
-    let tail_text = tail_digits.format(tail).as_bytes();
-    let digits = digest_digits(digest.as_slice());
-    send_all(
-        sink,
-        &[
-            b"gxstore 3\nb\n",
             zeros_before(ends_text),
             ends_text,
             b" ",

@@ -1,5 +1,4 @@
-pub mod Steps
-pub mod Placed
-pub mod Counted
-pub mod Segments
+pub mod Digests
+pub mod SentGrowing
+pub mod SentParts
 pub mod Whole

@@ -1,3 +1,2 @@
 pub mod Grown
-pub mod Seen
-pub mod Placing
+pub mod Sending

@@ -1,11 +1,8 @@
-//! The text of a store file that grows: a whole repository, read with every claim checked.
+//! The text of a store file that grows: a whole repository, read with every claim checked, and written anew as one segment.
 //! What is read is a sound repository, and the tables of names in the text are those of its records.
 #![tactic(auto)]
 
 mod reading;
-mod refs;
-mod rows;
-mod segments;
 mod sending;
 
 pub use gx_growing::GrowingFault;

@@ -1,10 +1,21 @@
 //! Writing a growing text anew, as one segment. Source: this project's own format.
+ghost use Rattle.std.specs.Prelude.{◌≡◌, ◌++◌, ◌∷◌, ◌-◌, ◌<◌, ◌^◌, [], codes, length, replicate, IfOk, IfSome};
+ghost use Rattle.std.specs.List.{flat_map};
+ghost use Rattle.sha2.specs.Sha256.{sha256};
+ghost use Rattle.gx_model.specs.Objects.{hex, line};
+ghost use Rattle.gx_model.specs.Texts.Numbers.{number_text};
+ghost use Rattle.gx_growing.specs.GrowingText.{first_runs, growing_text, head_text, no_slot, rows_text, run_text, slot_text, tail_text};
+ghost use Rattle.gx_growing_parts.specs.Shown.{shown_slot};
+ghost use Rattle.gx_file.specs.Sending.{Sent};
+ghost use Rattle.gx_growing_file.specs.Grown.{IsGrownFrom};
+ghost use Rattle.gx_growing_file.specs.Sending.{LaysOut, SentGrown, ends_of, runs_from, runs_of, slot_from};
 
-use gx_file::{send_count, send_records, send_refs, send_text};
-use gx_growing_parts::{HEAD, digest_of};
-use gx_object::{Name, Namer};
+use gx_file::{send_all, send_records, send_refs, send_text};
+use gx_growing::growing_laws::growing_is_read;
+use gx_growing_parts::{Run, Slot, digest_of};
+use gx_growing_rows::{Table, first_table};
+use gx_object::Namer;
 use gx_repo::Repo;
-use gx_store::Store;
 use gx_text::{Failed, Growing, Sink};
 use itoa::Buffer;
 use std::alloc::{AllocError, Allocator};
@@ -12,72 +23,30 @@ use std::alloc::{AllocError, Allocator};
 /// Why a growing text isn't written.
 #[derive(Clone, Copy, Debug, PartialEq, Eq)]
 pub enum WriteFault {
-    /// A growth was refused, or the text has 2^64 bytes or more. Nothing was sent.
+    /// A growth was refused, or the text has 2^63 bytes or more. Nothing was sent.
     OutOfMemory,
     /// The sink failed.
     Failed,
 }
 
-impl From<Failed> for WriteFault {
-    fn from(_failed: Failed) -> WriteFault {
-        WriteFault::Failed
-    }
+/// What stands around the records in the growing text of a repository.
+#[derive(Drop)]
+struct Layout<A: Allocator> {
+    slot: Slot,
+    table: Table<A>,
+    tail: Vec<u8, A>,
 }
 
-impl From<AllocError> for WriteFault {
-    fn from(_refused: AllocError) -> WriteFault {
-        WriteFault::OutOfMemory
-    }
-}
-
-/// The name of a record, and where its line begins.
-#[derive(Clone, Copy, Debug, PartialEq, Eq, PartialOrd, Ord)]
-struct Row {
-    name: Name,
-    place: u64,
-}
-
-/// Sends the growing text of a repository: one segment with all objects, their rows in the order of names, and the refs.
+/// The growing text of a repository, with one segment: all objects, their rows in the order of names, and the refs.
 ///
-/// Cost: the text's length, and that of sorting the rows. Memory: the rows with their pages' digests, and the tail; the bodies go
-/// out from where the repository has them.
-pub fn write_to<N: Namer, A: Allocator + Copy, W: Sink>(
-    alloc: A,
-    repo: &Repo<N, A>,
-    sink: &mut W,
-) -> Result<(), WriteFault> {
-    let store = repo.store();
-    let count = store.len();
-    let (rows, behind) = sorted_rows(alloc, store)?;
-    let table = table_of(alloc, rows.as_slice())?;
-    let Some(place) = behind.checked_add(count_length(b"rows", count)) else {
-        return Err(WriteFault::OutOfMemory);
-    };
-    let tail = tail_of(alloc, repo, place, table.as_slice())?;
-    let Some(begins) = place.checked_add(table.len() as u64 + 1) else {
-        return Err(WriteFault::OutOfMemory);
-    };
-    let Some(ends) = begins.checked_add(tail.len() as u64) else {
-        return Err(WriteFault::OutOfMemory);
-    };
-    send_text(sink, b"gxstore 3\na\n")?;
-    send_slot(sink, ends, begins, &digest_of(tail.as_slice()))?;
-    send_slot(sink, 0, 0, &[0; 32])?;
-    send_records(repo, sink)?;
-    send_count(sink, b"rows", count)?;
-    send_text(sink, table.as_slice())?;
-    send_text(sink, b"\n")?;
-    send_text(sink, tail.as_slice())?;
-    Ok(())
-}
-
-/// The growing text of a repository, which [`write_to`] sends.
-///
-/// Cost and memory: the text.
+/// Cost: the text's length, and that of sorting the rows. Memory: the text, and two rows for each object.
 pub fn write<N: Namer, A: Allocator + Copy>(
     alloc: A,
     repo: &Repo<N, A>,
-) -> Result<Vec<u8, A>, AllocError> {
+) -> Result<Vec<u8, A>, AllocError>
+    ensures text { IfOk result (λ text. text.items ≡ growing_text sha256 repo.now.1) }
+    ensures read { IfOk result (λ text. IsGrownFrom N.name_of text.items repo.now) }
+{
     let mut sink = Growing::new(alloc);
     match write_to(alloc, repo, &mut sink) {
         Ok(()) => Ok(sink.into_bytes()),
@@ -85,118 +54,235 @@ pub fn write<N: Namer, A: Allocator + Copy>(
     }
 }
 
-/// The rows of all objects in the order of names, and where their records end.
-fn sorted_rows<N: Namer, A: Allocator + Copy>(
+/// Sends the growing text of a repository that [`write`] makes. Each body goes out from where the repository has it.
+///
+/// `OutOfMemory`: a growth was refused, or the text has 2^63 bytes or more; nothing was sent. `Failed`: the sink failed; what it
+/// took is a front of the text.
+/// Cost: the text's length, and that of sorting the rows. Memory: two rows for each object, and the refs' lines.
+pub fn write_to<N: Namer, A: Allocator + Copy, W: Sink>(
     alloc: A,
-    store: &Store<N, A>,
-) -> Result<(Vec<Row, A>, u64), AllocError> {
-    let mut rows = Vec::new(alloc);
-    let mut place = HEAD as u64 + count_length(b"objects", store.len());
-    for at in 0..store.len() {
-        let Some((name, kind, body)) = store.record(at) else {
-            unreachable!();
-        };
-        rows.push(Row { name, place })?;
-        let line = kind.word().len() + count_length(b"", body.len()) as usize + 41;
-        let Some(next) = place.checked_add(line as u64 + body.len() as u64 + 1) else {
-            return Err(AllocError);
-        };
-        place = next;
+    repo: &Repo<N, A>,
+    sink: &mut W,
+) -> Result<(), WriteFault>
+    ensures text { SentGrown (growing_text sha256 repo.now.1)
+        (W.taken sink.old) (W.taken sink.new) result }
+    ensures read { IfOk result (λ _.
+        IsGrownFrom N.name_of (growing_text sha256 repo.now.1) repo.now) }
+{
+    repo.sound();
+    growing_is_read();
+    let Ok(layout) = layout_of(alloc, repo) else {
+        return Err(WriteFault::OutOfMemory);
+    };
+    match send_laid_out(repo, &layout, sink) {
+        Ok(()) => Ok(()),
+        Err(_) => Err(WriteFault::Failed),
     }
-    rows.sort_unstable();
-    Ok((rows, place))
 }
 
-/// How many bytes the line of a word and a number has.
-fn count_length(word: &[u8], count: usize) -> u64 {
-    let mut digits = Buffer::new();
-    (word.len() + 1 + digits.format(count).len() + 1) as u64
+/// What stands around the records of a repository, whose text has fewer than 2^63 bytes.
+fn layout_of<N: Namer, A: Allocator + Copy>(
+    alloc: A,
+    repo: &Repo<N, A>,
+) -> Result<Layout<A>, AllocError>
+    ensures { IfOk result (LaysOut repo.now.1) }
+{
+    let store = repo.store();
+    let table = first_table(alloc, store)?;
+    let run = run_of(store.len(), &table);
+    let tail = tail_of(alloc, repo, run)?;
+    let Some(slot) = slot_of(&table, tail.as_slice()) else {
+        return Err(AllocError);
+    };
+    Ok(Layout { slot, table, tail })
 }
 
-/// The bytes of rows, and the digests of their pages behind them.
-fn table_of<A: Allocator + Copy>(alloc: A, rows: &[Row]) -> Result<Vec<u8, A>, AllocError> {
-    let mut table = Vec::new(alloc);
-    for row in rows {
-        table.extend_from_slice(&row.name.bytes)?;
-        table.extend_from_slice(&row.place.to_be_bytes())?;
+/// The run of a table with so many rows, and none where it has none.
+fn run_of<A: Allocator>(count: usize, table: &Table<A>) -> Option<Run>
+    ensures { runs_of result ≡ runs_from table.now.place count table.now.digests.items }
+{
+    if count == 0 {
+        return None;
     }
-    let mut from = 0;
-    let end = table.len();
-    while from < end {
-        let to = end.min(from + 16_380);
-        let digest = digest_of(&table[from..to]);
-        table.extend_from_slice(&digest)?;
-        from = to;
-    }
-    Ok(table)
+    Some(Run {
+        place: table.place,
+        count: count as u64,
+        digest: digest_of(table.digests.as_slice()),
+    })
 }
 
-/// The tail of a segment whose table stands at this place.
+/// The slot of a text that ends with a table and a tail, if it has fewer than 2^63 bytes.
+fn slot_of<A: Allocator>(table: &Table<A>, tail: &[u8]) -> Option<Slot>
+    ensures slot { IfSome result (λ slot.
+        shown_slot slot ≡ slot_from (ends_of table.now tail.now) tail.now) }
+    ensures short { IfSome result (λ slot. slot.ends < 2 ^ 63) }
+{
+    let rows = table.place.checked_add(table.rows.len() as u64)?;
+    let digests = rows.checked_add(table.digests.len() as u64)?;
+    let begins = digests.checked_add(1)?;
+    let ends = begins.checked_add(tail.len() as u64)?;
+    if ends >= 1 << 63 {
+        return None;
+    }
+    Some(Slot {
+        ends,
+        tail: begins,
+        digest: digest_of(tail),
+    })
+}
+
+/// The tail of a segment with these runs and the refs of a repository.
 fn tail_of<N: Namer, A: Allocator + Copy>(
     alloc: A,
     repo: &Repo<N, A>,
-    place: u64,
-    table: &[u8],
-) -> Result<Vec<u8, A>, AllocError> {
+    run: Option<Run>,
+) -> Result<Vec<u8, A>, AllocError>
+    ensures { IfOk result (λ tail. tail.items ≡ tail_text (runs_of run) repo.now.1.refs) }
+{
     let mut tail = Growing::new(alloc);
-    match put_tail(&mut tail, repo, place, table) {
+    match send_tail(repo, run, &mut tail) {
         Ok(()) => Ok(tail.into_bytes()),
         Err(Failed) => Err(AllocError),
     }
 }
 
-/// Sends the tail of a segment whose table stands at this place.
-fn put_tail<N: Namer, A: Allocator + Copy, W: Sink>(
-    sink: &mut W,
+/// Sends the tail of a segment with these runs and the refs of a repository.
+fn send_tail<N: Namer, A: Allocator + Copy, W: Sink>(
     repo: &Repo<N, A>,
-    place: u64,
-    table: &[u8],
-) -> Result<(), Failed> {
-    let count = repo.store().len();
-    if count == 0 {
-        send_text(sink, b"runs 0\n")?;
-    } else {
-        send_text(sink, b"runs 1\n")?;
-        send_run(sink, place, count, &digest_of(&table[28 * count..]))?;
-    }
+    run: Option<Run>,
+    sink: &mut W,
+) -> Result<(), Failed>
+    ensures { Sent (tail_text (runs_of run) repo.now.1.refs)
+        (W.taken sink.old) (W.taken sink.new) result }
+{
+    send_runs(sink, run)?;
     send_refs(repo, sink)?;
     send_text(sink, b"end\n")
 }
 
-/// Sends the line of a run.
-fn send_run<W: Sink>(sink: &mut W, place: u64, count: usize, digest: &[u8; 32]) -> Result<(), Failed> {
-    let mut number = Buffer::new();
-    send_text(sink, number.format(place).as_bytes())?;
-    send_text(sink, b" ")?;
-    send_text(sink, number.format(count).as_bytes())?;
-    send_text(sink, b" ")?;
-    send_digest(sink, digest)?;
-    send_text(sink, b"\n")
+/// Sends the number of runs and the runs, of which there is one or none.
+fn send_runs<W: Sink>(sink: &mut W, run: Option<Run>) -> Result<(), Failed>
+    ensures { Sent (line (codes "runs") (number_text (length (runs_of run)))
+        ++ flat_map run_text (runs_of run))
+        (W.taken sink.old) (W.taken sink.new) result }
+{
+    match run {
+        Some(run) => send_run(sink, run.place, run.count, &run.digest),
+        None => send_text(sink, b"runs 0\n"),
+    }
 }
 
-/// Sends a slot and an LF.
-fn send_slot<W: Sink>(sink: &mut W, ends: u64, tail: u64, digest: &[u8; 32]) -> Result<(), Failed> {
-    send_long(sink, ends)?;
-    send_text(sink, b" ")?;
-    send_long(sink, tail)?;
-    send_text(sink, b" ")?;
-    send_digest(sink, digest)?;
-    send_text(sink, b"\n")
+/// Sends the line that tells that there is one run, and the run.
+fn send_run<W: Sink>(sink: &mut W, place: u64, count: u64, digest: &[u8; 32]) -> Result<(), Failed>
+    ensures { Sent (line (codes "runs") (number_text 1)
+        ++ flat_map run_text ((record { place = place; count = count; digest = digest.now }) ∷ []))
+        (W.taken sink.old) (W.taken sink.new) result }
+{
+    let mut place_digits = Buffer::new();
+    let mut count_digits = Buffer::new();
+    let digits = digest_digits(digest.as_slice());
+    send_all(
+        sink,
+        &[
+            b"runs 1\n",
+            place_digits.format(place).as_bytes(),
+            b" ",
+            count_digits.format(count).as_bytes(),
+            b" ",
+            digits.as_slice(),
+            b"\n",
+        ],
+    )
 }
 
-/// Sends a number with twenty digits.
-fn send_long<W: Sink>(sink: &mut W, number: u64) -> Result<(), Failed> {
-    let mut buffer = Buffer::new();
-    let digits = buffer.format(number).as_bytes();
-    send_text(sink, &b"00000000000000000000"[digits.len()..])?;
-    send_text(sink, digits)
+/// Sends a repository's growing text, of which this stands around the records.
+fn send_laid_out<N: Namer, A: Allocator + Copy, W: Sink>(
+    repo: &Repo<N, A>,
+    layout: &Layout<A>,
+    sink: &mut W,
+) -> Result<(), Failed>
+    requires { LaysOut repo.now.1 layout.now }
+    ensures { Sent (growing_text sha256 repo.now.1) (W.taken sink.old) (W.taken sink.new) result }
+{
+    send_head(
+        sink,
+        layout.slot.ends,
+        layout.slot.tail,
+        &layout.slot.digest,
+    )?;
+    send_records(repo, sink)?;
+    let count = repo.store().len();
+    send_table(sink, count, &layout.table, layout.tail.as_slice())
 }
 
-/// Sends the digits of a digest.
-fn send_digest<W: Sink>(sink: &mut W, digest: &[u8; 32]) -> Result<(), Failed> {
+/// Sends the head of a growing text whose first slot is picked, and says this.
+fn send_head<W: Sink>(sink: &mut W, ends: u64, tail: u64, digest: &[u8; 32]) -> Result<(), Failed>
+    ensures { Sent (head_text (codes "a")
+        (slot_text (record { ends = ends; tail = tail; digest = digest.now })) (slot_text no_slot))
+        (W.taken sink.old) (W.taken sink.new) result }
+{
+    let mut ends_digits = Buffer::new();
+    let ends_text = ends_digits.format(ends).as_bytes();
+    let mut tail_digits = Buffer::new();
+    let tail_text = tail_digits.format(tail).as_bytes();
+    let digits = digest_digits(digest.as_slice());
+    send_all(
+        sink,
+        &[
+            b"gxstore 3\na\n",
+            zeros_before(ends_text),
+            ends_text,
+            b" ",
+            zeros_before(tail_text),
+            tail_text,
+            b" ",
+            digits.as_slice(),
+            b"\n00000000000000000000 00000000000000000000 ",
+            b"0000000000000000000000000000000000000000000000000000000000000000\n",
+        ],
+    )
+}
+
+/// The zeros that stand in front of a number where it has twenty digits.
+fn zeros_before(digits: &[u8]) -> &[u8]
+    ensures { result.now ≡ replicate (20 - length digits.now) 48 }
+{
+    b"00000000000000000000".split_at(digits.len().min(20)).1
+}
+
+/// Sends a table of so many rows with its line, and what follows it.
+fn send_table<A: Allocator, W: Sink>(
+    sink: &mut W,
+    count: usize,
+    table: &Table<A>,
+    tail: &[u8],
+) -> Result<(), Failed>
+    ensures { Sent (rows_text count (table.now.rows.items ++ table.now.digests.items) tail.now)
+        (W.taken sink.old) (W.taken sink.new) result }
+{
+    let mut digits = Buffer::new();
+    send_all(
+        sink,
+        &[
+            b"rows ",
+            digits.format(count).as_bytes(),
+            b"\n",
+            table.rows.as_slice(),
+            table.digests.as_slice(),
+            b"\n",
+            tail,
+        ],
+    )
+}
+
+/// The digits of a digest, in lower case.
+fn digest_digits(digest: &[u8]) -> [u8; 64]
+    requires { length digest.now ≡ 32 }
+    ensures { result ≡ hex digest.now }
+{
     let mut digits = [0; 64];
-    match hex::encode_to_slice(digest.as_slice(), &mut digits) {
-        Ok(()) => send_text(sink, digits.as_slice()),
-        Err(_) => Err(Failed),
+    match hex::encode_to_slice(digest, &mut digits) {
+        Ok(()) => digits,
+        Err(_) => unreachable!(),
     }
 }

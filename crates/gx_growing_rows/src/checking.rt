@@ -31,7 +31,8 @@ pub fn check_rows<N: Namer, A: Allocator + Copy>(
     runs: &[Run],
 ) -> Result<bool, AllocError>
     requires aligned { length places.now ≡ length store.now.1 }
-    ensures { IfOk result (λ told. told ≡ (list_all (is_standing sha256 text.now) (map shown_run runs.now)
+    ensures { IfOk result (λ told. told ≡ (
+        list_all (is_standing sha256 text.now) (map shown_run runs.now)
         && same_rows (sorted_rows (live_rows text.now (map shown_run runs.now)))
         (sorted_rows (rows_of store.now.1 places.now)))) }
 {
@@ -91,7 +92,8 @@ fn push_run<A: Allocator + Copy>(
     run: &Run,
 ) -> Result<bool, AllocError>
     requires { length live.old.items ≤ most }
-    ensures { PushesRun sha256 text.now most (shown_run run.now) live.old.items live.new.items result }
+    ensures { PushesRun sha256 text.now most (shown_run run.now)
+        live.old.items live.new.items result }
 {
     let Some(rows) = standing_rows(text, run) else {
         return Ok(false);

@@ -33,7 +33,8 @@ pub fn first_table<N: Namer, A: Allocator + Copy>(
 ) -> Result<Table<A>, AllocError>
     ensures place { IfOk result (λ table. table.place ≡ rows_place store.now.1) }
     ensures rows { IfOk result (λ table. table.rows.items ≡ first_rows store.now.1) }
-    ensures digests { IfOk result (λ table. table.digests.items ≡ page_digests sha256 table.rows.items) }
+    ensures digests { IfOk result (λ table.
+        table.digests.items ≡ page_digests sha256 table.rows.items) }
 {
     let count = store.len();
     let (mut rows, behind) = placed(alloc, store, HEAD as u64 + line_length(b"objects", count))?;
@@ -78,8 +79,8 @@ fn placed<N: Namer, A: Allocator + Copy>(
 
 /// Where the text of a record ends that begins at a place, if that is below 2^64.
 fn behind_record(place: u64, name: &Name, kind: Kind, body: &[u8]) -> Option<u64>
-    ensures { IfSome result (λ behind. behind ≡ place
-        + length (stored_record Two (record { name = name.now.bytes; kind = kind; body = body.now }))) }
+    ensures { IfSome result (λ behind. behind ≡ place + length (stored_record Two
+        (record { name = name.now.bytes; kind = kind; body = body.now }))) }
 {
     // two spaces and an LF stand in the line beside the digits of the name, and an LF behind the body
     let line = kind.word().len() + digits_length(body.len()) + 2 * name.bytes.as_slice().len() + 4;

@@ -1,17 +1,18 @@
 -- Commands that read a store's text first, told apart from those that don't, and those that ask from those that leave a text.
-use Rattle.std.proofs.Common.{◌≡◌, ℕ, Bool, true, false, Bor, Global, Option, None, Vec, refl}
+use Rattle.std.proofs.Common.{◌≡◌, ℕ, Bool, Bor, Global, Option, None, Vec, refl}
 use Rattle.std.specs.Prelude.{IsSome}
 use Rattle.gx_model.specs.declared.objects.Kind.{Kind}
 use Rattle.gx_model.specs.Texts.{Bytes}
 use Rattle.gx_model.specs.Texts.Sinks.{Taken}
-use Rattle.gx_model.specs.Histories.{Records, empty_repository}
+use Rattle.gx_model.specs.Histories.{Records}
 use Rattle.gx_model.specs.Stores.StoreReading.{store_of}
 use Rattle.gx_text.specs.Devices.{Coming}
 use Rattle.gx_line.specs.declared.command_line.BatchForm.{BatchForm}
 use Rattle.gx_line.specs.declared.command_line.Line.{Line}
 use Rattle.gx_line.specs.declared.command_line.Line.TheVariants as line
 use Rattle.gx_line.specs.declared.command_line.RefChange.{RefChange}
-use Rattle.gx_cli.specs.Serving.{EndsAnswered, EndsOpened, IsAnswered, IsWritten, Serves, ServesExported, ServesOpened, without_room}
+use Rattle.gx_cli.specs.Serving.{EndsAnswered, EndsOpened, IsAnswered, IsRefused, Serves, ServesExported, ServesOpened, without_room}
+use Rattle.gx_cli.specs.declared.fault.CliFault.TheVariants.{ReadFailed}
 use Rattle.gx_cli.specs.declared.serving.Outcome.{Outcome}
 
 module _ (name : Kind → Bytes → Bytes) {A : Type 0} (o : Outcome A) (coming : Option Coming) (was now : Option Taken) where
@@ -43,27 +44,23 @@ module _ (name : Kind → Bytes → Bytes) {A : Type 0} (o : Outcome A) (coming 
   opened_served (line.Batch form format nul file) store s i m h = absurd (m form format nul file refl)
   opened_served l store s i m h = h
 
-  -- a command that has no use for one, and reads no source, makes one
-  pub made_served : (l : Line) (store : Bytes) → without_room l ≡ None → (l ≡ line.Blobs → ⊥) → ((word : Bor Bytes) (done force explain : Bool) → l ≡ line.Try word done force explain → ⊥)
+  -- a command that has no use for one, and reads what isn't here, is refused
+  pub refused_served : (l : Line) (store : Bytes) → without_room l ≡ None → (l ≡ line.Blobs → ⊥) → ((word : Bor Bytes) (done force explain : Bool) → l ≡ line.Try word done force explain → ⊥)
       → ((done force explain : Bool) → l ≡ line.Check done force explain → ⊥) → ((done force : Bool) → l ≡ line.WhereFault done force → ⊥) → ((drops : Bool) → l ≡ line.Adapt drops → ⊥) → ((command : ℕ) → l ≡ line.Where command → ⊥)
-      → ((file push : Bor Bytes) (done report explain : Bool) (wait : Option ℕ) → l ≡ line.Push file push done report explain wait → ⊥)
-      → ((file stamp : Bor Bytes) (wait : Option ℕ) → l ≡ line.Put file stamp wait → ⊥)
-      → ((file : Bor Bytes) (wait : Option ℕ) → l ≡ line.Init file true wait → ⊥) → ((file : Bor Bytes) (wait : Option ℕ) → l ≡ line.Grow file wait → ⊥)
-      → ((file : Bor Bytes) → l ≡ line.Verify file → ⊥)
-      → IsWritten name empty_repository o × (now ≡ was) → Serves name l store coming was now o
-  made_served line.Blobs store e b t k f a w p q n g v h = absurd (b refl)
-  made_served (line.Try word done force explain) store e b t k f a w p q n g v h = absurd (t word done force explain refl)
-  made_served (line.Check done force explain) store e b t k f a w p q n g v h = absurd (k done force explain refl)
-  made_served (line.WhereFault done force) store e b t k f a w p q n g v h = absurd (f done force refl)
-  made_served (line.Adapt drops) store e b t k f a w p q n g v h = absurd (a drops refl)
-  made_served (line.Where command) store e b t k f a w p q n g v h = absurd (w command refl)
-  made_served (line.Push file push done report explain wait) store e b t k f a w p q n g v h = absurd (p file push done report explain wait refl)
-  made_served (line.Put file stamp wait) store e b t k f a w p q n g v h = absurd (q file stamp wait refl)
-  made_served (line.Init file true wait) store e b t k f a w p q n g v h = absurd (n file wait refl)
-  made_served (line.Init file false wait) store e b t k f a w p q n g v h = h
-  made_served (line.Grow file wait) store e b t k f a w p q n g v h = absurd (g file wait refl)
-  made_served (line.Verify file) store e b t k f a w p q n g v h = absurd (v file refl)
-  made_served _ store e b t k f a w p q n g v h = absurd (cc e)
+      → ((file : Bor Bytes) (growing : Bool) (wait : Option ℕ) → l ≡ line.Init file growing wait → ⊥)
+      → IsRefused ReadFailed o × (now ≡ was) → Serves name l store coming was now o
+  refused_served line.Blobs store e b t k f a w i h = absurd (b refl)
+  refused_served (line.Try word done force explain) store e b t k f a w i h = absurd (t word done force explain refl)
+  refused_served (line.Check done force explain) store e b t k f a w i h = absurd (k done force explain refl)
+  refused_served (line.WhereFault done force) store e b t k f a w i h = absurd (f done force refl)
+  refused_served (line.Adapt drops) store e b t k f a w i h = absurd (a drops refl)
+  refused_served (line.Where command) store e b t k f a w i h = absurd (w command refl)
+  refused_served (line.Init file growing wait) store e b t k f a w i h = absurd (i file growing wait refl)
+  refused_served (line.Push file push done report explain wait) store e b t k f a w i h = h
+  refused_served (line.Put file stamp wait) store e b t k f a w i h = h
+  refused_served (line.Grow file wait) store e b t k f a w i h = h
+  refused_served (line.Verify file) store e b t k f a w i h = h
+  refused_served _ store e b t k f a w i h = absurd (cc e)
 
   -- and of what it makes of an export, nothing is told
   pub other_again : (l : Line) (store : Bytes) → ((file : Bor Bytes) (done force report explain : Bool) (wait : Option ℕ) → l ≡ line.Import file done force report explain wait → ⊥) → ServesExported name l store coming o

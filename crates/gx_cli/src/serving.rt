@@ -133,13 +133,19 @@ fn serve_alone<N: Namer + Drop, R: Source + Drop, W: Sink, A: Allocator + Copy>(
         Line::Adapt { drop_signatures } => {
             adapt_ended(adapt_stream(alloc, source, sink, *drop_signatures))
         }
-        Line::Push { .. }
-        | Line::Put { .. }
-        | Line::Init { growing: true, .. }
-        | Line::Grow { .. }
-        | Line::Verify { .. } => refused(CliFault::ReadFailed),
         Line::Where(command) => outcome_of(print_place(alloc, *command, source, sink)),
-        _ => init(alloc, namer, state),
+        Line::Init {
+            file: _,
+            growing,
+            wait: _,
+        } => {
+            if *growing {
+                refused(CliFault::ReadFailed)
+            } else {
+                init(alloc, namer, state)
+            }
+        }
+        _ => refused(CliFault::ReadFailed),
     }
 }
 

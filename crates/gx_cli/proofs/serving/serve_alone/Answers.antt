@@ -1,7 +1,7 @@
 use Rattle.std.proofs.Common.{refl, subst, sym, []}
 use Rattle.gx_cli.specs.Serving.{Serves}
 use Rattle.gx_cli.specs.Trying.{FindsFault}
-use Rattle.gx_cli.proofs.ServedLines.{made_served}
+use Rattle.gx_cli.proofs.ServedLines.{refused_served}
 use Rattle.gx_cli.proofs.serving.serve_alone.Goals as goal
 
 pub returns-in-WhereFault : goal.returns-in-WhereFault
@@ -16,4 +16,4 @@ pub returns-in_default : goal.returns-in_default
 returns-in_default g c =
     let was = g.W.Sink.taken c.args.sink.now in
     let not = c.in_default in
-    made_served (g.N.Namer.name_of c.args.namer) c.init.result (g.R.Source.coming c.args.source) was was c.args.line.now [] c.requires not.not-Blobs not.not-Try not.not-Check not.not-WhereFault not.not-Adapt not.not-Where not.not-Push not.not-Put not.not-Init not.not-Grow not.not-Verify (c.init.ensures, refl)
+    refused_served (g.N.Namer.name_of c.args.namer) c.refused.result (g.R.Source.coming c.args.source) was was c.args.line.now [] c.requires not.not-Blobs not.not-Try not.not-Check not.not-WhereFault not.not-Adapt not.not-Where not.not-Init (c.refused.ensures, refl)

@@ -16,4 +16,4 @@ pub returns-in_default : goal.returns-in_default
 returns-in_default g c =
     let was = g.W.Sink.taken c.args.sink.now in
     let not = c.in_default in
-    refused_served (g.N.Namer.name_of c.args.namer) c.refused.result (g.R.Source.coming c.args.source) was was c.args.line.now [] c.requires not.not-Blobs not.not-Try not.not-Check not.not-WhereFault not.not-Adapt not.not-Where not.not-Init (c.refused.ensures, refl)
+    refused_served (g.N.Namer.name_of c.args.namer) c.refused-in_default.result (g.R.Source.coming c.args.source) was was c.args.line.now [] c.requires not.not-Blobs not.not-Try not.not-Check not.not-WhereFault not.not-Adapt not.not-Where not.not-Init (c.refused-in_default.ensures, refl)

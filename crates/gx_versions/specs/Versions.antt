@@ -44,6 +44,5 @@ text_in Growing repository = growing_text sha256 repository
 abbrev pub counts_text : ℕ → ℕ → Records → Bytes
 counts_text version bytes repository =
     line (codes "version") (number_text version)
-    ++ line (codes "objects") (number_text (length repository.records))
-    ++ line (codes "refs") (number_text (length repository.refs))
-    ++ line (codes "bytes") (number_text bytes)
+    ++ (line (codes "objects") (number_text (length repository.records))
+    ++ (line (codes "refs") (number_text (length repository.refs)) ++ line (codes "bytes") (number_text bytes)))

@@ -38,7 +38,8 @@ pub fn verify_store<N: Namer + Drop, A: Allocator + Copy, W: Sink>(
 ) -> Result<(), VerifyFault>
     ensures { Verifies (N.name_of namer) store.items (W.taken sink.old) (W.taken sink.new) result }
 {
-    let (version, bytes) = (version_of(store.as_slice()), store.len());
+    let text = store.as_slice();
+    let (version, bytes) = (version_of(text), text.len());
     match open_store(alloc, namer, store, state) {
         Ok(repo) => match send_counts(&repo, version, bytes, sink) {
             Ok(()) => Ok(()),

@@ -8,6 +8,7 @@ import contextlib
 import ctypes
 import errno
 import fcntl
+import functools
 import os
 import platform
 import re
@@ -59,8 +60,13 @@ NAMED_AT_RANDOM = re.compile(r"\b(tmp|git-remote-gx-)[a-z0-9_]{8}\b")
 
 def program_of(process: int) -> str:
     """The command line of a process, without what differs from run to run."""
-    with open(f"/proc/{process}/cmdline", "rb") as file:
-        told = file.read().replace(b"\0", b" ").decode(errors="replace").strip()
+    with open(f"/proc/{process}/cmdline", "rb", buffering=0) as file:
+        return shown(file.read())
+
+
+@functools.cache
+def shown(command_line: bytes) -> str:
+    told = command_line.replace(b"\0", b" ").decode(errors="replace").strip()
     return NAMED_AT_RANDOM.sub("", re.sub(r"[^ =]*/", "", told)).split("\n")[0][:70].strip()
 
 

@@ -91,6 +91,8 @@ class Calls:
         self.others: list[Place] = []
 
     def judge(self, call: Call) -> int:
+        if self.has_failed:
+            return 0
         kind = call.program(), call.name
         if kind[0] == OURS:
             return 0

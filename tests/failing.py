@@ -8,6 +8,7 @@ import contextlib
 import ctypes
 import errno
 import fcntl
+import functools
 import os
 import platform
 import re
@@ -48,8 +49,8 @@ NAMES = {number: name for name, number in NUMBERS.items()}
 
 # of linux/seccomp.h, linux/filter.h and linux/prctl.h
 SECCOMP, SET_MODE_FILTER, NEW_LISTENER, NO_NEW_PRIVS = 317, 1, 8, 38
-RECEIVE, SEND, ADD_DESCRIPTOR = 0xC0502100, 0xC0182101, 0x40182103
-GOES_ON, AT_NUMBER = 1, 1
+RECEIVE, SEND, ADD_DESCRIPTOR, SET_FLAGS = 0xC0502100, 0xC0182101, 0x40182103, 0x40082104
+GOES_ON, AT_NUMBER, WAKES_AT_ONCE = 1, 1, struct.pack("Q", 1)
 ALLOWED, TOLD = 0x7FFF0000, 0x7FC00000
 LOAD, IF_EQUAL, ANSWER = 0x20, 0x15, 0x06
 
@@ -59,8 +60,13 @@ NAMED_AT_RANDOM = re.compile(r"\b(tmp|git-remote-gx-)[a-z0-9_]{8}\b")
 
 def program_of(process: int) -> str:
     """The command line of a process, without what differs from run to run."""
-    with open(f"/proc/{process}/cmdline", "rb") as file:
-        told = file.read().replace(b"\0", b" ").decode(errors="replace").strip()
+    with open(f"/proc/{process}/cmdline", "rb", buffering=0) as file:
+        return shown(file.read())
+
+
+@functools.cache
+def shown(command_line: bytes) -> str:
+    told = command_line.replace(b"\0", b" ").decode(errors="replace").strip()
     return NAMED_AT_RANDOM.sub("", re.sub(r"[^ =]*/", "", told)).split("\n")[0][:70].strip()
 
 
@@ -135,6 +141,9 @@ def serve(source: socket.socket, judge: Judge) -> None:
     """Answers all calls, until no process is left that could make one."""
     _, listeners, _, _ = socket.recv_fds(source, 1, 1)
     for listener in listeners:
+        # on a busy machine each call would wait for a turn of this program; since Linux 6.6
+        with contextlib.suppress(OSError):
+            fcntl.ioctl(listener, SET_FLAGS, WAKES_AT_ONCE)
         poll = select.poll()
         poll.register(listener, select.POLLIN)
         try:

@@ -5,6 +5,7 @@ from __future__ import annotations
 import fcntl
 import itertools
 import os
+import select
 import signal
 import subprocess
 import sys
@@ -177,6 +178,29 @@ def test_change_waits(ginlarch: ModuleType, store: Path, refs) -> None:
         with ginlarch.Repository.change(store, wait=60) as changed:
             changed.import_stream(on("new"))
     assert "refs/heads/new" in refs()
+
+
+def test_forked_process(ginlarch: ModuleType, store: Path) -> None:
+    """One that goes on behind the `with` doesn't have this wait for it."""
+    ours, theirs = os.pipe()
+    with ginlarch.Repository.change(store):
+        child = os.fork()
+        if not child:
+            select.select([ours], [], [], 30)
+            os._exit(0)
+    assert os.waitpid(child, os.WNOHANG) == (0, 0)
+    os.write(theirs, b"x")
+    os.waitpid(child, 0)
+    for end in (ours, theirs):
+        os.close(end)
+
+
+@pytest.mark.parametrize("wait, raised", [(0.5, TypeError), ("1", TypeError), (-1, ValueError)])
+def test_wait_of_another_kind(ginlarch: ModuleType, store: Path, wait, raised: type) -> None:
+    with pytest.raises(raised), ginlarch.Repository.change(store, wait=wait):
+        pass
+    with ginlarch.Repository.open(store) as repository, pytest.raises(raised):
+        repository.save(wait=wait)
 
 
 def test_missing_file(ginlarch: ModuleType, tmp_path: Path) -> None:

@@ -1,12 +1,14 @@
 """Store files. The program gx writes them: the variable GX names it, or it is the gx in PATH."""
 import contextlib
 import errno
+import operator
 import os
 import re
 import shutil
 import stat
 import subprocess
 import warnings
+import weakref
 from typing import BinaryIO, Callable, Iterable, Iterator, NamedTuple, NoReturn, Optional, Tuple, Union
 
 Path = Union[str, bytes, "os.PathLike[str]", "os.PathLike[bytes]"]
@@ -100,11 +102,31 @@ def held(path: str, wait: Optional[int]) -> Iterator[Callable[[Iterable[bytes]],
         yield give
 
 
+# runs that may wait for the end of what they are given
+_running: "weakref.WeakSet[subprocess.Popen[bytes]]" = weakref.WeakSet()
+
+
+def _leave_to_parent() -> None:
+    """Has a process that was forked keep no input open, since then it would have no end."""
+    nothing = os.open(os.devnull, os.O_WRONLY)
+    for running in list(_running):
+        if not running.stdin.closed:
+            os.dup2(nothing, running.stdin.fileno(), inheritable=False)
+    os.close(nothing)
+
+
+os.register_at_fork(after_in_child=_leave_to_parent)
+
+
 def _begun(path: str, wait: Optional[int], *words: str) -> "subprocess.Popen[bytes]":
-    waits = [] if wait is None else [f"--wait={wait}"]
+    if wait is not None and operator.index(wait) < 0:
+        raise ValueError("so many seconds can't be waited")
+    waits = [] if wait is None else [f"--wait={operator.index(wait)}"]
     pipe = subprocess.PIPE
     command = [_program(), "--explain", *words, *waits, "--", path]
-    return subprocess.Popen(command, stdin=pipe, stdout=pipe, stderr=pipe)
+    running = subprocess.Popen(command, stdin=pipe, stdout=pipe, stderr=pipe)
+    _running.add(running)
+    return running
 
 
 @contextlib.contextmanager

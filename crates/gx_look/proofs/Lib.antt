@@ -1,0 +1,13 @@
+mod HeadPlaces
+mod HeadingsInTexts
+mod JoinedTexts
+mod LinesOfRefs
+mod OpenedTexts
+mod Opening
+mod ReadOn
+mod RecordsInRooms
+mod RowsOfRuns
+mod RunsInLines
+mod StatedNames
+mod TellingRows
+mod ToldNames

@@ -1,0 +1,24 @@
+use Rattle.std.proofs.Common.{◌≡◌, ◌-◌, ℕ, arith, drop, length, sym, subst, take}
+use Rattle.std.specs.Prelude.{IfSome}
+use Rattle.std.proofs.lemmas.List.{length-drop, take_all}
+use Rattle.std.proofs.lemmas.Option.{IfSome_then}
+use Rattle.gx_model.specs.Texts.{Bytes}
+use Rattle.gx_objects.specs.Answers.{FindsRef}
+use Rattle.gx_look.specs.Looking.{told_by}
+use Rattle.gx_look.specs.Refs.{AreLines}
+use Rattle.gx_look.proofs.ToldNames.{lines_tell}
+use Rattle.gx_look.proofs.look.LookObjects.object_of_ref.Goals as goal
+
+-- a slice from a place on is what stands behind the place
+from_place : (n : ℕ) (text : Bytes) → take (length text - n) (drop n text) ≡ drop n text
+from_place n text = let l = length-drop n text in take_all (length text - n) (drop n text) (omega arith)
+
+pub returns-clause-object : goal.returns-clause-object
+returns-clause-object g c =
+    let it = c.self.inside in
+    let told = g.S.ReadAt.text it.source in
+    let tells = lines_tell (g.N.Namer.name_of it.namer) (g.met.N.Namer.is_namer it.namer) told it.ends it.tail c.self.invariant in
+    subst (λ v. IfSome (told_by (g.N.Namer.name_of v.0) v.1) (λ r. FindsRef c.args.name.now r c.find_by_names.result)) c.self.view_is
+    (IfSome_then (told_by (g.N.Namer.name_of it.namer) told) tells (λ r lines.
+    let held = subst (λ (z : Bytes). AreLines (drop it.tail.refs z) r.refs) (sym c.as_slice.ensures.value) lines in
+    c.find_by_names.ensures r.refs (subst (λ (z : Bytes). AreLines z r.refs) (sym (from_place it.tail.refs c.as_slice.result.now)) held)))

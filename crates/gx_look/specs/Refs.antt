@@ -1,0 +1,24 @@
+-- Refs that are found in their lines.
+use Rattle.std.specs.Prelude.{◌≡◌, List, Option, IsTrue}
+use Rattle.std.specs.List.{AllByRecursion}
+use Rattle.std.specs.Map.{lookup}
+use Rattle.gx_model.specs.Texts.{Bytes, is_line, same_bytes}
+use Rattle.gx_model.specs.Objects.{is_name}
+use Rattle.gx_model.specs.Records.Lookups.{first_named}
+use Rattle.gx_object.specs.Parts.{bytes_if}
+use Rattle.gx_object.specs.declared.name.Name.{Name}
+use Rattle.gx_look.specs.Tails.{refs_text}
+
+-- lines of refs: no name breaks one, and what a ref holds is a name
+pub record AreLines (lines : Bytes) (refs : List (Bytes × Bytes)) : Type 0 where
+  pub spelled : lines ≡ refs_text refs
+  pub names : AllByRecursion (λ ref. IsTrue (is_line ref.0)) refs
+  pub targets : AllByRecursion (λ ref. IsTrue (is_name ref.1)) refs
+
+-- what is found is the object of the ref of this name
+abbrev pub FindsOne : Bytes → Bytes → Option Name → Type 0
+FindsOne lines name found = (refs : List (Bytes × Bytes)) → AreLines lines refs → bytes_if found ≡ lookup (same_bytes name) refs
+
+-- what is found is the object of the first of these names that is a ref's
+abbrev pub FindsAmong : Bytes → List Bytes → Option Name → Type 0
+FindsAmong lines names found = (refs : List (Bytes × Bytes)) → AreLines lines refs → bytes_if found ≡ first_named refs names

@@ -201,6 +201,8 @@ fn file_of<'a>(line: &Line<'a>) -> Option<&'a str> {
         | Line::Where(_)
         | Line::WhereFault { .. } => None,
         Line::Init { file, .. }
+        | Line::Grow { file, .. }
+        | Line::Verify { file }
         | Line::Import { file, .. }
         | Line::Push { file, .. }
         | Line::Drop { file, .. }

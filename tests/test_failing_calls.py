@@ -117,9 +117,10 @@ class Door:
     stdin: bytes = b""
     # whether what stands beside the store tells what went out of it
     is_noted: Callable[[Path], bool] = lambda store: True
-    # how the command lines begin of programs that may wait for ever, as git's own do where a call
-    # fails whose result they leave out
-    may_hang: tuple[str, ...] = ()
+    # how the command lines begin of those programs of git's that ask for the push. Some calls they
+    # make without a look at the result: then they wait for ever, or ask to delete a branch that they
+    # were to push, of any remote
+    of_git: tuple[str, ...] = ()
     # whether refs may be set for themselves, by a run that tells that it failed
     may_be_half: bool = False
     before: bytes = b""
@@ -182,14 +183,19 @@ class Door:
             done = self.run(world, calls, fault.place.name)
         except TimeoutExpired:
             is_whole = store.read_bytes() in (self.before, self.after)
-            may_hang = fault.place.program.startswith(self.may_hang)
-            return "git hangs" if may_hang and is_whole else "bad: hangs"
+            is_of_git = fault.place.program.startswith(self.of_git)
+            return "git hangs" if is_of_git and is_whole else "bad: hangs"
         if not calls.has_failed:
             return None
         verdict = self.verdict_of(world, store, done)
+        if fault.place.program.startswith(self.of_git) and self.is_between(store, None):
+            verdict = verdict.replace("bad: neither before nor after", "git asks for else")
         if verdict not in ("before", "after"):
             said = (done.out + done.err).decode(errors="replace").strip()[-300:]
-            print(f"{self.name}: {fault}: {verdict}, status {done.status}: {said!r}", flush=True)
+            told = f"{verdict}, status {done.status}, {', '.join(os.listdir(world))}: {said!r}"
+            print(f"{self.name}: {fault}: {told}", flush=True)
+            if verdict.startswith("bad"):
+                print(store.read_bytes() if store.exists() else "no store", flush=True)
         return verdict
 
     def refs_of(self, store: Path) -> dict[str, str]:
@@ -197,14 +203,15 @@ class Door:
         rows = printed(run_program(words, env=self.environment), words).decode().splitlines()
         return dict(reversed(row.split(" ", 1)) for row in rows)
 
-    def is_between(self, store: Path) -> bool:
-        """Whether it is whole, and each ref as before or as after."""
+    def is_between(self, store: Path, *others: None) -> bool:
+        """Whether it is whole, and each ref as before or as after, or as told."""
         try:
             refs = self.refs_of(store)
         except AssertionError:
             return False
         names = {*refs, *(name for end in self.ends for name in end)}
-        return all(refs.get(name) in [end.get(name) for end in self.ends] for name in names)
+        ends = {name: [*others, *(end.get(name) for end in self.ends)] for name in names}
+        return all(refs.get(name) in ends[name] for name in names)
 
     def verdict_of(self, world: Path, store: Path, done: Done) -> str:
         text = store.read_bytes() if store.exists() else b""
@@ -327,7 +334,7 @@ def passed(verdicts: Counter[str]) -> bool:
 def test_push(through: Callable[..., Door], trial: Trial) -> None:
     words = ["git", "-C", "project", "push", "-q", "--atomic", "gx::../s.gx"]
     of_git = ("git -C project push", "git remote-gx")
-    door = through("push", *words, "main", "v1", ":side", may_hang=of_git)
+    door = through("push", *words, "main", "v1", ":side", of_git=of_git)
     assert passed(trial.of(door))
 
 

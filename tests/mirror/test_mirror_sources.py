@@ -2,12 +2,17 @@
 
 from __future__ import annotations
 
+import errno
 import os
 import shutil
 
 import pytest
+from failing import Call, needs_faults, run_watched
 from mirror_world import MIRROR, UNTRUSTED, USAGE, Counted, Repository, World
 from programs import SCRIPTS, run_program
+
+# what root runs that may read just what a file's mode says
+LESS = ["setpriv", "--bounding-set=-dac_override,-dac_read_search"] * (os.geteuid() == 0)
 
 BROKEN = {
     "empty": b"",
@@ -50,16 +55,57 @@ def test_folder_that_cannot_be_read(world: World) -> None:
     world.repository.commit("loose")
     world.follows()
     os.chmod(world.repository.folder() / "refs/heads", 0)
-    less = ["setpriv", "--bounding-set=-dac_override,-dac_read_search"]
-    world.stops(UNTRUSTED, "refs/heads/loose", front=less if os.geteuid() == 0 else [])
+    world.stops(UNTRUSTED, "refs/heads", front=LESS)
+
+
+@pytest.mark.skipif(os.geteuid() == 0 and not shutil.which("setpriv"), reason="root reads all")
+def test_new_refs_that_cannot_be_read(world: World) -> None:
+    """The store has none of them, and wouldn't get them."""
+    world.follows()
+    world.repository.commit("below/new")
+    os.chmod(world.repository.folder() / "refs/heads/below", 0)
+    world.stops(UNTRUSTED, "refs/heads/below", front=LESS)
+
+
+@needs_faults
+def test_file_that_git_leaves_out_once(world: World) -> None:
+    """Git says nothing of a file that it can't look at. The refs are listed again."""
+    world.repository.commit("new")
+    left = [errno.EIO]
+
+    def judge(call: Call) -> int:
+        is_listing = call.program().startswith("git for-each-ref")
+        is_of_new = is_listing and call.place().endswith("refs/heads/new")
+        return left.pop() if left and is_of_new else 0
+
+    words = [*MIRROR, world.repository.path, world.store.path]
+    how = {"env": world.environment, "cwd": world.folder}
+    done = run_watched(words, ["newfstatat", "stat"], judge, b"", 60, **how)
+    assert done.status == 0 and not left, done
+    assert world.store.refs() == world.repository.refs()
+
+
+def test_files_that_are_no_refs(world: World) -> None:
+    """Those of locks, links to refs that aren't there, and those that another worktree has."""
+    refs = world.repository.folder() / "refs"
+    world.repository.git("symbolic-ref", "refs/heads/link", "refs/heads/none")
+    for name in ("heads/main.lock", "heads/.main", "tags/v1.lock"):
+        shutil.copy(refs / "heads/main", refs / name)
+    tree = world.folder / "tree"
+    world.repository.git("worktree", "add", "-q", "--detach", tree)
+    for worktree in (world.repository, Repository(tree, world.environment)):
+        for name in ("refs/bisect/bad", "refs/worktree/one"):
+            worktree.git("update-ref", name, "refs/heads/main")
+    world.follows()
+    world.repository = Repository(tree, world.environment)
+    world.follows()
 
 
 def test_ref_that_comes_meanwhile(world: World, counted: Counted) -> None:
     """One that git lists after the look at its refs is none of which something is left."""
     heads = world.repository.folder() / "refs/heads"
     world.repository.delete(b"refs/heads/side")
-    once = f'case "$*" in *git-common-dir*) cp {heads}/main {heads}/side;; esac'
-    counted.write("git", once)
+    counted.write("gx", f'[ "$2" != refs ] || cp {heads}/main {heads}/side')
     world.follows(env=counted.environment)
 
 

@@ -6,6 +6,7 @@ from __future__ import annotations
 
 import os
 import random
+import shlex
 import shutil
 import sys
 import tempfile
@@ -23,6 +24,13 @@ from store_files import StoreFile
 # where the program may stand, the first one that does: proved, and made without proofs
 BUILT = (TOP / "crates/gx/out/gx", TOP / "out/try/gx")
 WHO = {"NAME": "A", "EMAIL": "a@x", "DATE": "@1 +0000"}
+# runs a program, and has its `init` make a growing store
+MAKES_GROWING = """#!/bin/bash
+words=("$@")
+[[ $1 == --explain ]] && at=1 || at=0
+[[ ${words[at]} != init ]] || words=("${words[@]:0:at}" init --growing "${words[@]:at+1}")
+exec PROGRAM "${words[@]}"
+"""
 
 everything = {"database": None, "deadline": None, "suppress_health_check": list(HealthCheck)}
 settings.register_profile("quick", max_examples=2, derandomize=True, **everything)
@@ -48,6 +56,9 @@ def pytest_addoption(parser: pytest.Parser) -> None:
         "--ledger", metavar="FILE", type=Path, help="note there what calls failed, and go on behind"
     )
     group.addoption("--fault", metavar="TEXT", help="have that call fail alone")
+    group.addoption(
+        "--growing", action="store_true", help="have `gx init` make growing stores in tests"
+    )
 
 
 def pytest_configure(config: pytest.Config) -> None:
@@ -119,8 +130,14 @@ def program_path(config: pytest.Config) -> Path:
 
 
 @pytest.fixture(scope="session")
-def gx_path(request: pytest.FixtureRequest) -> Path:
-    return program_path(request.config)
+def gx_path(request: pytest.FixtureRequest, tmp_path_factory: pytest.TempPathFactory) -> Path:
+    path = program_path(request.config)
+    if not request.config.getoption("growing"):
+        return path
+    maker = tmp_path_factory.mktemp("growing") / "gx"
+    maker.write_text(MAKES_GROWING.replace("PROGRAM", shlex.quote(str(path))))
+    maker.chmod(0o755)
+    return maker
 
 
 @pytest.fixture(scope="session")

@@ -118,7 +118,7 @@ class Store:
     def records(self) -> list[bytes]:
         """Name, kind and size of each object, as git tells them."""
         text = self.path.read_bytes()
-        count = re.match(rb"gxstore 2\nobjects (\d+)\n", text)
+        count = re.search(rb"(?m)^objects (\d+)\n", text)
         at, rows = count.end(), []
         for _ in range(int(count[1])):
             kind, size, digits = text[at : text.index(b"\n", at)].split()

@@ -117,8 +117,8 @@ class Door:
     stdin: bytes = b""
     # whether what stands beside the store tells what went out of it
     is_noted: Callable[[Path], bool] = lambda store: True
-    # how the command lines begin of those programs of git's that ask for the push. Some calls they
-    # make without a look at the result: then they wait for ever, or ask to delete a branch that they
+    # how the command lines begin of those programs of git's that ask for the push. Of some calls
+    # they don't look at the result: then they wait for ever, or ask to delete a branch that they
     # were to push, of any remote
     of_git: tuple[str, ...] = ()
     # whether refs may be set for themselves, by a run that tells that it failed

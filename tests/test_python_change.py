@@ -2,6 +2,7 @@
 
 from __future__ import annotations
 
+import errno
 import fcntl
 import itertools
 import os
@@ -17,6 +18,7 @@ from types import ModuleType
 
 import pytest
 
+from failing import Call, needs_faults, run_watched
 from libraries import built, ginlarch, shared  # noqa: F401
 from programs import TOP, Program
 from store_files import branch_stream
@@ -178,6 +180,27 @@ def test_change_waits(ginlarch: ModuleType, store: Path, refs) -> None:
         with ginlarch.Repository.change(store, wait=60) as changed:
             changed.import_stream(on("new"))
     assert "refs/heads/new" in refs()
+
+
+@needs_faults
+def test_stream_that_is_not_written(gx: Program, shared: Path, store: Path) -> None:  # noqa: F811
+    """Where that raises an exception, gx isn't given the rest of the stream all the same."""
+    code = (
+        "import sys\nfrom ginlarch import Repository\nwith Repository.change(sys.argv[1]) as r:\n"
+        "    r.import_stream(sys.stdin.buffer.read())\n"
+    )
+    paths = {"PYTHONPATH": str(TOP / "python"), "GINLARCH_LIBRARY": str(shared)}
+    how = {"env": {**gx.environment, **paths}, "cwd": store.parent}
+    before, written = files_of(store), itertools.count(1)
+
+    def judge(call: Call) -> int:
+        is_stream = call.program().startswith("python3 -c") and call.place().startswith("pipe:")
+        return errno.EIO if is_stream and next(written) == 2 else 0
+
+    words = [sys.executable, "-c", code, store]
+    done = run_watched(words, ["write"], judge, on("new"), 60, **how)
+    assert done.status == 1 and b"OSError: [Errno 5]" in done.err, done
+    assert [row for row in files_of(store) if row[0] == store.name] == before
 
 
 def test_forked_process(ginlarch: ModuleType, store: Path) -> None:

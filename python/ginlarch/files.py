@@ -96,8 +96,9 @@ def held(path: str, wait: Optional[int]) -> Iterator[Callable[[Iterable[bytes]],
                 _end(running, path)
 
         def give(pieces: Iterable[bytes]) -> None:
-            _write(running.stdin, pieces)
-            _end(running, path)
+            with _killed_by_exceptions(running):
+                _write(running.stdin, pieces)
+                _end(running, path)
 
         yield give
 
@@ -135,6 +136,9 @@ def _killed_by_exceptions(running: "subprocess.Popen[bytes]") -> Iterator[None]:
         yield
     except BaseException:
         running.kill()
+        # what wasn't written yet would be now, and might end a stream
+        with contextlib.suppress(OSError):
+            running.stdin.close()
         raise
 
 

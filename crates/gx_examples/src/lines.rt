@@ -21,7 +21,10 @@ $ where|18446744073709551615 % Where(18446744073709551615)
 $ where|--fault % WhereFault { done: false, force: false }
 $ where|--done|--fault % WhereFault { done: true, force: false }
 $ where|--fault|--force|--done % WhereFault { done: true, force: true }
-$ init|f % Init { file: \"f\", wait: None }
+$ init|f % Init { file: \"f\", growing: false, wait: None }
+$ init|--growing|f % Init { file: \"f\", growing: true, wait: None }
+$ grow|f|--wait=2 % Grow { file: \"f\", wait: Some(2) }
+$ verify|f % Verify { file: \"f\" }
 $ import|f % Import { file: \"f\", done: false, force: false, report: false, explain: false, wait: None }
 $ import|--force|f|--done % Import { file: \"f\", done: true, force: true, report: false, explain: false, wait: None }
 $ import|f|--report % Import { file: \"f\", done: false, force: false, report: true, explain: false, wait: None }
@@ -98,6 +101,8 @@ $ rev-parse|f|--|-x % RevParse { file: \"f\", revisions: [\"-x\"] }
 /// Words that end with status two.
 const REFUSED: &str = "
 $ % refused
+$ grow|--growing|f % refused
+$ verify|f|--wait=2 % refused
 $ blob % refused
 $ blobs|f % refused
 $ --version % refused

@@ -1,0 +1,11 @@
+//! Looks into growing texts that are written here, segment by segment, also damaged ones. There are tests alone here.
+#![tactic(auto)]
+
+#[cfg(test)]
+mod counted;
+#[cfg(test)]
+mod damaged;
+#[cfg(test)]
+mod looks;
+#[cfg(test)]
+mod written;

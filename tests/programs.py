@@ -4,6 +4,7 @@ from __future__ import annotations
 
 import contextlib
 import subprocess
+import sys
 from collections import Counter
 from collections.abc import Callable
 from dataclasses import dataclass
@@ -55,6 +56,15 @@ def processes(is_wanted: Callable[[int], bool]) -> list[int]:
         with contextlib.suppress(OSError):
             found += [int(path.name)] if is_wanted(int(path.name)) else []
     return found
+
+
+def reader_of(store: Path, gx: Path) -> list[Word]:
+    """What reads a store whole: a program that uses nothing of gx, and gx itself where the store
+    is a growing one, which that can't read."""
+    with store.open("rb") as text:
+        is_growing = text.read(10) == b"gxstore 3\n"
+    checker = [sys.executable, SCRIPTS / "check_store.py", store]
+    return [gx, "verify", store] if is_growing else checker
 
 
 def printed(done: Done, words: list[Word]) -> bytes:

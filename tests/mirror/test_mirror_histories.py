@@ -5,14 +5,13 @@ from __future__ import annotations
 import random
 import re
 import shutil
-import sys
 
 import pytest
 from histories import History
 from hypothesis import given
 from hypothesis import strategies as st
 from mirror_world import NOTHING, Repository, World, lines_of
-from programs import SCRIPTS, Program, run_program
+from programs import Program, reader_of, run_program
 
 CHANGE = re.compile(rb"^([0-9a-f]{40}) ([0-9a-f]{40}) (refs/.*)$", re.M)
 
@@ -80,8 +79,7 @@ def test_random_history(
         world.store.age(15)
     world.follows("--allow-empty")
     assert world.store.records() == world.repository.objects()
-    check = [sys.executable, SCRIPTS / "check_store.py", world.store.path]
-    assert run_program(check).status == 0
+    assert run_program(reader_of(world.store.path, gx.path), env=environment).status == 0
     copy = Repository(world.folder / "copy", environment)
     copy.git("fast-import", "--quiet", "--done", stdin=gx.prints("export", world.store.path))
     assert copy.refs() == world.repository.refs()

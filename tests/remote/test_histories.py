@@ -3,7 +3,6 @@
 from __future__ import annotations
 
 import random
-import sys
 from collections.abc import Callable
 from pathlib import Path
 
@@ -12,7 +11,7 @@ from histories import History
 from hypothesis import given, note
 from hypothesis import strategies as st
 from places import Repository
-from programs import SCRIPTS, printed, run_program
+from programs import printed, reader_of, run_program
 from remote_world import World
 
 ALL_REFS = [["--mirror", "origin"], ["--force", "--prune", "origin", "refs/*:refs/*"]]
@@ -48,7 +47,7 @@ def follow(chance: random.Random, steps: int, world: World, tell: Callable[[str]
         assert there.refs() == here.refs(), "refs of the other clone"
     for clone in clones:
         clone.git("fsck", "--strict")
-    words = [sys.executable, SCRIPTS / "check_store.py", world.remote]
+    words = reader_of(world.remote, world.gx)
     printed(run_program(words, env=world.environment), words)
 
 

@@ -5,12 +5,13 @@
 
   source      files of about 8 KiB, one to five changes in a commit; as left out
   large       files of 1 MiB, one change in a commit
+  deep        as source, but up to 4,600 files in more than 6,000 directories, each below five of them
 """
 import hashlib
 import sys
 from random import Random
 
-SHAPES = {'source': (8192, 2000, 5), 'large': (1048576, 40, 1)}
+SHAPES = {'source': (8192, 2000, 5), 'large': (1048576, 40, 1), 'deep': (8192, 4600, 5)}
 WORDS = [b'return', b'value', b'index', b'buffer', b'length', b'if', b'for', b'static', b'const', b'result']
 
 
@@ -79,7 +80,10 @@ def edited(random, lines, text):
     return text[:start] + few + text[start + len(few):]
 
 
-def path_of(number):
+def path_of(number, shape):
+    if shape == 'deep':
+        part = number * 2 // 5
+        return [b'area%d' % (part % 23), b'module%d' % (part // 23 % 23), b'part%d' % part, b'src', b'main', b'file%d.c' % number]
     return [b'src', b'module%d' % (number % 12), b'part%d' % (number // 12 % 6), b'file%d.c' % number]
 
 
@@ -117,7 +121,7 @@ def history(store, size, shape):
                 texts.append(b'/* file %d */\n' % place + fresh_text(random, lines, length))
             else:
                 texts[place] = edited(random, lines, texts[place])
-            root.put(path_of(place), store.add(b'blob', texts[place]))
+            root.put(path_of(place, shape), store.add(b'blob', texts[place]))
         parents = [store.add(b'commit', commit_body(root.save(store), parents, number))]
     return parents[0]
 

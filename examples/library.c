@@ -1,4 +1,4 @@
-/* Imports a stream from standard input, and writes a file of a revision: library REVISION PATH < STREAM */
+/* Loads a store from standard input, or imports a stream, and writes a file of a revision: library REVISION PATH < INPUT */
 #include <ginlarch.h>
 #include <stdio.h>
 #include <stdlib.h>
@@ -13,14 +13,16 @@ static int refuse(ginlarch_store *store) {
 }
 
 int main(int argc, char **argv) {
-    static uint8_t stream[1 << 24], room[1 << 16], key[16];
+    static uint8_t input[1 << 24], room[1 << 16], key[16];
     FILE *random = fopen("/dev/urandom", "rb");
     if (argc != 3 || !random || fread(key, 1, sizeof key, random) != sizeof key) return 2;
     fclose(random);
-    size_t length = fread(stream, 1, sizeof stream, stdin);
+    size_t length = fread(input, 1, sizeof input, stdin);
+    bool is_store = length >= 8 && memcmp(input, "gxstore ", 8) == 0;
     ginlarch_store store = GINLARCH_CLOSED_STORE;
     if (ginlarch_open(&store, key, sizeof key) != GINLARCH_DONE) return 2;
-    if (ginlarch_import(&store, stream, length, true, false) != GINLARCH_DONE) return refuse(&store);
+    uint32_t status = is_store ? ginlarch_load(&store, input, length) : ginlarch_import(&store, input, length, true, false);
+    if (status != GINLARCH_DONE) return refuse(&store);
     if (ginlarch_file(&store, (uint8_t *)argv[1], strlen(argv[1]), (uint8_t *)argv[2], strlen(argv[2])) != GINLARCH_DONE)
         return refuse(&store);
     for (size_t at = 0, count; (count = ginlarch_read(&store, at, room, sizeof room)) != 0; at += count)

@@ -49,12 +49,17 @@ uint32_t ginlarch_open(ginlarch_store *store, const uint8_t *key, size_t key_len
 /* Closes a handle and frees what it holds. One that isn't open stays so. */
 void ginlarch_close(ginlarch_store *store);
 
-/* Replaces the repository by that of a store file's bytes, which are copied. Refused with the first fault
- * of the text (docs/FAULTS.md, "Stores"), it leaves the repository as it was. */
+/* Replaces the repository by that of a store file's bytes, which are copied: of each version, so of a
+ * growing store, too. Refused with the first fault of the text (docs/FAULTS.md, "Stores"), it leaves the
+ * repository as it was. */
 uint32_t ginlarch_load(ginlarch_store *store, const uint8_t *text, size_t length);
 
-/* Answers the bytes of a store file of the repository (docs/STORE.md). */
+/* Answers the bytes of a store file of the repository (docs/STORE.md): those of a growing store where one
+ * was loaded, and else of one of version 2. */
 uint32_t ginlarch_text(ginlarch_store *store);
+
+/* Answers those of a growing store, as `gx grow` makes it, whatever was loaded. */
+uint32_t ginlarch_growing_text(ginlarch_store *store);
 
 /* Imports a git-fast-import(1) stream, as `gx import` does. With `done` it has to end with the command
  * done; with `force` branches may lose commits. It answers the lines of `progress`; the number is that of

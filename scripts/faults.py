@@ -29,6 +29,7 @@ ENUMS = {
         "gx_model/src/store_faults.rt FileFault",
         "gx_repo/src/fault.rt AddFault",
         "gx_growing/src/fault.rt GrowingFault",
+        "gx_objects/src/fault.rt LookFault",
     ],
     "Exports": ["gx_export/src/fault.rt ExportFault"],
     "Adapted streams": ["gx_adapt/src/fault.rt AdaptFault"],
@@ -47,8 +48,8 @@ ENUMS = {
 # the enum whose texts have a number and a word, and the part that explains these, by what stands before the number
 NUMBERED = "gx_cli/src/fault.rt"
 PARTS = {"keep": "Objects to keep"}
-# what no line of a push is refused for, since its objects come from the stream
-UNTOLD = {("Pushes", word) for word in ("BadRefName", "UnknownObject", "WrongKind")}
+# what no line of a push is refused for, since its objects come from the stream, and what is told without a part
+UNTOLD = {("Pushes", word) for word in ("BadRefName", "UnknownObject", "WrongKind")} | {("Stores", "ReadFailed")}
 
 
 def words_of(place):

@@ -55,7 +55,7 @@ compare() {
 }
 
 step "1. All refs of $repository go into a store"
-shown 'gx init store.gx'
+shown 'gx init --growing store.gx'
 shown 'git -C project fast-export --use-done-feature --signed-tags=verbatim --reencode=no --all |
   gx import --done store.gx'
 echo "  store.gx has $(wc -c < "$store") bytes"

@@ -28,7 +28,7 @@ WHO = {"NAME": "A", "EMAIL": "a@x", "DATE": "@1 +0000"}
 MAKES_GROWING = """#!/bin/bash
 words=("$@")
 [[ $1 == --explain ]] && at=1 || at=0
-[[ ${words[at]} != init ]] || words=("${words[@]:0:at}" init --growing "${words[@]:at+1}")
+[[ ${words[at]} != init || ${words[at+1]} == --growing ]] || words=("${words[@]:0:at}" init --growing "${words[@]:at+1}")
 exec PROGRAM "${words[@]}"
 """
 

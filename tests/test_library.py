@@ -11,7 +11,7 @@ from pathlib import Path
 import pytest
 
 from libraries import built  # noqa: F401
-from programs import SCRIPTS, TOP, Done, Word, printed, run_program
+from programs import SCRIPTS, TOP, Done, Program, Word, printed, run_program
 
 DIGITS = b"02d6adf1689e06135d2b4b4d471f1ae489887b53"
 STREAM = (
@@ -47,9 +47,16 @@ def over(library: Path) -> dict[str, dict]:
     return {"env": {**os.environ, "LD_LIBRARY_PATH": str(library)}}
 
 
-def test_example_in_c_shows_a_file(built: Path, compiled: Callable[..., Path]) -> None:
+def test_example_in_c_shows_a_file(
+    built: Path, compiled: Callable[..., Path], gx: Program, new_store: Callable[..., Path]
+) -> None:
+    """Of a stream, and of a store of each version."""
     example = compiled("examples/library.c", built / "libginlarch.a")
     assert run_program([example, "main", "test.txt"], STREAM) == SHOWN
+    store = new_store(STREAM)
+    assert run_program([example, "main", "test.txt"], store.read_bytes()) == SHOWN
+    gx.prints("grow", store)
+    assert run_program([example, "main", "test.txt"], store.read_bytes()) == SHOWN
     refused = run_program([example, "gone", "test.txt"], STREAM)
     assert (refused.out, refused.err) == (b"", b"refused: UnknownRef\n")
 

@@ -21,7 +21,7 @@ from types import ModuleType
 import pytest
 
 from libraries import built, ginlarch, shared  # noqa: F401
-from programs import TOP, Done, Program, run_program
+from programs import EMPTY_STORE, TOP, Done, Program, run_program
 from store_files import mode_of, needs_users
 
 # a commit with an encoding, a submodule, a name with odd bytes, and a message without an LF
@@ -81,12 +81,25 @@ def repository(ginlarch: ModuleType, stream: bytes) -> Iterator:
         yield made
 
 
+@pytest.fixture(params=[2, 3], ids="version {}".format)
+def saved(request, repository, gx_import: Callable[..., Path], tmp_path: Path) -> Path:
+    """A store file of the history: of version 2 by gx, and of version 3 as the module makes it."""
+    if request.param == 2:
+        return gx_import("store.gx")
+    repository.save(tmp_path / "store.gx")
+    return tmp_path / "store.gx"
+
+
 @pytest.fixture
-def saved(repository, tmp_path: Path) -> Path:
-    """A store file of the history."""
-    path = tmp_path / "store.gx"
-    repository.save(path)
-    return path
+def gx_import(gx: Program, stream: bytes, tmp_path: Path) -> Callable[..., Path]:
+    """Makes a store of version 2 of the history."""
+
+    def make(name: str) -> Path:
+        (tmp_path / name).write_bytes(EMPTY_STORE)
+        gx.prints("import", "--done", tmp_path / name, stdin=stream)
+        return tmp_path / name
+
+    return make
 
 
 # ---- beside git
@@ -360,6 +373,60 @@ def test_store_is_saved_and_opened(ginlarch, repository, saved: Path, gx: Progra
         assert {"refs/heads/more", "refs/heads/last"} <= set(last.refs)
     assert gx.prints("refs", saved).count(b"\n") == len(last_refs(ginlarch, saved))
     assert os.listdir(saved.parent) == [saved.name]
+
+
+def version_of(path: Path) -> int:
+    with open(path, "rb") as store:
+        return int(store.readline().split()[1])
+
+
+@pytest.mark.parametrize("opened", [1, 2, 3])
+def test_store_keeps_its_version(
+    ginlarch, repository, gx: Program, gx_import: Callable[..., Path], tmp_path: Path, opened: int
+) -> None:
+    """A growing store stays one, any other becomes one of version 2, and what is new grows."""
+    store, other = tmp_path / "s.gx", tmp_path / "other.gx"
+    if opened == 1:
+        store.write_bytes(b"gxstore 1\nobjects 0\nrefs 0\nend\n")
+    else:
+        gx_import("s.gx")
+    if opened == 3:
+        gx.prints("grow", store)
+    assert version_of(store) == opened
+    with ginlarch.Repository.open(store) as changed:
+        other.touch()
+        with pytest.raises(ginlarch.StoreChanged):
+            changed.save(other)
+        other.unlink()
+        changed.import_stream(b"blob\ndata 1\nx\n")
+        changed.save()
+        assert version_of(store) == max(opened, 2)
+        assert store.read_bytes() == changed.to_bytes()
+        changed.save(other)
+        assert (version_of(other), version_of(store)) == (3, max(opened, 2))
+        assert other.read_bytes() == changed.to_bytes()
+        changed.import_stream(b"blob\ndata 1\ny\n")
+        changed.save()
+        assert version_of(other) == 3
+    for path in (store, other):
+        gx.prints("verify", path)
+
+
+def test_growing_store_is_that_of_gx(
+    ginlarch, repository, gx: Program, gx_import: Callable[..., Path], tmp_path: Path
+) -> None:
+    store = gx_import("s.gx")
+    repository.save(tmp_path / "new.gx")
+    gx.prints("grow", store)
+    assert (tmp_path / "new.gx").read_bytes() == store.read_bytes()
+    with ginlarch.Repository.from_bytes(store.read_bytes()) as again:
+        assert (again.refs, again.to_bytes()) == (repository.refs, store.read_bytes())
+
+
+def test_tables_that_lie_are_refused(ginlarch, repository) -> None:
+    text = repository.to_bytes().replace(b"refs/heads/main\n", b"refs/heads/mine\n")
+    with pytest.raises(ginlarch.faults.BadRows):
+        ginlarch.Repository.from_bytes(text)
 
 
 def last_refs(ginlarch, path: Path) -> dict:

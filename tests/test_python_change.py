@@ -20,7 +20,7 @@ import pytest
 
 from failing import Call, needs_faults, run_watched
 from libraries import built, ginlarch, shared  # noqa: F401
-from programs import TOP, Program
+from programs import EMPTY_STORE, TOP, Program
 from store_files import branch_stream
 
 MAIN = (
@@ -41,9 +41,14 @@ def on(branch: str, parent: str = "") -> bytes:
     return f"{front}{came}\n".encode()
 
 
-@pytest.fixture
-def store(new_store: Callable[..., Path]) -> Path:
-    return new_store(MAIN, "s.gx")
+@pytest.fixture(params=[2, 3], ids="version {}".format)
+def store(request, gx: Program, tmp_path: Path) -> Path:
+    path = tmp_path / "s.gx"
+    path.write_bytes(EMPTY_STORE)
+    if request.param == 3:
+        gx.prints("grow", path)
+    gx.prints("import", path, stdin=MAIN)
+    return path
 
 
 @pytest.fixture
@@ -102,7 +107,8 @@ def importers(gx: Program, store: Path, count: int) -> Iterator[None]:
     ],
 )
 def test_what_is_written(ginlarch: ModuleType, store: Path, refs, stream: bytes) -> None:
-    """The refs as they were in memory, with all that they reach."""
+    """The refs as they were in memory, with all that they reach, in a store of the same version."""
+    version = store.read_bytes()[:10]
     with ginlarch.Repository.change(store) as changed:
         changed.import_stream(stream, force=True)
         wanted, bodies = changed.refs, {name: changed[name] for name in changed.refs.values()}
@@ -111,6 +117,7 @@ def test_what_is_written(ginlarch: ModuleType, store: Path, refs, stream: bytes)
     with ginlarch.Repository.open(store) as again:
         assert {name: again[name] for name in again.refs.values()} == bodies
         assert {name: again.log(name) for name in wanted} == logs
+    assert store.read_bytes()[:10] == version
     assert os.listdir(store.parent) == [store.name]
 
 

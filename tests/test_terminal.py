@@ -172,6 +172,28 @@ def test_import(at_terminal, run, store: Path, tmp_path: Path) -> None:
     assert without_line(seen) == CLEAR + REPORT, "the line goes, and the report stays"
 
 
+def test_import_into_a_large_store(at_terminal, run, store: Path, tmp_path: Path) -> None:
+    """Somebody at a terminal is told what makes questions fast, where the store hasn't it."""
+    (tmp_path / "empty").touch()
+    size = 100_000_000 - 87  # a store of one blob has 87 bytes beside it
+
+    def told() -> bytes:
+        with (tmp_path / "empty").open("rb") as stream:
+            terminal = at_terminal("import", "store", stdin=stream)
+        assert terminal.end() == 0
+        report = b"gx: commands: 0, objects: 0, refs: 0\r\n"
+        return without_line(terminal.seen()).replace(CLEAR, b"").partition(report)[2]
+
+    for more, wanted in [(-1, b""), (0, b"gx: store has 100 MB: gx grow store makes questions fast\r\n")]:
+        store.write_bytes(EMPTY_STORE)
+        blob = b"blob\ndata %d\n" % (size + more) + bytes(size + more)
+        assert run("import", "store", stdin=blob) == Done(0, b"", b""), "in a file nothing is told"
+        assert store.stat().st_size == 100_000_000 + more
+        assert told() == wanted
+    assert run("grow", "store").status == 0
+    assert told() == b"", "a growing store has its tables"
+
+
 def test_refused_import(at_terminal, store: Path, tmp_path: Path) -> None:
     pieces = PIECES[:5] + [(b"foo\n", None)]
     status, seen, printed = show(at_terminal, pieces, "import", "store", tmp_path=tmp_path)

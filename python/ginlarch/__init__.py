@@ -97,6 +97,8 @@ class Repository:
 
     def __init__(self) -> None:
         """An empty repository."""
+        # the call that answers what is saved: a store that is new grows, and one that was opened stays what it is
+        self._text_call = "growing_text"
         self._place: Optional[str] = None
         self._held_place: Optional[str] = None
         self._stamp: Optional[files.Stamp] = None
@@ -141,6 +143,7 @@ class Repository:
         repository = cls()
         try:
             repository._handle.ask("load", _bytes(text))
+            repository._text_call = "text"
         except BaseException:
             repository.close()
             raise
@@ -245,12 +248,16 @@ class Repository:
         return self._handle.ask("archive", _bytes(revision), _bytes(prefix)).data
 
     def to_bytes(self) -> bytes:
-        """The bytes of a store file of the repository (docs/STORE.md)."""
-        return self._handle.ask("text").data
+        """The bytes of a store file of the repository, of the version that it was opened from (docs/STORE.md).
+
+        A repository that was made in memory gives those of a growing store.
+        """
+        return self._handle.ask(self._text_call).data
 
     def save(self, path: Optional[files.Path] = None, wait: Optional[int] = None) -> None:
         """Has the program gx write the store file, or that at a path; it is replaced as a whole or stays as it was.
 
+        The file that was opened stays a growing store, or one of version 2; a new one is a growing store.
         A run of gx that writes it is waited for, at most so many seconds where `wait` tells them: then it
         raises `StoreLocked`. Where the file that was opened is another one by now, it raises `StoreChanged`.
         A new file isn't put over one that is there.
@@ -260,6 +267,7 @@ class Repository:
             raise ValueError("this repository was opened from no file")
         if place == self._held_place:
             raise ValueError("this repository is saved at the end of its `with`")
-        expected = self._stamp if place == self._place else None
-        self._stamp = files.put(place, self._handle.pieces("text"), expected, wait)
-        self._place = place
+        is_same = place == self._place
+        text_call = self._text_call if is_same else "growing_text"
+        self._stamp = files.put(place, self._handle.pieces(text_call), self._stamp if is_same else None, wait)
+        self._place, self._text_call = place, text_call

@@ -49,6 +49,7 @@ _ARGUMENTS = {
     "open": _text,
     "load": _text,
     "text": [],
+    "growing_text": [],
     "import": _text + _flag + _flag,
     "refs": [],
     "file": _text + _text,

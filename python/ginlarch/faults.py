@@ -29,6 +29,7 @@ FromItself EmptyBranch Unsupported LateOption MissingDone NotFastForward NameHel
 
 _STORES = """
 Truncated BadMagic BadVersion BadRecord NameMismatch BadObject Dangling DuplicateObject BadRef RefOrder TrailingBytes
+BadRows
 """
 
 _CLASSES: Dict[str, Type[Refused]] = {

@@ -6,11 +6,17 @@
 
 enum { HANDLES = 3, MOST = 2048 };
 
+/* as `gx init --growing` makes it */
+#define EMPTY_GROWING "gxstore 3\na\n00000000000000000262 00000000000000000244 adb75895df009d6af652e3e2686b8d561b10c7e4b0c7c84e20c13de012fb0597\n" \
+    "00000000000000000000 00000000000000000000 0000000000000000000000000000000000000000000000000000000000000000\n" \
+    "objects 0\nrows 0\n\nruns 0\nrefs 0\nend\n"
+
 static const char *const WORDS[] = {
     "main", "v1", "refs/heads/main", "main^", "main~2", "main:a", "main:", "^main", "main..v1", "...", "@", "main^{tree}", "", "a/../b", "a",
     "blob\nmark :1\ndata 1\nx\n", "feature done\n", "done\n", "checkpoint\n", "progress hello\n", "reset refs/heads/b\nfrom refs/heads/main\n\n",
     "commit refs/heads/main\ncommitter A <a@x> 1 +0000\ndata 2\nv1\nM 100644 inline a\ndata 1\nx\n",
     "tag v1\nfrom refs/heads/main\ntagger A <a@x> 1 +0000\ndata 1\nt\n", "gxstore 2\nobjects 0\nrefs 0\nend\n", "gxstore 2\nobjects 1\nblob 0 ",
+    EMPTY_GROWING, "gxstore 3\na\n",
 };
 
 static uint64_t state;
@@ -62,6 +68,7 @@ static uint32_t ask(ginlarch_store *store, uint32_t call, const uint8_t *a, size
     case 14: return ginlarch_changes(store, next(2));
     case 15: return ginlarch_ls(store, a, n);
     case 16: return ginlarch_commit(store, a, n, next(8));
+    case 17: return ginlarch_growing_text(store);
     default: return ginlarch_range(store, next(2));
     }
 }
@@ -96,7 +103,7 @@ int main(int argc, char **argv) {
         case 1: case 2: case 3:
             expect(ginlarch_open(store, a, n) == (was_open ? GINLARCH_IN_USE : GINLARCH_DONE), "a handle isn't opened");
             break;
-        default: look(store, ask(store, next(18), a, n, b, m), was_open);
+        default: look(store, ask(store, next(19), a, n, b, m), was_open);
         }
         free(a), free(b);
     }

@@ -14,6 +14,7 @@ static size_t told(const char *name, size_t otherwise) {
 CALL(open, TEXT)
 CALL(load, TEXT)
 CALL(text)
+CALL(growing_text)
 CALL(import, TEXT, bool, bool)
 CALL(refs)
 CALL(file, TEXT, TEXT)

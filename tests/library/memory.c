@@ -38,9 +38,15 @@ static int look(ginlarch_store *store, uint32_t status) {
     return status == GINLARCH_REFUSED;
 }
 
+/* the store text that was answered, if one was, is loaded */
+static int load_answer(ginlarch_store *store) {
+    static uint8_t room[1 << 16];
+    size_t length = ginlarch_read(store, 0, room, sizeof room);
+    return length == 0 ? 0 : look(store, ginlarch_load(store, room, length));
+}
+
 /* every call that takes memory once, on a repository that stands: how many were refused */
 static int ask(ginlarch_store *store) {
-    static uint8_t room[1 << 16];
     int count = look(store, ginlarch_refs(store)) + look(store, ginlarch_file(store, TEXT("main"), TEXT("d/a")))
         + look(store, ginlarch_object(store, TEXT("main^{tree}"))) + look(store, ginlarch_name(store, TEXT("main~0")))
         + look(store, ginlarch_ls(store, TEXT("main:d")));
@@ -49,8 +55,10 @@ static int ask(ginlarch_store *store) {
     count += look(store, ginlarch_word(store, TEXT("main"))) + look(store, ginlarch_range(store, true));
     count += look(store, ginlarch_archive(store, TEXT("main"), TEXT("p/"))) + look(store, ginlarch_export(store));
     count += look(store, ginlarch_changes(store, true)) + look(store, ginlarch_text(store));
-    size_t length = ginlarch_read(store, 0, room, sizeof room);
-    return count + (length == 0 ? 0 : look(store, ginlarch_load(store, room, length)));
+    count += load_answer(store);
+    count += look(store, ginlarch_growing_text(store));
+    count += load_answer(store);
+    return count + look(store, ginlarch_text(store));
 }
 
 /* a handle from its opening to its end: how many calls were refused */

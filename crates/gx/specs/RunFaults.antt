@@ -1,8 +1,13 @@
 -- What a refused run prints on standard error. Source: this project's own.
 use Rattle.std.specs.Prelude.{ℕ, List, codes}
 use Rattle.gx_cli.specs.FaultLines as command
+use Rattle.gx_cli.specs.declared.fault.CliFault.TheVariants as cli
+use Rattle.gx_objects.specs.declared.fault.LookFault.{LookFault}
+use Rattle.gx_objects.specs.declared.fault.LookFault.TheVariants as look
+use Rattle.gx_told.specs.declared.fault.ToldFault.{ToldFault}
+use Rattle.gx_told.specs.declared.fault.ToldFault.TheVariants as told
 use Rattle.gx.specs.declared.fault.RunFault.{RunFault}
-use Rattle.gx.specs.declared.fault.RunFault.TheVariants.{Command, LockFailed, LongName, StoreChanged, BadStamp, RandomFailed}
+use Rattle.gx.specs.declared.fault.RunFault.TheVariants.{Command, LockFailed, LongName, StoreChanged, BadStamp, RandomFailed, Damaged}
 
 -- the line of a refusal, without its line feed
 abbrev pub line_of : RunFault → List ℕ
@@ -12,3 +17,19 @@ line_of LongName = codes "gx: name too long"
 line_of StoreChanged = codes "gx: store changed"
 line_of BadStamp = codes "gx: bad stamp"
 line_of RandomFailed = codes "gx: random bytes failed"
+line_of Damaged = codes "gx: store: Damaged"
+
+-- why a run is refused that can't look into its store
+abbrev pub of_look : LookFault → RunFault
+of_look look.OutOfMemory = Command cli.OutOfMemory
+of_look look.ReadFailed = Command cli.ReadFailed
+of_look look.Damaged = Damaged
+
+-- why a run is refused whose question is
+abbrev pub of_told : ToldFault → RunFault
+of_told told.OutOfMemory = Command cli.OutOfMemory
+of_told told.StoreReadFailed = Command cli.ReadFailed
+of_told told.Damaged = Damaged
+of_told told.ReadFailed = Command cli.ReadFailed
+of_told told.WriteFailed = Command cli.WriteFailed
+of_told (told.Revision number kind) = Command (cli.Revision number kind)

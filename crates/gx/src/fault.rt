@@ -1,11 +1,13 @@
 //! Why a run of the program is refused.
 
-ghost use Rattle.std.specs.Prelude.{Some};
-ghost use Rattle.gx.specs.RunFaults.{line_of};
+ghost use Rattle.std.specs.Prelude.{◌≡◌, Some};
+ghost use Rattle.gx.specs.RunFaults.{line_of, of_look, of_told};
 
 use gx_adapt::AdaptFault;
 use gx_cli::{BlobsKind, CliFault};
 use gx_export::ExportFault;
+use gx_objects::LookFault;
+use gx_told::ToldFault;
 use std::alloc::AllocError;
 use std::fmt;
 use thiserror::Error;
@@ -25,6 +27,8 @@ pub(crate) enum RunFault {
     BadStamp,
     /// The system gives no random bytes.
     RandomFailed,
+    /// A question met what no growing store has.
+    Damaged,
 }
 
 impl fmt::Display for RunFault {
@@ -38,6 +42,7 @@ impl fmt::Display for RunFault {
             RunFault::StoreChanged => f.write_str("gx: store changed"),
             RunFault::BadStamp => f.write_str("gx: bad stamp"),
             RunFault::RandomFailed => f.write_str("gx: random bytes failed"),
+            RunFault::Damaged => f.write_str("gx: store: Damaged"),
         }
     }
 }
@@ -66,6 +71,35 @@ impl RunFault {
 impl From<CliFault> for RunFault {
     fn from(fault: CliFault) -> RunFault {
         RunFault::Command(fault)
+    }
+}
+
+impl From<LookFault> for RunFault {
+    ghost from_gives = { λ look fault. fault ≡ of_look look };
+
+    fn from(fault: LookFault) -> RunFault {
+        match fault {
+            LookFault::OutOfMemory => RunFault::Command(CliFault::OutOfMemory),
+            LookFault::ReadFailed => RunFault::Command(CliFault::ReadFailed),
+            LookFault::Damaged => RunFault::Damaged,
+        }
+    }
+}
+
+impl From<ToldFault> for RunFault {
+    ghost from_gives = { λ told fault. fault ≡ of_told told };
+
+    fn from(fault: ToldFault) -> RunFault {
+        match fault {
+            ToldFault::OutOfMemory => RunFault::Command(CliFault::OutOfMemory),
+            ToldFault::StoreReadFailed => RunFault::Command(CliFault::ReadFailed),
+            ToldFault::Damaged => RunFault::Damaged,
+            ToldFault::ReadFailed => RunFault::Command(CliFault::ReadFailed),
+            ToldFault::WriteFailed => RunFault::Command(CliFault::WriteFailed),
+            ToldFault::Revision { number, kind } => {
+                RunFault::Command(CliFault::Revision { number, kind })
+            }
+        }
     }
 }
 

@@ -2,6 +2,7 @@
 #![tactic(auto)]
 
 mod fault;
+mod looks;
 mod run;
 mod stores;
 mod streams;

@@ -7,6 +7,9 @@ use std::alloc::AllocError;
 use std::cell::Cell;
 use std::io::{self, ErrorKind, IsTerminal, Write};
 
+/// From so many bytes on a store without tables is told to be large.
+const LARGE: u64 = 100_000_000;
+
 /// What a call of the system was about.
 #[derive(Clone, Copy, PartialEq, Eq)]
 pub(crate) enum Subject {
@@ -179,6 +182,16 @@ impl<'a> Run<'a> {
     pub(crate) fn tell_narrowed(&self, file: &str) {
         let file = self.shown(file, "");
         let _ = eprintln!(self.rt; "gx: {file}: permissions were left out");
+    }
+
+    /// Tells of `gx grow`, where a store file without tables has so many bytes that questions of it are slow, and somebody reads it.
+    pub(crate) fn tell_large(&self, file: &str, bytes: u64) {
+        if self.is_watched() && bytes >= LARGE {
+            let (file, megabytes) = (self.shown(file, ""), bytes / 1_000_000);
+            let _ = eprintln!(self.rt;
+                "gx: {file} has {megabytes} MB: gx grow {file} makes questions fast"
+            );
+        }
     }
 
     /// Tells why the run is refused, in a line. Where it is to be explained, further ones tell where the fault of a stream stands and

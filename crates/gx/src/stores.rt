@@ -1,7 +1,7 @@
 //! Store files: the commands that make one, or put a next text in its place.
 
 pub(crate) mod files;
-mod host;
+pub(crate) mod host;
 mod next_text;
 mod process;
 mod push;
@@ -127,18 +127,19 @@ pub(crate) fn import(
     let repo = next.read_repo(state)?;
     tell_typed_stream(run);
     let (left, answer, nameless) = import_shown(run, repo, features, report);
-    let changes = match left {
-        Some((repo, changes)) => {
-            next.publish_store(&repo)?;
-            changes
-        }
-        None => Vec::new(run.rt.alloc()),
+    let (changes, bytes) = match left {
+        Some((repo, changes)) => (changes, next.publish_store(&repo)?.size),
+        None => (Vec::new(run.rt.alloc()), 0),
     };
+    let form = next.form();
     drop(next);
     tell_changes(run, &changes);
     tell_import(run, &answer?, report);
     if report {
         tell_nameless(run, nameless);
+    }
+    if form == StoreForm::Plain {
+        run.tell_large(file, bytes);
     }
     Ok(())
 }

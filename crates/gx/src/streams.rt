@@ -7,6 +7,8 @@ pub(crate) mod reports;
 pub(crate) mod traced;
 mod trail;
 
+use crate::fault::RunFault;
+use crate::looks::{growing_file, print_looked};
 use crate::run::Run;
 use crate::stores::files::{open_text, read_store};
 use devices::{Noted, flushed};
@@ -76,12 +78,12 @@ pub(crate) fn answer_input(
     line: &Line<'_>,
     file: Option<&str>,
     state: RandomState,
-) -> Result<(), CliFault> {
+) -> Result<(), RunFault> {
     let store = match file {
         Some(file) => read_store(run, file)?,
         None => Vec::new(run.rt.alloc()),
     };
-    serve_line(run, line, store, Noted::output(run), state)
+    Ok(serve_line(run, line, store, Noted::output(run), state)?)
 }
 
 /// Prints what a command tells of a store.
@@ -90,9 +92,12 @@ pub(crate) fn print(
     line: &Line<'_>,
     file: &str,
     state: RandomState,
-) -> Result<(), CliFault> {
+) -> Result<(), RunFault> {
+    if let Some(opened) = growing_file(run, line, file)? {
+        return print_looked(run, line, file, opened);
+    }
     let store = read_store(run, file)?;
-    print_to(run, line, store, Noted::output(run), state)
+    Ok(print_to(run, line, store, Noted::output(run), state)?)
 }
 
 /// Tells what a store holds, which is read as a whole.

@@ -11,7 +11,6 @@ use Rattle.gx_model.specs.Texts.{Bytes}
 use Rattle.gx_model.specs.Texts.Paths.{path_of}
 use Rattle.gx_model.specs.Faults.{Given, IsFaultOf, ◌>>=◌}
 use Rattle.gx_model.specs.Faults.FaultWords as import_words
-use Rattle.gx_model.specs.Faults.StoreFaults as store_words
 use Rattle.gx_model.specs.Histories.{History}
 use Rattle.gx_model.specs.Histories.Files.{Leaf}
 use Rattle.gx_model.specs.Records.{body_of, kind_of, name_of}
@@ -20,6 +19,7 @@ use Rattle.gx_model.specs.Revisions.Denotation.{Shown, denoted, looked_up, objec
 use Rattle.gx_model.specs.Revisions.Ranges.{WordFault, listed}
 use Rattle.gx_model.specs.Objects.{hex}
 use Rattle.gx_rev.specs.RevFaults as rev
+use Rattle.gx_growing.specs.Faults as store_words
 use Rattle.gx_rev.specs.Walking.{IsWordFault}
 use Rattle.gx_c.specs.declared.answer.Answer.{Answer}
 use Rattle.gx_c.specs.declared.answer.Why.{Why}

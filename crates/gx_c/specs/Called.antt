@@ -5,7 +5,6 @@ use Rattle.std.specs.List.{flat_map}
 use Rattle.std.specs.declared.alloc.Global.{Global}
 use Rattle.sha1.specs.Sha1.{sha1}
 use Rattle.gx_model.specs.declared.objects.Kind.{Kind}
-use Rattle.gx_model.specs.declared.store_versions.Version.TheVariants.{Two}
 use Rattle.gx_model.specs.Changes.{changes_text}
 use Rattle.gx_model.specs.Export.{export_text}
 use Rattle.gx_model.specs.Faults.{Given, IsFaultOf, ◌>>=◌}
@@ -13,14 +12,17 @@ use Rattle.gx_model.specs.Histories.{History, Records}
 use Rattle.gx_model.specs.Objects.Naming.{record_text}
 use Rattle.gx_model.specs.Records.HistoryOf.{history_of}
 use Rattle.gx_model.specs.Revisions.{RangeWord, range_of}
-use Rattle.gx_model.specs.Stores.StoreReading.{Stored, store_of}
-use Rattle.gx_model.specs.Stores.StoreText.{store_text, stored_ref}
+use Rattle.gx_model.specs.Stores.StoreText.{stored_ref}
 use Rattle.gx_model.specs.Texts.{Bytes}
-use Rattle.gx_lines.specs.Reads as file
+use Rattle.gx_growing.specs.GrowingReading.{Grown}
+use Rattle.gx_growing_file.specs.Grown.{IsGrownFault}
 use Rattle.gx_rev.specs.RevFaults.{fault_of}
 use Rattle.gx_rev.specs.Views.{shown_range}
 use Rattle.gx_rev.specs.declared.fault.RevFault.{RevFault}
 use Rattle.gx_rev.specs.declared.range.Range.{Range as RangeHeld}
+use Rattle.gx_versions.specs.declared.forms.StoreForm.{StoreForm}
+use Rattle.gx_versions.specs.declared.forms.StoreForm.TheVariants.{Growing}
+use Rattle.gx_versions.specs.Versions.{form_of, opened_of, text_in}
 use Rattle.gx_c.specs.Answers as answers
 use Rattle.gx_c.specs.Answers.{Answers, AnswersText}
 use Rattle.gx_c.specs.Written.{AnswersRange, archive_answer}
@@ -40,14 +42,23 @@ git_name kind body = sha1 (record_text kind body)
 abbrev pub words_of : Opened → List RangeWord
 words_of opened = map shown_range opened.words.items
 
--- the repository and the words stay, and this is answered
+-- the repository, its form and the words stay, and this is answered
 pub record Asks (IsAnswer : Records → Answer Global → Type 0) (was now : Opened) : Type 0 where
   pub repository : now.repo ≡ was.repo
+  pub form : now.form ≡ was.form
   pub words : now.words ≡ was.words
   pub answer : IsAnswer was.repo.1 now.answer
 
+-- the text of the repository in a form
+abbrev pub TextsIn : StoreForm → Opened → Opened → Type 0
+TextsIn form = Asks (λ repository. AnswersText (Ok (text_in form repository)))
+
+-- in that of the text that was loaded
 abbrev pub Texts : Opened → Opened → Type 0
-Texts = Asks (λ repository. AnswersText (Ok (store_text Two repository)))
+Texts was = TextsIn was.form was
+
+abbrev pub GrowingTexts : Opened → Opened → Type 0
+GrowingTexts = TextsIn Growing
 
 abbrev pub Refs : Opened → Opened → Type 0
 Refs = Asks (λ repository. AnswersText (Ok (flat_map stored_ref repository.refs)))
@@ -79,6 +90,7 @@ Changes closed = Asks (λ repository. AnswersText (Ok (changes_text git_name clo
 -- The words are used up, and this is answered.
 pub record Uses (IsAnswer : History → List RangeWord → Answer Global → Type 0) (was now : Opened) : Type 0 where
   pub repository : now.repo ≡ was.repo
+  pub form : now.form ≡ was.form
   pub words : now.words.items ≡ []
   pub answer : IsAnswer (history_of was.repo.1) (words_of was) now.answer
 
@@ -103,23 +115,26 @@ AddsWord given why.Field was now = ⊥
 
 pub record Word (text : Bytes) (was now : Opened) : Type 0 where
   pub repository : now.repo ≡ was.repo
+  pub form : now.form ≡ was.form
   pub words : AddsWord (range_of text) now.answer.why was now
   pub nothing : now.answer.bytes.items ≡ []
 
--- The repository is that of a store text; or the text is refused for its first fault, or memory ran out, and it stays.
-abbrev pub LoadsSo : Stored Records → Why → Opened → Opened → Type 0
-LoadsSo stored why.Done was now = stored ≡ Ok now.repo.1
-LoadsSo stored (why.Store fault) was now = file.IsFaultOf fault stored × (now.repo ≡ was.repo)
-LoadsSo stored (why.Revision fault) was now = ⊥
-LoadsSo stored (why.Import fault) was now = ⊥
-LoadsSo stored why.Field was now = ⊥
+-- The repository is that of a store text of any version, and the form that of the text; or the text is refused for its first fault, or
+-- memory ran out, and both stay.
+abbrev pub LoadsSo : StoreForm → Grown Records → Why → Opened → Opened → Type 0
+LoadsSo form read why.Done was now = (read ≡ Ok now.repo.1) × (now.form ≡ form)
+LoadsSo form read (why.Store fault) was now = IsGrownFault fault read × (now.repo ≡ was.repo) × (now.form ≡ was.form)
+LoadsSo form read (why.Revision fault) was now = ⊥
+LoadsSo form read (why.Import fault) was now = ⊥
+LoadsSo form read why.Field was now = ⊥
 
 pub record Loads (text : Bytes) (was now : Opened) : Type 0 where
   pub words : now.words ≡ was.words
-  pub repository : LoadsSo (store_of git_name text) now.answer.why was now
+  pub repository : LoadsSo (form_of text) (opened_of git_name text) now.answer.why was now
   pub nothing : now.answer.bytes.items ≡ []
 
--- a stream is imported, and the words stay
+-- a stream is imported, and the form and the words stay
 pub record Imports (done force : Bool) (stream : Bytes) (was now : Opened) : Type 0 where
+  pub form : now.form ≡ was.form
   pub words : now.words ≡ was.words
   pub imported : AnswersImport (λ _. git_name) (features_of done force) was.repo now.repo stream now.answer

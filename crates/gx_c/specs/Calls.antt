@@ -3,6 +3,7 @@
 use Rattle.std.specs.Prelude.{◌≡◌, ℕ, ◌++◌, min, length, take, drop, false, true, [], Option, Some, None}
 use Rattle.std.specs.declared.boxed.Box.{Box}
 use Rattle.gx_model.specs.Texts.{Bytes}
+use Rattle.gx_versions.specs.declared.forms.StoreForm.TheVariants.{Plain}
 use Rattle.gx_c.specs.Answers.{status_of}
 use Rattle.gx_c.specs.declared.answer.Why.TheVariants.{Done}
 use Rattle.gx_c.specs.declared.opened.Opened.{Opened}
@@ -13,9 +14,10 @@ abbrev pub Takes : {A : Type 0} → Store → Store → Option (Box Opened A) �
 Takes old new None = (old.held.value ≡ None) × (new ≡ old)
 Takes old new (Some opened) = (old.is_open ≡ true) × (old.held.value ≡ Some opened.value) × (new.is_open ≡ false) × (new.held.value ≡ None)
 
--- the repository has no objects and no refs, and no words are given
+-- the repository has no objects and no refs and is of no growing text, and no words are given
 pub record IsNew (opened : Opened) : Type 0 where
   pub repository : opened.repo.1 ≡ record { records = []; refs = [] }
+  pub form : opened.form ≡ Plain
   pub words : opened.words.items ≡ []
   pub done : opened.answer.why ≡ Done
   pub nothing : opened.answer.bytes.items ≡ []

@@ -5,7 +5,8 @@ ghost use Rattle.gx_c.specs.declared.answer.Why.TheVariants as why;
 ghost use Rattle.gx_c.specs.Answers.{status_of, word_of_why};
 
 use crate::store::{DONE, REFUSED};
-use gx_model::{Fault, FileFault};
+use gx_growing::GrowingFault;
+use gx_model::Fault;
 use gx_rev::RevFault;
 use std::alloc::Allocator;
 
@@ -19,7 +20,7 @@ pub enum Why {
     /// A stream.
     Import(Fault),
     /// A store's text.
-    Store(FileFault),
+    Store(GrowingFault),
     /// The number of a commit's field.
     Field,
 }

@@ -9,6 +9,7 @@ use crate::handing::{put_back, taken};
 use crate::opened::Opened;
 use crate::store::{CLOSED, IN_USE, OUT_OF_MEMORY, Store};
 use crate::{asking, fields, listing, writing};
+use gx_versions::StoreForm;
 use std::alloc::Global;
 
 /// Opens a handle on a repository with no objects and no refs, whose hashes are keyed by sixteen bytes.
@@ -33,7 +34,7 @@ pub extern "C" fn ginlarch_close(alloc: Global, store: &mut Store)
     let _ = taken(alloc, store);
 }
 
-/// Replaces the repository by that of a store text; where that is refused it stays as it was.
+/// Replaces the repository by that of a store text of any version; where that is refused it stays as it was.
 #[unsafe(no_mangle)]
 pub extern "C" fn ginlarch_load(alloc: Global, store: &mut Store, text: &[u8]) -> u32
     ensures { Calls (called.Loads text.now) store.old store.new result }
@@ -64,7 +65,7 @@ pub extern "C" fn ginlarch_import(
     put_back(store, opened)
 }
 
-/// Answers the repository's store text.
+/// Answers the repository's store text, in the form of the one that was loaded: of version 2 where none was.
 #[unsafe(no_mangle)]
 pub extern "C" fn ginlarch_text(alloc: Global, store: &mut Store) -> u32
     ensures { Calls called.Texts store.old store.new result }
@@ -72,7 +73,19 @@ pub extern "C" fn ginlarch_text(alloc: Global, store: &mut Store) -> u32
     let Some(mut opened) = taken(alloc, store) else {
         return CLOSED;
     };
-    opened.answer = writing::text(alloc, &opened.repo);
+    opened.answer = writing::text(alloc, &opened.repo, opened.form);
+    put_back(store, opened)
+}
+
+/// Answers the repository's growing text, whatever was loaded.
+#[unsafe(no_mangle)]
+pub extern "C" fn ginlarch_growing_text(alloc: Global, store: &mut Store) -> u32
+    ensures { Calls called.GrowingTexts store.old store.new result }
+{
+    let Some(mut opened) = taken(alloc, store) else {
+        return CLOSED;
+    };
+    opened.answer = writing::text(alloc, &opened.repo, StoreForm::Growing);
     put_back(store, opened)
 }
 

@@ -2,6 +2,9 @@
 
 ghost use Rattle.std.specs.Prelude.{◌≡◌, IfSome};
 ghost use Rattle.gx_model.specs.Revisions.{range_of};
+ghost use Rattle.gx_growing_file.specs.Grown.{ReadsGrown};
+ghost use Rattle.gx_versions.specs.Versions.{opened_of};
+ghost use Rattle.gx_c.specs.Called.{git_name};
 ghost use Rattle.gx_c.specs.Called as called;
 ghost use Rattle.gx_c.specs.Calls.{IsNew};
 
@@ -10,18 +13,21 @@ use crate::asking::commits;
 use crate::importing::import;
 use crate::keys::hashing_state;
 use crate::writing::range;
-use gx_file::read;
+use gx_model::FileFault;
 use gx_object::Sha1Namer;
 use gx_repo::Repo;
 use gx_rev::{Range, RevFault};
+use gx_versions::{GrowingFault, StoreForm, form_of, open_store};
 use std::alloc::Global;
 use std::hash::RandomState;
 use std::mem::replace;
 
-/// A repository, the range words that were given for the next walk, and what the last call answered.
+/// A repository and the form of the text that it is of, the range words that were given for the next walk, and what the
+/// last call answered.
 #[derive(Drop)]
 pub struct Opened {
     pub repo: Repo<Sha1Namer, Global>,
+    pub form: StoreForm,
     pub state: RandomState,
     pub words: Vec<Range<Global>>,
     pub answer: Answer<Global>,
@@ -36,6 +42,7 @@ impl Opened {
         let state = hashing_state(key).ok()?;
         let opened = Opened {
             repo: Repo::new(alloc, Sha1Namer, state),
+            form: StoreForm::Plain,
             state,
             words: Vec::new(alloc),
             answer: Answer::given(Vec::new(alloc), 0),
@@ -43,13 +50,15 @@ impl Opened {
         Box::new(alloc, opened).ok()
     }
 
-    /// Replaces the repository by that of a store text; where the text is refused it stays.
+    /// Replaces the repository by that of a store text of any version, and the form by that of the text; where the text
+    /// is refused both stay.
     pub(crate) fn load(&mut self, alloc: Global, text: &[u8])
         ensures { called.Loads text.now self.old self.new }
     {
-        match read(alloc, Sha1Namer, text, self.state) {
+        match read(alloc, text, self.state) {
             Ok(repo) => {
                 self.repo = repo;
+                self.form = form_of(text);
                 self.answer = Answer::given(Vec::new(alloc), 0);
             }
             Err(fault) => self.answer = Answer::refused(alloc, Why::Store(fault), 0),
@@ -87,6 +96,20 @@ impl Opened {
     {
         let words = replace(&mut self.words, Vec::new(alloc));
         self.answer = range(alloc, &self.repo, &words, closed);
+    }
+}
+
+/// The repository of a store text of any version, which is copied.
+fn read(
+    alloc: Global,
+    text: &[u8],
+    state: RandomState,
+) -> Result<Repo<Sha1Namer, Global>, GrowingFault>
+    ensures { ReadsGrown (λ repo. repo.1) result (opened_of git_name text.now) }
+{
+    match Vec::from_slice(alloc, text) {
+        Ok(copy) => open_store(alloc, Sha1Namer, copy, state),
+        Err(_) => Err(GrowingFault::Text(FileFault::OutOfMemory)),
     }
 }
 

@@ -158,6 +158,41 @@ fn texts_are_read_back(rt: HostRuntime) -> Result<(), Fail> {
 }
 
 #[test]
+fn store_is_written_in_the_form_that_was_loaded(rt: HostRuntime) -> Result<(), Fail> {
+    let alloc = rt.alloc();
+    let mut store = imported(alloc, STREAM, true);
+    let (mut plain_room, mut growing_room) = ([0; 20_000], [0; 20_000]);
+    assert_eq!(rt; ginlarch_text(alloc, &mut store), DONE, "text");
+    let count = answered(alloc, &mut store, &mut plain_room);
+    let plain = plain_room.get(..count).unwrap_or(b"");
+    assert_eq!(rt;
+        ginlarch_growing_text(alloc, &mut store),
+        DONE,
+        "growing text"
+    );
+    let count = answered(alloc, &mut store, &mut growing_room);
+    let growing = growing_room.get(..count).unwrap_or(b"");
+    assert!(rt;
+        plain.starts_with(b"gxstore 2\n") && growing.starts_with(b"gxstore 3\n"),
+        "versions"
+    );
+    for text in [growing, plain, growing] {
+        assert_eq!(rt; ginlarch_load(alloc, &mut store, text), DONE, "load");
+        let status = ginlarch_refs(alloc, &mut store);
+        assert!(rt; gives(alloc, &mut store, status, REFS, 0), "refs");
+        let status = ginlarch_text(alloc, &mut store);
+        assert!(rt; gives(alloc, &mut store, status, text, 0), "text");
+    }
+    let status = ginlarch_load(alloc, &mut store, &growing[..100]);
+    assert!(rt;
+        refuses(alloc, &mut store, status, b"Truncated"),
+        "a head that is cut"
+    );
+    ginlarch_close(alloc, &mut store);
+    Ok(())
+}
+
+#[test]
 fn refusals_are_told(rt: HostRuntime) -> Result<(), Fail> {
     let alloc = rt.alloc();
     let mut store = imported(alloc, STREAM, true);

@@ -5,31 +5,35 @@ ghost use Rattle.std.specs.Prelude.{◌≡◌, Ok, map};
 ghost use Rattle.gx_model.specs.Changes.{changes_text};
 ghost use Rattle.gx_model.specs.Export.{export_text};
 ghost use Rattle.gx_model.specs.Records.HistoryOf.{history_of};
-ghost use Rattle.gx_model.specs.Stores.StoreText.{store_text};
-ghost use Rattle.gx_model.specs.declared.store_versions.Version.TheVariants.{Two};
 ghost use Rattle.gx_rev.specs.Views.{shown_range};
 ghost use Rattle.gx_archive.specs.Archives.{archive_of};
+ghost use Rattle.gx_versions.specs.Versions.{text_in};
 ghost use Rattle.gx_c.specs.Answers.{AnswersText};
 ghost use Rattle.gx_c.specs.Written.{AnswersRange, archive_answer};
 
 use crate::answer::{Answer, Why};
 use gx_archive::{ArchiveFault, archive};
 use gx_export::{RangeFault, export, export_changes, export_range};
-use gx_file::write;
 use gx_object::Namer;
 use gx_repo::Repo;
 use gx_rev::{Range, RevFault, Revision};
 use gx_text::Growing;
+use gx_versions::{StoreForm, send_store};
 use std::alloc::Allocator;
 
-/// The store text of the repository, of version 2.
+/// The store text of the repository in a form: of version 2, or a growing text.
 ///
-/// Refused for want of memory alone. Cost: the text's length.
-pub(crate) fn text<N: Namer, A: Allocator + Copy>(alloc: A, repo: &Repo<N, A>) -> Answer<A>
-    ensures { AnswersText (Ok (store_text Two repo.now.1)) result }
+/// Refused for want of memory alone. Cost: that of `gx_versions::send_store`, and the text.
+pub(crate) fn text<N: Namer, A: Allocator + Copy>(
+    alloc: A,
+    repo: &Repo<N, A>,
+    form: StoreForm,
+) -> Answer<A>
+    ensures { AnswersText (Ok (text_in form repo.now.1)) result }
 {
-    match write(alloc, repo) {
-        Ok(text) => Answer::given(text, 0),
+    let mut text = Growing::new(alloc);
+    match send_store(alloc, repo, form, &mut text) {
+        Ok(()) => Answer::given(text.into_bytes(), 0),
         Err(_) => Answer::refused(alloc, Why::Revision(RevFault::OutOfMemory), 0),
     }
 }

@@ -12,10 +12,10 @@ use Rattle.gx_rev.specs.declared.fault.RevFault.{RevFault}
 use Rattle.gx_rev.specs.declared.fault.RevFault.TheVariants.{OutOfMemory}
 use Rattle.gx_cli.specs.Answers.{Prints}
 use Rattle.gx_cli.specs.Gathering.{of_archive}
-use Rattle.gx_cli.specs.Stored.{of_word, only_word}
+use Rattle.gx_print.specs.Stored.{of_word, only_word}
 use Rattle.gx_cli.specs.Words.{refused_at}
 use Rattle.gx_cli.specs.declared.fault.CliFault.TheVariants as cli
-use Rattle.gx_cli.proofs.RefusedWords.{nothing_in_front}
+use Rattle.gx_print.proofs.ReadSteps.{nothing_in_front}
 use Rattle.gx_cli.proofs.SentLines.{given_text}
 use Rattle.gx_model.proofs.Texts.SentTexts.{took_nothing}
 

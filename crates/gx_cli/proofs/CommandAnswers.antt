@@ -12,10 +12,12 @@ use Rattle.gx_batch.specs.declared.format.Part.{Part}
 use Rattle.gx_rev.specs.RevFaults.{fault_of}
 use Rattle.gx_rev.specs.declared.fault.RevFault.{RevFault}
 use Rattle.gx_cli.specs.Answers.{IsRefusal, Prints}
-use Rattle.gx_cli.specs.Commanding.{answer_to, answered, asked_of, command_answer, printed_answer, shown_asked, word_at}
-use Rattle.gx_cli.specs.Stored.{Printed, Refusal, of_word}
+use Rattle.gx_cli.specs.Commanding.{answer_to, answered, command_answer}
+use Rattle.gx_print.specs.Asking.{asked_of, printed_answer, shown_asked}
+use Rattle.gx_print.specs.Words.{word_at}
+use Rattle.gx_print.specs.Stored.{Printed, Refusal, of_word}
 use Rattle.gx_cli.specs.Trying.{having_taken}
-use Rattle.gx_cli.specs.declared.commands.asked.Asked.{Asked}
+use Rattle.gx_print.specs.declared.asked.Asked.{Asked}
 use Rattle.gx_cli.specs.declared.fault.CliFault.TheVariants.{Revision}
 
 module _ (command : Bytes) (words : List Bytes) (given : Printed) (was now : Option Taken) (answer : Result (Unit {0}) BatchFault) where

@@ -1,17 +1,12 @@
-pub mod ListedEntries
 pub mod SentLines
 pub mod ReadWords
 pub mod RefusedWords
 pub mod ListedCommits
-pub mod ListedFiles
 pub mod ArchivedWords
-pub mod WalkedFiles
 pub mod Trials
 pub mod Pieces
 pub mod StoredAnswers
 pub mod StoredImports
-pub mod WordsRead
-pub mod SplitWords
 pub mod CommandAnswers
 pub mod FormattedLines
 pub mod ReadStores
@@ -32,6 +27,5 @@ pub mod RetoldImports
 pub mod FoundFaults
 pub mod LoggedLines
 pub mod MarkedNames
-pub mod MessageTexts
 pub mod CommitEntries
 pub mod ServedLines

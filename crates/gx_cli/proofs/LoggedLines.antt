@@ -13,12 +13,13 @@ use Rattle.gx_batch.specs.declared.ending.LineEnding.TheVariants.{Lf}
 use Rattle.gx_line.specs.declared.command_line.LogOptions.{LogOptions}
 use Rattle.gx_cli.specs.Answers.{IsRefusal, Prints}
 use Rattle.gx_cli.specs.Gathering.{AreLines, GathersLines}
-use Rattle.gx_cli.specs.Logs.{LogsFrom, LogsRead, log_text}
-use Rattle.gx_cli.specs.Stored.{Printed, Refusal, of_word}
+use Rattle.gx_cli.specs.Logs.{LogsFrom, LogsRead}
+use Rattle.gx_print.specs.Logs.{log_text}
+use Rattle.gx_print.specs.Stored.{Printed, Refusal, of_word}
 use Rattle.gx_cli.specs.declared.fault.CliFault.{CliFault}
 use Rattle.gx_cli.specs.declared.fault.CliFault.TheVariants.{OutOfMemory, ReadFailed}
 use Rattle.gx_model.proofs.Texts.SentTexts.{took_nothing}
-use Rattle.gx_cli.proofs.RefusedWords.{nothing_in_front}
+use Rattle.gx_print.proofs.ReadSteps.{nothing_in_front}
 
 -- no text that is given is answered as a failed read
 no_refusal : (refusal : Refusal) → IsRefusal refusal ReadFailed → ⊥

@@ -1,4 +1,4 @@
--- What words give in several steps, and what is printed where one of them is refused.
+-- What is printed where one of several words is refused.
 use Rattle.std.proofs.Common.{◌≡◌, refl, sym, ap, subst, [], Option, Result, Ok, Err}
 use Rattle.gx_model.specs.Faults.{Given, IsFaultOf, ◌>>=◌}
 use Rattle.gx_model.specs.Revisions.Ranges.{WordFault}
@@ -9,24 +9,11 @@ use Rattle.gx_rev.specs.declared.fault.RevFault.TheVariants.{OutOfMemory}
 use Rattle.gx_rev.specs.RevFaults.{fault_of}
 use Rattle.gx_cli.specs.declared.fault.CliFault.{CliFault}
 use Rattle.gx_cli.specs.declared.fault.CliFault.TheVariants as cli
-use Rattle.gx_cli.specs.Answers.{IsFrontOf, Prints}
-use Rattle.gx_cli.specs.Stored.{Printed, Refusal, all_words, of_word, only_word}
+use Rattle.gx_print.specs.Stored.{Refusal, all_words, of_word, only_word}
+use Rattle.gx_cli.specs.Answers.{Prints}
+use Rattle.gx_print.proofs.ReadSteps.{nothing_in_front, then_words}
 use Rattle.gx_cli.specs.Words.{RefusesWord, refused_at}
 use Rattle.gx_model.proofs.Texts.SentTexts.{took_nothing}
-
--- what is made of what all words give, in two steps
-pub in_two : {A B C : Type 0} (a : Result A WordFault) (f : A → Result B WordFault) (k : B → C) → all_words (a >>= λ x. f x >>= λ y. Ok (k y)) ≡ (all_words (a >>= f) >>= λ y. Ok (k y))
-in_two {A} {B} {C} (Err e) f k = refl
-in_two {A} {B} {C} (Ok x) f k = by (f x)
-  where
-    by : (r : Result B WordFault) → all_words (r >>= λ y. Ok (k y)) ≡ (all_words r >>= λ y. Ok (k y))
-    by (Ok y) = refl
-    by (Err e) = refl
-
--- what the first words give is what the second step is for
-pub then_words : {A B : Type 0} (a : Result A WordFault) (x : A) (f : A → Result B WordFault) → all_words a ≡ Ok x → all_words (a >>= f) ≡ all_words (f x)
-then_words (Ok y) x f e = let same : y ≡ x = cc e in ap (λ z. all_words (f z)) same
-then_words (Err e) x f k = absurd (cc k)
 
 -- where the first words are refused, so are all
 fails_first : {A B : Type 0} (a : Result A WordFault) (f : A → Result B WordFault) (why : Refusal) → all_words a ≡ Err why → all_words (a >>= f) ≡ Err why
@@ -38,11 +25,6 @@ pub first_refused : {A B : Type 0} (a : Result A WordFault) (f : A → Result B 
 first_refused a f (cli.Revision number why) h = fails_first a f (of_word number (fault_of why)) h
 first_refused a f cli.OutOfMemory h = tt
 first_refused a f fault h = absurd h
-
--- nothing is a front of whatever is printed
-pub nothing_in_front : (given : Printed) → IsFrontOf given []
-nothing_in_front (Ok text) = (text, refl)
-nothing_in_front (Err refusal) = refl
 
 -- the first of several words that is refused, and nothing printed
 pub refusal_printed : {Y : Type 0} (given : Result Y Refusal) (text : Y → Bytes) (was : Option Taken) (fault : CliFault) → RefusesWord fault given → Prints (given >>= λ y. Ok (text y)) was was (Err fault)

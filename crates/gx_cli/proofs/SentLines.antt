@@ -1,14 +1,14 @@
 -- Texts that go out one after the other, and the whole that they make.
-use Rattle.std.proofs.Common.{◌≡◌, ℕ, zero, suc, ◌<◌, ◌+◌, arith, refl, sym, ap, subst, ◌∙◌, List, [], ◌∷◌, ◌++◌, map, drop, length, get_or, append_assoc, append-nil, Option, None, Some, Result, Ok, Err}
-use Rattle.std.specs.List.{flat_map, slice_get}
-use Rattle.std.proofs.lemmas.List.{drop_all, drop_more}
+use Rattle.std.proofs.Common.{◌≡◌, ℕ, ◌<◌, ◌+◌, refl, sym, ap, subst, ◌∙◌, List, [], ◌∷◌, ◌++◌, map, drop, length, get_or, append_assoc, append-nil, Option, Result, Ok, Err}
+use Rattle.std.specs.List.{flat_map}
+use Rattle.std.proofs.lemmas.List.{drop_more}
 use Rattle.gx_model.specs.Texts.{Bytes}
 use Rattle.gx_model.specs.Texts.Sinks.{Taken, Took}
 use Rattle.gx_cli.specs.declared.fault.CliFault.{CliFault}
 use Rattle.gx_cli.specs.declared.fault.CliFault.TheVariants.{OutOfMemory, WriteFailed}
 use Rattle.gx_cli.specs.Answers.{Prints}
 use Rattle.gx_cli.specs.Sending.{PrintsText}
-use Rattle.gx_cli.specs.Stored.{Printed}
+use Rattle.gx_print.specs.Stored.{Printed}
 use Rattle.gx_model.proofs.Texts.SentTexts.{IsLeft, left_fails, took_both}
 
 -- what stopped one of the texts stopped the whole
@@ -47,15 +47,3 @@ module _ {X Y : Type 0} (g : X → Y) (line : Y → Bytes) where
   -- the same, where the element at the place is given
   pub lines_from : (xs : List X) (i : ℕ) (x : X) → i < length xs → x ≡ get_or xs i x → flat_map line (map g (drop i xs)) ≡ line (g x) ++ flat_map line (map g (drop (i + 1) xs))
   lines_from xs i x h e = ap (λ ys. flat_map line (map g ys)) (drop_more xs i x h ∙ ap (λ y. y ∷ drop (i + 1) xs) (sym e))
-
--- the element at a place, and those behind it
-pub from_place : {X : Type 0} (xs : List X) (i : ℕ) (x : X) → Some x ≡ slice_get xs i → drop i xs ≡ x ∷ drop (i + 1) xs
-from_place [] i x e = absurd cc
-from_place (y ∷ ys) zero x e = let same : x ≡ y = cc in ap (λ z. z ∷ ys) (sym same)
-from_place (y ∷ ys) (suc i) x e = let s : suc i + 1 ≡ suc (i + 1) = omega arith in rw s (from_place ys i x e)
-
--- behind the last element there is none
-pub past_place : {X : Type 0} (xs : List X) (i : ℕ) → None ≡ slice_get xs i → drop i xs ≡ drop (i + 1) xs
-past_place [] i e = drop_all i [] (omega arith) ∙ sym (drop_all (i + 1) [] (omega arith))
-past_place (y ∷ ys) zero e = absurd cc
-past_place (y ∷ ys) (suc i) e = let s : suc i + 1 ≡ suc (i + 1) = omega arith in rw s (past_place ys i e)

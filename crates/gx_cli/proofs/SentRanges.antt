@@ -16,7 +16,7 @@ use Rattle.gx_export.specs.declared.fault.ExportFault.{ExportFault}
 use Rattle.gx_cli.specs.declared.fault.CliFault.{CliFault}
 use Rattle.gx_cli.specs.declared.fault.CliFault.TheVariants as cli
 use Rattle.gx_cli.specs.Forms.{SendsRange}
-use Rattle.gx_cli.specs.Stored.{all_words, commits_listed}
+use Rattle.gx_print.specs.Stored.{all_words, commits_listed}
 use Rattle.gx_cli.specs.Words.{RefusesWord, refused_at}
 use Rattle.gx_cli.proofs.ListedCommits.{walk_refused}
 use Rattle.gx_cli.proofs.RefusedWords.{first_refused, later_refused}

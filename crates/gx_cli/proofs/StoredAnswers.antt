@@ -6,9 +6,9 @@ use Rattle.gx_model.specs.Faults.{Given}
 use Rattle.gx_model.specs.Histories.{Records, empty_repository}
 use Rattle.gx_model.specs.Texts.Sinks.{Taken}
 use Rattle.gx_rev.specs.RevFaults as rev
-use Rattle.gx_cli.specs.Answers.{IsFrontOf, Prints}
+use Rattle.gx_print.specs.Stored.{IsFrontOf, Printed, of_word, only_word}
+use Rattle.gx_cli.specs.Answers.{Prints}
 use Rattle.gx_cli.specs.Serving.{IsWritten}
-use Rattle.gx_cli.specs.Stored.{Printed, of_word, only_word}
 use Rattle.gx_cli.specs.Trying.{Shows}
 use Rattle.gx_cli.specs.declared.fault.CliFault.{CliFault}
 use Rattle.gx_cli.specs.declared.fault.CliFault.TheVariants.{OutOfMemory, Revision, WriteFailed}

@@ -14,7 +14,7 @@ use Rattle.gx_command.specs.Reading.{commands_asked_from}
 use Rattle.gx_import.specs.Imports.{Imports, report_of}
 use Rattle.gx_import.specs.declared.report.Report.{Report}
 use Rattle.gx_import.specs.declared.fault.ImportFault.{ImportFault}
-use Rattle.gx_cli.specs.Listings.{text_of_word}
+use Rattle.gx_print.specs.Listings.{text_of_word}
 use Rattle.gx_cli.specs.Trying.{ImportsAlone, Shows, ShowsReplayed, StandsAlone, Tries}
 use Rattle.gx_cli.specs.declared.fault.CliFault.{CliFault}
 use Rattle.gx_cli.specs.declared.fault.CliFault.TheVariants.{Import, OutOfMemory, WriteFailed}

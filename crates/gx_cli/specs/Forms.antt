@@ -15,7 +15,7 @@ use Rattle.gx_rev.specs.RevFaults.{fault_of}
 use Rattle.gx_export.specs.ChangedParts.{DeliversWords, ExportsChanges}
 use Rattle.gx_export.specs.Exports.{Exports}
 use Rattle.gx_export.specs.declared.fault.ExportFault.{ExportFault}
-use Rattle.gx_cli.specs.Stored.{all_words, commits_listed, of_word}
+use Rattle.gx_print.specs.Stored.{all_words, commits_listed, of_word}
 use Rattle.gx_cli.specs.declared.fault.CliFault.{CliFault}
 use Rattle.gx_cli.specs.declared.fault.CliFault.TheVariants.{Export, OutOfMemory, Revision}
 use Rattle.gx_line.specs.declared.command_line.ExportForm.{ExportForm}

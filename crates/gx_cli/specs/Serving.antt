@@ -51,7 +51,8 @@ use Rattle.gx_cli.specs.Logs.{LogsFrom}
 use Rattle.gx_cli.specs.Setting.{SetsFrom}
 use Rattle.gx_cli.specs.Placing.{PlacesFrom}
 use Rattle.gx_blobs.specs.Printing.{PrintsBlobs}
-use Rattle.gx_cli.specs.Stored.{list_text, names_text, refs_text, show_text, tar_text}
+use Rattle.gx_print.specs.Stored.{list_text, names_text, refs_text, show_text}
+use Rattle.gx_cli.specs.Archived.{tar_text}
 use Rattle.gx_cli.specs.Storing.{Answer, ImportsAgain, ImportsStored}
 use Rattle.gx_text.specs.Lent.{lent_texts}
 use Rattle.gx_cli.specs.Trying.{FindsFault, Tries}

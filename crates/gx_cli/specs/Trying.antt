@@ -21,7 +21,7 @@ use Rattle.gx_rev.specs.Answers.{shown_file}
 use Rattle.gx_rev.specs.RevFaults.{fault_of}
 use Rattle.gx_import.specs.Imports.{Replays, replayed_on}
 use Rattle.gx_import.specs.declared.fault.ImportFault.{ImportFault}
-use Rattle.gx_cli.specs.Listings.{text_of_word}
+use Rattle.gx_print.specs.Listings.{text_of_word}
 use Rattle.gx_cli.specs.declared.fault.CliFault.{CliFault}
 use Rattle.gx_cli.specs.declared.fault.CliFault.TheVariants.{Import, OutOfMemory, WriteFailed}
 use Rattle.gx_cli.specs.declared.fault.CliFault.TheVariants as cli

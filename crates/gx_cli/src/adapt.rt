@@ -5,10 +5,10 @@ ghost use Rattle.gx_adapt.specs.Adapting.{IsReadAgain};
 ghost use Rattle.gx_cli.specs.Adapting.{EndsAdapted, adapt_status, lost_line, lost_text};
 ghost use Rattle.gx_cli.specs.Gathering.{AdaptsStream, texts_of};
 
-use crate::printing::put_printed;
 use crate::serving::{Outcome, refused};
 use crate::{Adapted, CliFault};
 use gx_adapt::adapt;
+use gx_print::put_printed;
 use gx_text::{Sink, Source};
 use std::alloc::{AllocError, Allocator};
 

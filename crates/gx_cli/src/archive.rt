@@ -2,7 +2,8 @@
 
 ghost use Rattle.gx_model.specs.Records.HistoryOf.{history_of};
 ghost use Rattle.gx_archive.specs.Archives.{archive_of};
-ghost use Rattle.gx_cli.specs.Stored.{only_word, tar_text};
+ghost use Rattle.gx_print.specs.Stored.{only_word};
+ghost use Rattle.gx_cli.specs.Archived.{tar_text};
 ghost use Rattle.gx_cli.specs.Answers.{Prints};
 
 use crate::CliFault;

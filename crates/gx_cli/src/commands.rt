@@ -8,24 +8,22 @@ ghost use Rattle.gx_batch.specs.Batches.{Sent};
 ghost use Rattle.gx_batch.specs.Calls.{SendsAnswer};
 ghost use Rattle.gx_text.specs.Lent.{lent_texts};
 ghost use Rattle.gx_cli.specs.Answers.{Prints};
-ghost use Rattle.gx_cli.specs.Commanding.{answered, command_answer, no_options, printed_answer, word_at};
-ghost use Rattle.gx_cli.specs.Logs.{log_text};
-ghost use Rattle.gx_cli.specs.Stored.{Printed, names_text};
+ghost use Rattle.gx_cli.specs.Commanding.{answered, command_answer};
+ghost use Rattle.gx_print.specs.Asking.{no_options, printed_answer};
+ghost use Rattle.gx_print.specs.Words.{words_in};
+ghost use Rattle.gx_print.specs.Logs.{log_text};
+ghost use Rattle.gx_print.specs.Stored.{Printed, names_text};
 ghost use Rattle.gx_cli.specs.Trying.{having_taken};
-ghost use Rattle.gx_cli.specs.Words.{words_in};
-
-mod asked;
 
 use crate::archive::print_archive;
 use crate::log::log;
 use crate::ls::list;
 use crate::refs::print_refs;
 use crate::rev_parse::print_names;
-use crate::words::words_in;
 use crate::{CliFault, LogFormat, LogOptions};
-use asked::{Asked, read};
 use gx_batch::{Answerer, BatchFault, Format, answer_revision, make_line, put_behind, refuse};
 use gx_object::Namer;
+use gx_print::{Asked, read_asked, word_at, words_in};
 use gx_repo::Repo;
 use gx_rev::RevFault;
 use gx_text::{Growing, Sink};
@@ -61,7 +59,7 @@ impl<'a, N: Namer, A: Allocator + Copy> Answerer<A> for Commands<'a, N, A> {
         buffer: &mut Vec<u8, A>,
         sink: &mut W,
     ) -> Result<(), BatchFault> {
-        match read(line) {
+        match read_asked(line) {
             Asked::Contents(revision) => self.tell(false, revision, buffer, sink),
             Asked::Info(revision) => self.tell(true, revision, buffer, sink),
             Asked::Flush => Ok(()),
@@ -185,18 +183,6 @@ fn reply<W: Sink, A: Allocator>(
     let mut digits = Buffer::new();
     make_line(command, digits.format(text.len()).as_bytes(), buffer)?;
     put_behind(text, buffer, sink)
-}
-
-/// The word with this number, from 1.
-fn word_at<'a>(words: &[&'a [u8]], number: u64) -> &'a [u8]
-    ensures { result.now ≡ word_at (lent_texts words.now) number }
-{
-    let place = number.saturating_sub(1) as usize;
-    if place < words.len() {
-        words[place]
-    } else {
-        b""
-    }
 }
 
 /// Why a word is refused.

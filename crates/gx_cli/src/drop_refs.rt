@@ -5,13 +5,13 @@ ghost use Rattle.gx_model.specs.Stores.StoreReading.{store_of};
 ghost use Rattle.gx_repo.specs.Dropping.{dropped};
 ghost use Rattle.gx_text.specs.Lent.{lent_texts};
 ghost use Rattle.gx_cli.specs.Dropping.{DropsAll, DropsFrom, DropsStored, IsDropped, shown_left};
-ghost use Rattle.gx_cli.specs.Words.{with_lines};
+ghost use Rattle.gx_print.specs.Words.{with_lines};
 
 use crate::CliFault;
-use crate::lines::{add_lines, lines_from};
+use crate::lines::lines_from;
 use crate::opening::open;
-use crate::words::texts_of;
 use gx_object::Namer;
+use gx_print::{add_lines, texts_of};
 use gx_repo::{DropFault, Repo};
 use gx_rev::RevFault;
 use gx_text::Source;

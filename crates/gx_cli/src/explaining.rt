@@ -4,8 +4,8 @@ ghost use Rattle.std.specs.Prelude.{◌≡◌, ◌∷◌, ◌++◌, IfOk, OnOk};
 ghost use Rattle.std.specs.Fmt.{decimal};
 ghost use Rattle.gx_cli.specs.ExplainedLines.{asked_line, asked_text, change_line, explanation_text, item_line, loss_line, place_head};
 
-use crate::printing::put_printed;
 use gx_import::{Asked, Explanation, RefLoss};
+use gx_print::put_printed;
 use gx_text::TreePath;
 use itoa::Buffer;
 use std::alloc::{AllocError, Allocator};

@@ -4,8 +4,7 @@ ghost use Rattle.gx_text.specs.Lent.{lent_texts};
 ghost use Rattle.gx_cli.specs.Forms.{SendsRange};
 
 use crate::CliFault;
-use crate::log::read_into;
-use crate::words::refused;
+use crate::words::{ranges_of, refused};
 use gx_export::{RangeFault, export_range};
 use gx_object::Namer;
 use gx_repo::Repo;
@@ -26,8 +25,7 @@ pub(crate) fn export_words<N: Namer, W: Sink, A: Allocator + Copy>(
     ensures { SendsRange (N.name_of repo.now.0) done repo.now.1 (lent_texts words.now)
         (W.taken sink.old) (W.taken sink.new) result }
 {
-    let mut ranges = Vec::new(alloc);
-    read_into(alloc, words, &mut ranges)?;
+    let ranges = ranges_of(alloc, words)?;
     match export_range(alloc, repo, ranges.as_slice(), sink, done) {
         Ok(()) => Ok(()),
         Err(RangeFault::Walk(fault)) => Err(refused(fault.word as u64, fault.kind)),

@@ -17,12 +17,10 @@ mod gathering;
 mod gc;
 mod import;
 mod lines;
-mod listing;
 mod log;
 mod ls;
 mod next_text;
 mod opening;
-mod printing;
 mod pushing;
 mod questions;
 mod ref_report;
@@ -54,12 +52,12 @@ pub use gx_line::{
     BatchForm, ExportForm, Line, LineFault, LogFormat, LogOptions, RefChange, read_line,
 };
 pub use gx_model::Features;
+pub use gx_print::printed_path;
 pub use gx_push::{Pushed, RefFault};
 pub use gx_repo::{Pruned, Repo};
 pub use import::{import_opened, import_store};
 pub use lines::lines_from;
 pub use next_text::send_store;
-pub use printing::printed_path;
 pub use pushing::{push_opened, push_store};
 pub use questions::{CommitFields, Question, Reply, commit_in, list_in};
 pub use ref_report::{import_store_reporting, report_opened};

@@ -1,13 +1,11 @@
 //! The lines of a source, which are words behind those of a command line.
 
-ghost use Rattle.std.specs.Prelude.{◌≡◌, ◌++◌, map, OnOk};
 ghost use Rattle.gx_cli.specs.Gathering.{GathersLines};
-ghost use Rattle.gx_text.specs.Lent.{lent_texts};
 
 use crate::CliFault;
 use gx_batch::{LineEnding, read_lines};
 use gx_text::Source;
-use std::alloc::{AllocFailed, Allocator};
+use std::alloc::Allocator;
 
 /// The lines of a source, each without its LF or CR LF. What stands behind the last is a line, too, unless it is empty.
 ///
@@ -22,18 +20,4 @@ pub fn lines_from<R: Source + Drop, A: Allocator + Copy>(
         Ok(lines) => Ok(lines),
         Err(fault) => Err(CliFault::from(fault)),
     }
-}
-
-/// Puts lines behind words.
-pub(crate) fn add_lines<'a, A: Allocator + Copy>(
-    words: &mut Vec<&'a [u8], A>,
-    lines: &'a [Vec<u8, A>],
-) -> Result<(), AllocFailed<&'a [u8]>>
-    ensures { OnOk result (lent_texts words.new.items ≡ lent_texts words.old.items
-        ++ map (λ line. line.items) lines.now) }
-{
-    for line in lines {
-        words.push(line.as_slice())?;
-    }
-    Ok(())
 }

@@ -1,29 +1,23 @@
 //! The commits that range words list, each in its format. Source: git-log(1) and git-rev-list(1).
 
-ghost use Rattle.std.specs.Prelude.{◌≡◌, [], map};
 ghost use Rattle.gx_model.specs.Records.HistoryOf.{history_of};
-ghost use Rattle.gx_model.specs.Revisions.{range_of};
-ghost use Rattle.gx_model.specs.Revisions.Ranges.{each_word};
-ghost use Rattle.gx_rev.specs.Views.{shown_range};
 ghost use Rattle.gx_text.specs.Lent.{lent_texts};
 ghost use Rattle.gx_cli.specs.Answers.{Prints};
-ghost use Rattle.gx_cli.specs.Logs.{LogsFrom, log_text};
-ghost use Rattle.gx_cli.specs.Stored.{all_words};
-ghost use Rattle.gx_cli.specs.Words.{GivesWords, with_lines};
+ghost use Rattle.gx_cli.specs.Logs.{LogsFrom};
+ghost use Rattle.gx_print.specs.Logs.{log_text};
+ghost use Rattle.gx_print.specs.Words.{with_lines};
 
 mod commits;
 mod formats;
-mod identities;
-mod messages;
 
-use crate::lines::{add_lines, lines_from};
-use crate::words::{refused, texts_of};
+use crate::lines::lines_from;
+use crate::words::ranges_of;
 use crate::{CliFault, LogOptions};
 use commits::{arrange, names_listed};
 use formats::print_commits;
 use gx_object::Namer;
+use gx_print::{add_lines, texts_of};
 use gx_repo::Repo;
-use gx_rev::Range;
 use gx_text::{Sink, Source};
 use std::alloc::Allocator;
 
@@ -85,28 +79,8 @@ pub(crate) fn log<N: Namer, A: Allocator + Copy, W: Sink>(
         (lent_texts words.now))
         (W.taken sink.old) (W.taken sink.new) result }
 {
-    let mut ranges = Vec::new(alloc);
-    read_into(alloc, words, &mut ranges)?;
+    let ranges = ranges_of(alloc, words)?;
     let mut names = names_listed(alloc, repo, ranges.as_slice(), options.all)?;
     arrange(&mut names, options);
     print_commits(alloc, repo, options, names.as_slice(), sink)
-}
-
-/// Puts the range words of texts into a list, or tells the first that is none.
-pub(crate) fn read_into<A: Allocator + Copy>(
-    alloc: A,
-    words: &[&[u8]],
-    ranges: &mut Vec<Range<A>, A>,
-) -> Result<(), CliFault>
-    requires empty { ranges.old.items ≡ [] }
-    ensures { GivesWords (λ done. map shown_range ranges.new.items) result
-        (all_words (each_word range_of (lent_texts words.now))) }
-{
-    for (place, word) in words.iter().enumerate() {
-        match Range::read(alloc, word) {
-            Ok(range) => ranges.push(range)?,
-            Err(kind) => return Err(refused(place as u64 + 1, kind)),
-        }
-    }
-    Ok(())
 }

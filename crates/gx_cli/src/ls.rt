@@ -8,21 +8,21 @@ ghost use Rattle.gx_model.specs.declared.objects.Kind.TheVariants as kinds;
 ghost use Rattle.gx_model.specs.Objects.{is_dir};
 ghost use Rattle.gx_object.specs.Entries.{shown};
 ghost use Rattle.gx_rev.specs.Objects.{IsHeldAs, files_at};
-ghost use Rattle.gx_cli.specs.Listings.{entry_line, path_line};
+ghost use Rattle.gx_print.specs.Listings.{entry_line};
 ghost use Rattle.gx_cli.specs.Answers.{Prints};
-ghost use Rattle.gx_cli.specs.Stored.{file_line, list_text};
+ghost use Rattle.gx_print.specs.Stored.{file_line, list_text};
 ghost use Rattle.gx_cli.specs.Sending.{PrintsText};
-ghost use Rattle.gx_cli.specs.WalkedFiles.{HavePaths, IsPathText, IsWithin, files_in, files_of_entry, line_below};
+ghost use Rattle.gx_print.specs.WalkedFiles.{HavePaths, IsWithin, files_in, files_of_entry, line_below};
 
 use crate::CliFault;
-use crate::listing::put_file;
 use crate::sending::put_text;
 use crate::show::print_entries;
 use crate::words::refused;
 use gx_object::{Entry, Mode, Name, Namer};
+use gx_print::put_line;
 use gx_repo::Repo;
 use gx_rev::{entries_of, tree_of_text};
-use gx_text::{Sink, TextFault, TreePath};
+use gx_text::Sink;
 use std::alloc::Allocator;
 
 /// Lists the tree that a word gives as a revision: its entries, or with `recursive` all files by their whole paths. The
@@ -116,7 +116,7 @@ fn print_entry<N: Namer, A: Allocator + Copy, W: Sink>(
         path.push(b'/')?;
         print_below(alloc, repo, &entry.name, path, line, sink)?;
     } else {
-        print_at(alloc, path, entry.mode, &entry.name, line, sink)?;
+        print_at(path, entry.mode, &entry.name, line, sink)?;
     }
     path.truncate(front);
     Ok(())
@@ -128,41 +128,19 @@ fn is_dir(mode: Mode) -> bool
     matches!(mode, Mode::Dir)
 }
 
-/// Prints the line of the file at the path of this text.
+/// Prints the line of the file at the path of this text, which is made in a buffer.
 fn print_at<A: Allocator + Copy, W: Sink>(
-    alloc: A,
     path: &[u8],
     mode: Mode,
     name: &Name,
     line: &mut Vec<u8, A>,
     sink: &mut W,
 ) -> Result<(), CliFault>
-    requires { IsPathText path.now }
     ensures { PrintsText (entry_line
         (record { mode = mode; component = path.now; name = name.now.bytes }))
         (W.taken sink.old) (W.taken sink.new) result }
 {
-    match TreePath::read(alloc, path) {
-        Ok(path) => print_file(line, &path, mode, name, sink),
-        Err(TextFault::OutOfMemory) => Err(CliFault::OutOfMemory),
-        Err(_) => unreachable!(),
-    }
-}
-
-/// Prints a file's line, which is made in a buffer.
-fn print_file<A: Allocator + Copy, W: Sink>(
-    line: &mut Vec<u8, A>,
-    path: &TreePath<A>,
-    mode: Mode,
-    name: &Name,
-    sink: &mut W,
-) -> Result<(), CliFault>
-    ensures { PrintsText (path_line path.now mode name.now)
-        (W.taken sink.old) (W.taken sink.new) result }
-{
     line.clear();
-    match put_file(line, path, mode, name) {
-        Ok(()) => put_text(sink, line.as_slice()),
-        Err(_) => Err(CliFault::OutOfMemory),
-    }
+    put_line(line, mode, path, name)?;
+    put_text(sink, line.as_slice())
 }

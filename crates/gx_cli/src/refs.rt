@@ -4,7 +4,7 @@ ghost use Rattle.std.specs.Prelude.{Ok};
 ghost use Rattle.gx_model.specs.Stores.StoreText.{stored_ref};
 ghost use Rattle.gx_cli.specs.Sending.{PrintsText};
 ghost use Rattle.gx_cli.specs.Answers.{Prints};
-ghost use Rattle.gx_cli.specs.Stored.{refs_text};
+ghost use Rattle.gx_print.specs.Stored.{refs_text};
 
 use crate::CliFault;
 use crate::sending::put_text;

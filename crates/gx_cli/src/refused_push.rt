@@ -9,8 +9,8 @@ ghost use Rattle.gx_cli.specs.RefusedPush.{TellsRefused, refused_text, want_text
 
 use crate::CliFault;
 use crate::opening::open;
-use crate::printing::put_printed;
 use gx_object::{Name, Namer};
+use gx_print::put_printed;
 use gx_push::{Want, want_in};
 use gx_repo::Repo;
 use std::alloc::{AllocError, Allocator};

@@ -8,14 +8,15 @@ ghost use Rattle.gx_model.specs.Revisions.Ranges.{each_word};
 ghost use Rattle.gx_model.specs.Revisions.Denotation.{denoted};
 ghost use Rattle.gx_rev.specs.Answers.{IsNamed, shown_by};
 ghost use Rattle.gx_text.specs.Lent.{lent_texts};
-ghost use Rattle.gx_cli.specs.Answers.{Prints, shown_line};
-ghost use Rattle.gx_cli.specs.Stored.{all_words, names_text};
+ghost use Rattle.gx_cli.specs.Answers.{Prints};
+ghost use Rattle.gx_print.specs.Stored.{all_words, names_text, shown_line};
 ghost use Rattle.gx_cli.specs.Words.{GivesWords};
 
 use crate::CliFault;
 use crate::sending::put_text;
 use crate::words::refused;
 use gx_object::Namer;
+use gx_print::{read_revisions, shown_line};
 use gx_repo::Repo;
 use gx_rev::{Revision, Shown};
 use gx_text::Sink;
@@ -36,30 +37,24 @@ pub(crate) fn print_names<N: Namer, A: Allocator + Copy, W: Sink>(
         (lent_texts words.now))
         (W.taken sink.old) (W.taken sink.new) result }
 {
-    let mut revisions = Vec::new(alloc);
-    read_into(alloc, words, &mut revisions)?;
+    let revisions = revisions_of(alloc, words)?;
     let mut shown = Vec::new(alloc);
     eval_into(repo, &revisions, &mut shown)?;
     print_lines(&shown, sink)
 }
 
-/// Puts each word as a revision into a list, or tells the first that is none.
-fn read_into<A: Allocator + Copy>(
+/// Each word as a revision, or the first that is none.
+fn revisions_of<A: Allocator + Copy>(
     alloc: A,
     words: &[&[u8]],
-    revisions: &mut Vec<Revision<A>, A>,
-) -> Result<(), CliFault>
-    requires empty { revisions.old.items ≡ [] }
-    ensures { GivesWords (λ done. revisions.new.items) result
+) -> Result<Vec<Revision<A>, A>, CliFault>
+    ensures { GivesWords (λ revisions. revisions.items) result
         (all_words (each_word revision_of (lent_texts words.now))) }
 {
-    for (place, word) in words.iter().enumerate() {
-        match Revision::read(alloc, word) {
-            Ok(revision) => revisions.push(revision)?,
-            Err(kind) => return Err(refused(place as u64 + 1, kind)),
-        }
+    match read_revisions(alloc, words) {
+        Ok(revisions) => Ok(revisions),
+        Err(fault) => Err(refused(fault.word as u64, fault.kind)),
     }
-    Ok(())
 }
 
 /// Puts what each revision shows into a list, or tells the first that shows nothing.
@@ -93,17 +88,4 @@ fn print_lines<W: Sink>(all: &[Shown], sink: &mut W) -> Result<(), CliFault>
         put_text(sink, shown_line(*shown).as_slice())?;
     }
     Ok(())
-}
-
-/// The line of an object's name, or of a submodule's digits.
-fn shown_line(shown: Shown) -> [u8; 41]
-    ensures { result ≡ shown_line shown }
-{
-    let mut line = [b'\n'; 41];
-    match shown {
-        Shown::Object(_, name) | Shown::Submodule(name) => {
-            line[..40].copy_from_slice(name.hex().as_slice());
-        }
-    }
-    line
 }

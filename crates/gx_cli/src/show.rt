@@ -5,13 +5,13 @@ ghost use Rattle.gx_model.specs.Records.HistoryOf.{history_of};
 ghost use Rattle.gx_model.specs.declared.objects.Kind.TheVariants as kinds;
 ghost use Rattle.gx_rev.specs.Answers.{IsNamed, shown_by};
 ghost use Rattle.gx_rev.specs.Objects.{IsHeldAs, files_at};
-ghost use Rattle.gx_cli.specs.Listings.{shown_text, text_of_word, tree_lines};
+ghost use Rattle.gx_print.specs.Listings.{shown_text, text_of_word, tree_lines};
 ghost use Rattle.gx_cli.specs.Trying.{Shows};
 
 use crate::CliFault;
-use crate::listing::listing;
 use crate::sending::put_text;
 use gx_object::{Kind, Name, Namer};
+use gx_print::listing;
 use gx_repo::Repo;
 use gx_rev::{RevFault, Revision, Shown, body_of, entries_of};
 use gx_text::Sink;

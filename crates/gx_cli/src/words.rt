@@ -1,48 +1,30 @@
 //! Words, and those that are refused, as they are answered.
 
-ghost use Rattle.std.specs.Prelude.{◌≡◌, IfOk};
-ghost use Rattle.std.specs.List.{slice_split};
+ghost use Rattle.std.specs.Prelude.{◌≡◌, map};
+ghost use Rattle.gx_model.specs.Revisions.{range_of};
+ghost use Rattle.gx_model.specs.Revisions.Ranges.{each_word};
+ghost use Rattle.gx_rev.specs.Views.{shown_range};
 ghost use Rattle.gx_text.specs.Lent.{lent_texts};
-ghost use Rattle.gx_cli.specs.Words.{refused_at, words_in};
+ghost use Rattle.gx_print.specs.Stored.{all_words};
+ghost use Rattle.gx_cli.specs.Words.{GivesWords, refused_at};
 
 use crate::CliFault;
-use gx_rev::RevFault;
-use gx_text::cut;
-use std::alloc::{AllocError, Allocator};
+use gx_print::read_ranges;
+use gx_rev::{Range, RevFault};
+use std::alloc::Allocator;
 
-/// The bytes of words.
-///
-/// Memory: 16 bytes a word.
-pub(crate) fn texts_of<'a, A: Allocator + Copy>(
+/// The range words of texts, or the first that is none.
+pub(crate) fn ranges_of<A: Allocator + Copy>(
     alloc: A,
-    words: &[&'a str],
-) -> Result<Vec<&'a [u8], A>, AllocError>
-    ensures { IfOk result (λ texts. lent_texts texts.items ≡ lent_texts words.now) }
+    words: &[&[u8]],
+) -> Result<Vec<Range<A>, A>, CliFault>
+    ensures { GivesWords (λ ranges. map shown_range ranges.items) result
+        (all_words (each_word range_of (lent_texts words.now))) }
 {
-    let mut texts = Vec::new(alloc);
-    for word in words {
-        texts.push(word.as_bytes())?;
+    match read_ranges(alloc, words) {
+        Ok(ranges) => Ok(ranges),
+        Err(fault) => Err(refused(fault.word as u64, fault.kind)),
     }
-    Ok(texts)
-}
-
-/// The words of a text, which single spaces divide.
-///
-/// Cost: the text. Memory: 16 bytes a word.
-pub(crate) fn words_in<'a, A: Allocator + Copy>(
-    alloc: A,
-    text: &'a [u8],
-) -> Result<Vec<&'a [u8], A>, AllocError>
-    ensures { IfOk result (λ words. lent_texts words.items ≡ words_in text.now) }
-{
-    let mut words = Vec::new(alloc);
-    let mut left = text;
-    while let Some((word, rest)) = cut(left, b' ') {
-        words.push(word)?;
-        left = rest;
-    }
-    words.push(left)?;
-    Ok(words)
 }
 
 /// The refusal of the word with this number. Want of memory is of none.

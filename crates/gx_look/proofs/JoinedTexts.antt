@@ -1,7 +1,8 @@
 -- Whether a text is others together.
-use Rattle.std.proofs.Common.{◌≡◌, ◌≢◌, Bool, true, false, ◌++◌, length, drop, refl, sym, ap, ◌∙◌, append_assoc}
+use Rattle.std.proofs.Common.{◌≡◌, ◌≢◌, Bool, true, false, ℕ, ◌-◌, ◌++◌, length, drop, take, refl, sym, ap, ◌∙◌, append_assoc, arith}
 use Rattle.std.specs.Bool.{passes}
-use Rattle.std.proofs.Math.Seq.{drop-append_seam}
+use Rattle.std.proofs.Math.Seq.{drop-append_seam, take-append_seam}
+use Rattle.std.proofs.lemmas.List.{length-append, length-drop, take_all}
 use Rattle.gx_model.specs.Texts.{Bytes, same_bytes}
 use Rattle.gx_model.proofs.Texts.PathTests.{is_same, is_true, same_is}
 
@@ -12,6 +13,19 @@ two_tests false false f g = refl
 
 same_behind : (front x y : Bytes) → front ++ x ≡ front ++ y → x ≡ y
 same_behind front x y e = sym (drop-append_seam front x) ∙ ap (drop (length front)) e ∙ drop-append_seam front y
+
+-- a slice from a place on is what stands behind the place
+pub from_place : (n : ℕ) (text : Bytes) → take (length text - n) (drop n text) ≡ drop n text
+from_place n text = let l = length-drop n text in take_all (length text - n) (drop n text) (omega arith)
+
+-- in front of one text stands one
+pub same_before : (x y end : Bytes) → x ++ end ≡ y ++ end → x ≡ y
+same_before x y end e =
+    let a = length-append x end in
+    let b = length-append y end in
+    let c = ap length e in
+    let same : length x ≡ length y = omega arith in
+    sym (take-append_seam x end) ∙ (λ i. take (same i) (e i)) ∙ take-append_seam y end
 
 -- behind two texts the third one decides
 pub third_decides : (text before word after rest behind : Bytes) → text ≡ before ++ rest → rest ≡ word ++ behind → same_bytes behind after ≡ same_bytes text (before ++ word ++ after)

@@ -1,3 +1,4 @@
+mod FoundTogether
 mod HeadPlaces
 mod HeadingsInTexts
 mod JoinedTexts
@@ -6,8 +7,11 @@ mod OpenedTexts
 mod Opening
 mod ReadOn
 mod RecordsInRooms
+mod RowsBetween
 mod RowsOfRuns
 mod RunsInLines
 mod StatedNames
 mod TellingRows
+mod ToldBegun
 mod ToldNames
+mod ToldPlaces

@@ -21,7 +21,7 @@ use Rattle.gx_look.specs.Rows.{PlacesIn, AreSorted as AreInOrder}
 
 -- ---- a row in its place
 
-rows_long : (n : ℕ) (text : Bytes) → length (rows_in n text) ≡ n
+pub rows_long : (n : ℕ) (text : Bytes) → length (rows_in n text) ≡ n
 rows_long zero text = refl
 rows_long (suc n) text = ap suc (rows_long n (drop 28 text))
 
@@ -37,7 +37,7 @@ row_there (suc n) (suc i) text d l =
 
 module _ (text : Bytes) (at count : ℕ) where
   -- the same, of a run's rows in a text
-  run_row : (i : ℕ) (d : Row) → i < count → get_or (rows_in count (drop at text)) i d ≡ (row_name text at i, row_place text at i)
+  pub run_row : (i : ℕ) (d : Row) → i < count → get_or (rows_in count (drop at text)) i d ≡ (row_name text at i, row_place text at i)
   run_row i d l =
       let name : part (drop at text) (28 * i) 20 ≡ row_name text at i = ap (take 20) (drop-drop (28 * i) at text) in
       let place : part (drop at text) (28 * i + 20) 8 ≡ part text (at + 28 * i + 20) 8 = ap (take 8) (drop-drop (28 * i + 20) at text) ∙ ap (λ p. part text p 8) (omega arith) in

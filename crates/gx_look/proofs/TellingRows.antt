@@ -15,7 +15,7 @@ use Rattle.gx_growing.proofs.RowsTellPlaces.{Tells}
 -- ---- one row, one record
 
 -- an element of a longer list
-contained_head : {X : Type 0} (y x : X) (xs : List X) → Contains (y ∷ xs) x → (y ≡ x) ⊎ Contains xs x
+pub contained_head : {X : Type 0} (y x : X) (xs : List X) → Contains (y ∷ xs) x → (y ≡ x) ⊎ Contains xs x
 contained_head y x xs (zero, l, e) = inl e
 contained_head y x xs (suc k, l, e) = inr (k, omega (arith, l), e)
 
@@ -26,11 +26,11 @@ contained_first : {X : Type 0} (x : X) (xs : List X) → Contains (x ∷ xs) x
 contained_first x xs = (0, omega arith, refl)
 
 -- what stands at a row's place has the row's name
-abbrev Stands : Bytes → Row → Record → Type 0
+abbrev pub Stands : Bytes → Row → Record → Type 0
 Stands text row held = (held.name ≡ row.0) × StandsAt text row.1 held
 
 -- a row is that of some record
-record_of_row : (text : Bytes) (rows : List Row) (rs : List Record) (row : Row) → AllZip (Tells text) rows rs → Contains rows row → AnyByRecursion (Stands text row) rs
+pub record_of_row : (text : Bytes) (rows : List Row) (rs : List Record) (row : Row) → AllZip (Tells text) rows rs → Contains rows row → AnyByRecursion (Stands text row) rs
 record_of_row text [] rs row all h = absurd (omega (arith, h.1))
 record_of_row text (x ∷ xs) [] row all h = absurd all
 record_of_row text (x ∷ xs) (r ∷ rs) row all h = elim (contained_head x row xs h) [
@@ -39,7 +39,7 @@ record_of_row text (x ∷ xs) (r ∷ rs) row all h = elim (contained_head x row 
 ]
 
 -- a record has a row
-row_of_record : (text : Bytes) (rows : List Row) (rs : List Record) (name : Bytes) → AllZip (Tells text) rows rs → AnyByRecursion (λ held. held.name ≡ name) rs → (place : ℕ) × Contains rows (name, place)
+pub row_of_record : (text : Bytes) (rows : List Row) (rs : List Record) (name : Bytes) → AllZip (Tells text) rows rs → AnyByRecursion (λ held. held.name ≡ name) rs → (place : ℕ) × Contains rows (name, place)
 row_of_record text [] [] name all h = absurd h
 row_of_record text [] (r ∷ rs) name all h = absurd all
 row_of_record text (x ∷ xs) [] name all h = absurd all

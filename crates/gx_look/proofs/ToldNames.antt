@@ -76,11 +76,11 @@ module _ (text : Bytes) (ends : ℕ) where
       behind : (place rows digests long left : ℕ) → place + (rows + digests) ≤ long → left ≡ long - place → rows ≤ left
       behind place rows digests long left f e = omega arith
 
-  same_live : (runs : List Run) → AllByRecursion (StandsIn sha256 front) runs → live_rows text runs ≡ live_rows front runs
+  pub same_live : (runs : List Run) → AllByRecursion (StandsIn sha256 front) runs → live_rows text runs ≡ live_rows front runs
   same_live [] h = refl
   same_live (run ∷ runs) h = let one = same_rows run h.0 in let more = same_live runs h.1 in λ i. one i ++ more i
 
-  in_order : (runs : List Run) → AllByRecursion (StandsIn sha256 front) runs → AreSorted text runs
+  pub in_order : (runs : List Run) → AllByRecursion (StandsIn sha256 front) runs → AreSorted text runs
   in_order [] h = tt
   in_order (run ∷ runs) h = (subst (λ z. IsTrue (is_sorted byte_cmp z)) (sym (same_rows run h.0)) h.0.sorted, in_order runs h.1)
 
@@ -105,7 +105,7 @@ pub record IsRecordOf (name : Kind → Bytes → Bytes) (told : Option Bytes) (e
 
 module _ (name : Kind → Bytes → Bytes) (namer : IsNamer name) where
   -- what holds of each repository that is told
-  each_told : (told : Option Bytes) (Fact : Records → Type 0) → ((text : Bytes) → told ≡ Some text → (r : Records) → grown_of name sha256 text ≡ Ok r → Fact r) → IfSome (told_by name told) Fact
+  pub each_told : (told : Option Bytes) (Fact : Records → Type 0) → ((text : Bytes) → told ≡ Some text → (r : Records) → grown_of name sha256 text ≡ Ok r → Fact r) → IfSome (told_by name told) Fact
   each_told None Fact h = tt
   each_told (Some text) Fact h = by (grown_of name sha256 text) refl
     where
@@ -119,29 +119,26 @@ module _ (name : Kind → Bytes → Bytes) (namer : IsNamer name) where
 
   module _ {A : Type 0} (told : Option Bytes) (ends : ℕ) (tail : Tail A) (opened : IsOpened name told ends tail) where
     -- the runs and refs that are held, of a text that tells a repository
-    record IsSeen (text : Bytes) (r : Records) : Type 0 where
-      x : Slot × Front
-      told_is : IsTold name text r x
-      ends_is : ends ≡ x.0.ends
-      tail_is : HoldsTail x.1.runs x.1.refs tail
+    pub record IsSeen (text : Bytes) (r : Records) : Type 0 where
+      pub x : Slot × Front
+      pub told_is : IsTold name text r x
+      pub ends_is : ends ≡ x.0.ends
+      pub tail_is : HoldsTail x.1.runs x.1.refs tail
 
-    seen : (text : Bytes) → told ≡ Some text → (r : Records) → grown_of name sha256 text ≡ Ok r → IsSeen text r
+    pub seen : (text : Bytes) → told ≡ Some text → (r : Records) → grown_of name sha256 text ≡ Ok r → IsSeen text r
     seen text e r g =
         let t = is_told name namer text r g in
         let last = subst (λ z. IsOpenedAs name z ends tail) e opened.last in
         let held = last r g t.0 t.1.front_is in
         record { x = t.0; told_is = t.1; ends_is = held.0; tail_is = held.1 }
 
-    -- a place that is found is that of the record with the name
-    pub place_tells : (called : Bytes) (place : ℕ) → PlacesIn told tail.runs.items called (Some place) → IfSome (told_by name told) (IsRecordOf name told ends place called)
-    place_tells called place there = each_told told (IsRecordOf name told ends place called) (λ text e r g.
+    -- a record that stands at a place of a text that tells a repository
+    pub record_stands : (called : Bytes) (place : ℕ) (text : Bytes) (e : told ≡ Some text) (r : Records) (g : grown_of name sha256 text ≡ Ok r)
+        → (held : Record) × (record_named r.records called ≡ Some held) × (held.name ≡ called) × StandsAt (take (seen text e r g).x.0.ends text) place held → IsRecordOf name told ends place called r
+    record_stands called place text e r g found =
         let s = seen text e r g in
         let t = s.told_is in
         let front = take s.x.0.ends text in
-        let row : Row = (called, place) in
-        let among : Contains (live_rows text (map shown_run tail.runs.items)) row = subst (λ z. PlacesIn z tail.runs.items called (Some place)) e there in
-        let live : Contains (live_rows front s.x.1.runs) row = subst (λ z. Contains z row) (ap (live_rows text) s.tail_is.0 ∙ same_live text s.x.0.ends s.x.1.runs t.runs) among in
-        let found = stands_there front (live_rows front s.x.1.runs) s.x.1.rows r.records t.rows t.stand t.sound.distinct called place live in
         let held = found.0 in
         let small = opened.small in
         let l = length-take s.x.0.ends text in
@@ -164,7 +161,18 @@ module _ (name : Kind → Bytes → Bytes) (namer : IsNamer name) where
                 name_is = found.2;
                 named = named;
               });
-        })
+        }
+
+    -- a place that is found is that of the record with the name
+    pub place_tells : (called : Bytes) (place : ℕ) → PlacesIn told tail.runs.items called (Some place) → IfSome (told_by name told) (IsRecordOf name told ends place called)
+    place_tells called place there = each_told told (IsRecordOf name told ends place called) (λ text e r g.
+        let s = seen text e r g in
+        let t = s.told_is in
+        let front = take s.x.0.ends text in
+        let row : Row = (called, place) in
+        let among : Contains (live_rows text (map shown_run tail.runs.items)) row = subst (λ z. PlacesIn z tail.runs.items called (Some place)) e there in
+        let live : Contains (live_rows front s.x.1.runs) row = subst (λ z. Contains z row) (ap (live_rows text) s.tail_is.0 ∙ same_live text s.x.0.ends s.x.1.runs t.runs) among in
+        record_stands called place text e r g (stands_there front (live_rows front s.x.1.runs) s.x.1.rows r.records t.rows t.stand t.sound.distinct called place live))
 
     -- where no run has a name, no record does
     pub absence_tells : (called : Bytes) → PlacesIn told tail.runs.items called None → IfSome (told_by name told) (λ r. record_named r.records called ≡ None)

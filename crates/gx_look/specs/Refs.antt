@@ -1,10 +1,13 @@
 -- Refs that are found in their lines.
-use Rattle.std.specs.Prelude.{◌≡◌, List, Option, IsTrue}
-use Rattle.std.specs.List.{AllByRecursion}
+use Rattle.std.specs.Prelude.{◌≡◌, List, Option, Some, IsTrue}
+use Rattle.std.specs.Borrow.{Bor}
+use Rattle.std.specs.List.{AllByRecursion, flat_map}
 use Rattle.std.specs.Map.{lookup}
+use Rattle.std.specs.Option.{option_map}
 use Rattle.gx_model.specs.Texts.{Bytes, is_line, same_bytes}
 use Rattle.gx_model.specs.Objects.{is_name}
 use Rattle.gx_model.specs.Records.Lookups.{first_named}
+use Rattle.gx_model.specs.Stores.StoreText.{stored_ref}
 use Rattle.gx_object.specs.Parts.{bytes_if}
 use Rattle.gx_object.specs.declared.name.Name.{Name}
 use Rattle.gx_look.specs.Tails.{refs_text}
@@ -22,3 +25,7 @@ FindsOne lines name found = (refs : List (Bytes × Bytes)) → AreLines lines re
 -- what is found is the object of the first of these names that is a ref's
 abbrev pub FindsAmong : Bytes → List Bytes → Option Name → Type 0
 FindsAmong lines names found = (refs : List (Bytes × Bytes)) → AreLines lines refs → bytes_if found ≡ first_named refs names
+
+-- what is left of lines are those of the refs
+abbrev pub LeavesEnd : Bytes → Option (Bor Bytes) → Type 0
+LeavesEnd lines left = (refs : List (Bytes × Bytes)) → AreLines lines refs → option_map (λ text. text.now) left ≡ Some (flat_map stored_ref refs)

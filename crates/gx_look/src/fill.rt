@@ -29,6 +29,22 @@ pub(crate) fn fill<S: ReadAt>(source: &S, at: u64, room: &mut [u8]) -> Result<()
     Ok(())
 }
 
+/// Fills the room with so many bytes from a place on, in place of what it held. `Damaged` where the text ends before.
+pub(crate) fn refill<S: ReadAt, A: Allocator + Copy>(
+    source: &S,
+    at: u64,
+    count: usize,
+    room: &mut Vec<u8, A>,
+) -> Result<(), LookFault>
+    requires { at + count < 2 ^ 64 }
+    ensures count { OnOk result (length room.new.items ≡ count) }
+    ensures there { OnOk result (StandsAt (S.text source.now) at room.new.items) }
+    ensures fault { IfErr result (EndsBefore (S.text source.now) (at + count)) }
+{
+    room.resize(count, 0)?;
+    fill(source, at, room.as_mut_slice())
+}
+
 /// Reads on behind the bytes that stand in the room until it has so many from a place on. The room grows as they come, to at
 /// most twice as many. `Damaged` where the text ends before.
 pub(crate) fn read_on<S: ReadAt, A: Allocator + Copy>(

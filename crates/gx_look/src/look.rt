@@ -2,16 +2,17 @@
 
 ghost use Rattle.std.specs.Prelude.{◌≡◌, IfOk};
 ghost use Rattle.gx_objects.specs.Answers.{FindsRef, Holds, IsNamed, OnlyUntold, Tells};
-ghost use Rattle.gx_look.specs.Looking.{told_by};
+ghost use Rattle.gx_look.specs.Looking.{place_at, told_by, told_rows};
 
 use crate::head::read_head;
 use crate::records::read_record;
-use crate::refs::find_by_names;
-use crate::rows::find_place;
+use crate::refs::{find_by_names, without_end};
+use crate::rows::{find_begun, find_place};
 use crate::tail::{Tail, read_tail};
 use gx_at::ReadAt;
 use gx_object::{Name, Namer};
 use gx_objects::{LookFault, Object, Objects};
+use gx_store::{Prefix, names_begun_by};
 use std::alloc::Allocator;
 use std::marker::Model;
 
@@ -67,6 +68,8 @@ impl<S: ReadAt, N: Namer, B: Allocator + Copy> Objects for Look<S, N, B> {
 
     ghost told = { λ look. told_by (N.name_of look.0) look.1 };
 
+    ghost stands = { λ look. place_at (told_rows (N.name_of look.0) look.1) };
+
     fn sound_if_told(&self) {
         let _ = &self.namer;
     }
@@ -89,6 +92,49 @@ impl<S: ReadAt, N: Namer, B: Allocator + Copy> Objects for Look<S, N, B> {
         }))
     }
 
+    /// Cost: what `find_row` costs for each live run.
+    fn place(&self, name: &Name) -> Result<Option<u64>, LookFault> {
+        let place = find_place(&self.source, self.tail.runs.as_slice(), name)?;
+        Ok(place)
+    }
+
+    /// Reads the object into the room, and hashes it. Cost and memory: what `object` costs behind the look-up.
+    fn object_at<'a, A: Allocator + Copy>(
+        &'a self,
+        place: u64,
+        name: &Name,
+        room: &'a mut Vec<u8, A>,
+    ) -> Result<Object<'a>, LookFault> {
+        let standing = read_record(&self.source, &self.namer, self.ends, place, name, room)?;
+        let body = &room.as_slice()[standing.start..standing.end];
+        Ok(Object {
+            kind: standing.kind,
+            body,
+        })
+    }
+
+    /// Cost: what `first_from` costs for each live run.
+    fn by_digits(&self, digits: &[u8]) -> Result<Prefix, LookFault> {
+        let Some(ends) = names_begun_by(digits) else {
+            return Ok(Prefix::Absent);
+        };
+        let found = find_begun(&self.source, self.tail.runs.as_slice(), &ends)?;
+        Ok(found)
+    }
+
+    /// Lends the lines as they stand in the tail. Takes no memory.
+    fn ref_lines<'a, A: Allocator + Copy>(
+        &'a self,
+        _room: &'a mut Vec<u8, A>,
+    ) -> Result<&'a [u8], LookFault> {
+        let lines = &self.tail.text.as_slice()[self.tail.refs..];
+        match without_end(lines) {
+            Some(refs) => Ok(refs),
+            None => Err(LookFault::Damaged),
+        }
+    }
+
+    /// Cost: one pass over the refs for each name.
     fn object_of_ref(&self, name: &[u8]) -> Result<Option<Name>, LookFault> {
         let lines = &self.tail.text.as_slice()[self.tail.refs..];
         Ok(find_by_names(lines, name))

@@ -9,7 +9,7 @@ ghost use Rattle.gx_model.specs.Texts.{same_bytes};
 ghost use Rattle.gx_model.specs.Stores.StoreReading.{kind_words, record_line};
 ghost use Rattle.gx_look.specs.Records.{HasName, IsRoomOf, ReadsHeading, TellsRecord, shown_heading};
 
-use crate::fill::read_on;
+use crate::fill::{read_on, refill};
 use gx_at::ReadAt;
 use gx_lines::read_number;
 use gx_object::{Kind, Name, Namer};
@@ -50,11 +50,10 @@ pub(crate) fn read_record<S: ReadAt, N: Namer, A: Allocator + Copy>(
     ensures record { TellsRecord (N.name_of namer.now) (S.text source.now) ends place
         name.now.bytes room.new.items result }
 {
-    room.clear();
     let Some(left) = ends.checked_sub(place) else {
         return Err(LookFault::Damaged);
     };
-    read_on(source, place, left.min(BLOCK) as usize, room)?;
+    refill(source, place, left.min(BLOCK) as usize, room)?;
     let (heading, start) = read_heading(room.as_slice())?;
     if heading.name != *name {
         return Err(LookFault::Damaged);

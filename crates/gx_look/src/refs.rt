@@ -3,7 +3,7 @@
 ghost use Rattle.std.specs.Prelude.{◌≡◌, ◌++◌, drop};
 ghost use Rattle.gx_model.specs.Revisions.Denotation.{ref_names};
 ghost use Rattle.gx_model.specs.Texts.{same_bytes};
-ghost use Rattle.gx_look.specs.Refs.{FindsAmong, FindsOne};
+ghost use Rattle.gx_look.specs.Refs.{FindsAmong, FindsOne, LeavesEnd};
 
 use gx_object::Name;
 use gx_text::cut;
@@ -52,6 +52,13 @@ fn find(lines: &[u8], before: &[u8], word: &[u8], after: &[u8]) -> Option<Name>
         rest = behind;
     }
     None
+}
+
+/// The lines of refs without the last line, which is no ref's.
+pub(crate) fn without_end(lines: &[u8]) -> Option<&[u8]>
+    ensures { LeavesEnd lines.now result }
+{
+    lines.strip_suffix(b"end\n")
 }
 
 /// Whether a text is three others together.

@@ -10,7 +10,7 @@ use std::alloc::Global;
 use std::cell::Cell;
 
 /// A look into a text that is read in pieces.
-fn look_into(
+pub(crate) fn look_into(
     alloc: Global,
     text: &[u8],
     piece: usize,

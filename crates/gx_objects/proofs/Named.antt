@@ -1,13 +1,17 @@
--- A record that is found by a name has it.
-use Rattle.std.proofs.Common.{◌≡◌, Bool, true, false, cond, refl, sym, ap, ◌∙◌, List, [], ◌∷◌, Some}
+-- A record that is found by a name has it, and stands at the name's place.
+use Rattle.std.proofs.Common.{ℕ, zero, suc, ◌<◌, ◌≡◌, Bool, true, false, cond, refl, sym, ap, ◌∙◌, List, [], ◌∷◌, length, get_or, Option, Some, None, arith}
 use Rattle.std.specs.Bool.{passes}
-use Rattle.std.specs.List.{AllByRecursion}
+use Rattle.std.specs.List.{AllByRecursion, slice_get}
 use Rattle.std.specs.Option.{option_map}
+use Rattle.std.proofs.lemmas.List.Quantifiers.{position-Some}
+use Rattle.std.proofs.lemmas.Option.{slice_get-get_or}
 use Rattle.gx_model.specs.declared.objects.Kind.{Kind}
+use Rattle.gx_model.specs.declared.objects.Kind.TheVariants.{Blob}
 use Rattle.gx_model.specs.Texts.{Bytes, same_bytes}
 use Rattle.gx_model.specs.Histories.{Record, object_of}
 use Rattle.gx_model.specs.Records.Growth.{record_named}
 use Rattle.gx_model.proofs.Texts.PathTests.{same_is}
+use Rattle.gx_store.specs.Stores.{place_named}
 
 pub named_found : (name : Kind → Bytes → Bytes) (rs : List Record) (called : Bytes) (o : Kind × Bytes) → AllByRecursion (λ held. held.name ≡ name held.kind held.body) rs → Some o ≡ option_map object_of (record_named rs called) → name o.0 o.1 ≡ called
 named_found name [] called o all found = absurd cc
@@ -18,3 +22,24 @@ named_found name (r ∷ rs) called o all found = by (λ f. named_found name rs c
         let same : o ≡ object_of r = cc f in
         ap (λ (p : Kind × Bytes). name p.0 p.1) same ∙ sym all.0 ∙ sym (same_is called r.name (passes _ e))
     by rest false e f = rest f
+
+-- A number that stands for itself is as it was.
+pub same_number : (o : Option ℕ) → o ≡ option_map (λ number. number) o
+same_number None = refl
+same_number (Some n) = refl
+
+-- The first record with a name is the one that the name leads to.
+first_named : (rs : List Record) (called : Bytes) (i : ℕ) (d : Record) → i < length rs → same_bytes called (get_or rs i d).name ≡ true → ((k : ℕ) → k < i → same_bytes called (get_or rs k d).name ≡ false)
+    → record_named rs called ≡ Some (get_or rs i d)
+first_named [] called i d l here before = absurd (omega (arith, l))
+first_named (r ∷ rs) called zero d l here before = ap (λ b. cond b (Some r) (record_named rs called)) here
+first_named (r ∷ rs) called (suc i) d l here before =
+    ap (λ b. cond b (Some r) (record_named rs called)) (before 0 (omega arith))
+    ∙ first_named rs called i d (omega (arith, l)) here (λ k m. before (suc k) (omega (arith, m)))
+
+-- The record at a name's place is the one that the name leads to.
+pub record_there : (rs : List Record) (called : Bytes) (i : ℕ) → Some i ≡ option_map (λ number. number) (place_named rs called) → (held : Record) × (slice_get rs i ≡ Some held) × (record_named rs called ≡ Some held)
+record_there rs called i e =
+    let none : Record = record { name = []; kind = Blob; body = [] } in
+    let there = position-Some (λ held. same_bytes called held.name) rs i none (same_number (place_named rs called) ∙ sym e) in
+    (get_or rs i none, slice_get-get_or rs i none there.0, first_named rs called i none there.0 there.1 there.2)

@@ -1,14 +1,20 @@
 -- What is answered of objects and refs, in words of the repository that they are of.
-use Rattle.std.specs.Prelude.{◌≡◌, Option, None, Result, IfErr, IfOk, IfSome}
+use Rattle.std.specs.Prelude.{◌≡◌, ℕ, ◌<◌, Option, Some, None, Result, IfErr, IfOk, IfSome}
+use Rattle.std.specs.Borrow.{Bor}
+use Rattle.std.specs.List.{flat_map}
 use Rattle.std.specs.Option.{option_map}
 use Rattle.gx_model.specs.declared.objects.Kind.{Kind}
 use Rattle.gx_model.specs.Histories.{Records, object_of}
 use Rattle.gx_model.specs.Records.Growth.{record_named}
-use Rattle.gx_model.specs.Records.Lookups.{first_named}
+use Rattle.gx_model.specs.Records.Lookups.{first_named, records_begun_by}
 use Rattle.gx_model.specs.Revisions.Denotation.{ref_names}
+use Rattle.gx_model.specs.Stores.StoreText.{stored_ref}
 use Rattle.gx_model.specs.Texts.{Bytes}
 use Rattle.gx_object.specs.Parts.{bytes_if}
 use Rattle.gx_object.specs.declared.name.Name.{Name}
+use Rattle.gx_store.specs.Prefixes.{prefix_of}
+use Rattle.gx_store.specs.Stores.{place_named}
+use Rattle.gx_store.specs.declared.prefix.Prefix.{Prefix}
 use Rattle.gx_objects.specs.declared.fault.LookFault.{LookFault}
 use Rattle.gx_objects.specs.declared.fault.LookFault.TheVariants.{Damaged}
 use Rattle.gx_objects.specs.declared.objects.Object.{Object}
@@ -32,6 +38,34 @@ Holds called repository found = option_map shown_object found ≡ option_map obj
 -- an object that is shown has this name
 abbrev pub IsNamed : (Kind → Bytes → Bytes) → Bytes → Option Object → Type 0
 IsNamed name called found = IfSome found (λ object. name object.kind object.body.now ≡ called)
+
+-- places go up with numbers below a count
+abbrev pub GoesUp : (ℕ → ℕ) → ℕ → Type 0
+GoesUp stands count = (i j : ℕ) → i < j → j < count → stands i < stands j
+
+-- this is where the object of a name stands
+abbrev pub StandsThere : (ℕ → ℕ) → Bytes → Records → Option ℕ → Type 0
+StandsThere stands called repository found = found ≡ option_map stands (place_named repository.records called)
+
+-- an object that is told stands at this place
+abbrev pub StandsIfTold : Option Records → (ℕ → ℕ) → Bytes → ℕ → Type 0
+StandsIfTold told stands called place = IfSome told (λ r. StandsThere stands called r (Some place))
+
+-- this is the object of a name, which is held
+abbrev pub IsHeldThere : Bytes → Records → Object → Type 0
+IsHeldThere called repository found = Holds called repository (Some found)
+
+-- this object has this name
+abbrev pub IsNamedAs : (Kind → Bytes → Bytes) → Bytes → Object → Type 0
+IsNamedAs name called object = name object.kind object.body.now ≡ called
+
+-- this is the name that digits begin, where they begin one alone
+abbrev pub FindsBegun : Bytes → Records → Prefix → Type 0
+FindsBegun digits repository found = found ≡ prefix_of (records_begun_by repository.records digits)
+
+-- these are the lines of a repository's refs
+abbrev pub AreRefLines : Records → Bor Bytes → Type 0
+AreRefLines repository lines = lines.now ≡ flat_map stored_ref repository.refs
 
 -- this is what the first ref of six names holds
 abbrev pub FindsRef : Bytes → Records → Option Name → Type 0

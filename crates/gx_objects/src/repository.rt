@@ -1,17 +1,21 @@
 //! A repository in memory.
 
-ghost use Rattle.std.specs.Prelude.{IfOk, IsOk, Some};
-ghost use Rattle.gx_objects.specs.Answers.{FindsRef, Holds, IsNamed, OnlyUntold, Tells};
+ghost use Rattle.std.specs.Prelude.{◌≡◌, ◌++◌, IfOk, IsOk, OnOk, Some};
+ghost use Rattle.gx_model.specs.Stores.StoreText.{stored_ref};
+ghost use Rattle.gx_objects.specs.Answers.{AreRefLines, FindsBegun, FindsRef, Holds, IsHeldThere, IsNamed, IsNamedAs, OnlyUntold, StandsIfTold, StandsThere, Tells};
 
 use crate::{LookFault, Object, Objects};
 use gx_object::{Name, Namer};
 use gx_repo::Repo;
-use std::alloc::Allocator;
+use gx_store::Prefix;
+use std::alloc::{AllocError, Allocator};
 
 impl<N: Namer, B: Allocator + Copy> Objects for Repo<N, B> {
     ghost name_of = { λ repo. N.name_of repo.0 };
 
     ghost told = { λ repo. Some repo.1 };
+
+    ghost stands = { λ _ number. number };
 
     fn sound_if_told(&self) {
         self.sound();
@@ -35,6 +39,59 @@ impl<N: Namer, B: Allocator + Copy> Objects for Repo<N, B> {
         }
     }
 
+    fn place(&self, name: &Name) -> Result<Option<u64>, LookFault>
+        ensures place { Tells (Some self.now.1) (StandsThere (λ number. number) name.now.bytes) result }
+        ensures fault { OnlyUntold (Some self.now.1) result }
+        ensures told { IsOk result }
+    {
+        match self.store().place(name) {
+            Some(place) => Ok(Some(place as u64)),
+            None => Ok(None),
+        }
+    }
+
+    fn object_at<'a, A: Allocator + Copy>(
+        &'a self,
+        place: u64,
+        name: &Name,
+        _room: &'a mut Vec<u8, A>,
+    ) -> Result<Object<'a>, LookFault>
+        requires there { StandsIfTold (Some self.now.1) (λ number. number) name.now.bytes place }
+        ensures held { Tells (Some self.now.1) (IsHeldThere name.now.bytes) result }
+        ensures named { IfOk result (IsNamedAs (N.name_of self.now.0) name.now.bytes) }
+        ensures fault { OnlyUntold (Some self.now.1) result }
+        ensures told { IsOk result }
+    {
+        self.sound();
+        match self.store().record(place as usize) {
+            Some((_, kind, body)) => Ok(Object { kind, body }),
+            None => unreachable!(),
+        }
+    }
+
+    fn by_digits(&self, digits: &[u8]) -> Result<Prefix, LookFault>
+        ensures name { Tells (Some self.now.1) (FindsBegun digits.now) result }
+        ensures fault { OnlyUntold (Some self.now.1) result }
+        ensures told { IsOk result }
+    {
+        Ok(self.store().by_prefix(digits))
+    }
+
+    /// Makes the lines in the room. Cost and memory: the lines.
+    fn ref_lines<'a, A: Allocator + Copy>(
+        &'a self,
+        room: &'a mut Vec<u8, A>,
+    ) -> Result<&'a [u8], LookFault>
+        ensures lines { Tells (Some self.now.1) AreRefLines result }
+        ensures fault { OnlyUntold (Some self.now.1) result }
+    {
+        room.clear();
+        for (name, object) in self.refs() {
+            put_ref(room, name, &object)?;
+        }
+        Ok(room.as_slice())
+    }
+
     fn object_of_ref(&self, name: &[u8]) -> Result<Option<Name>, LookFault>
         ensures object { Tells (Some self.now.1) (FindsRef name.now) result }
         ensures fault { OnlyUntold (Some self.now.1) result }
@@ -45,4 +102,19 @@ impl<N: Namer, B: Allocator + Copy> Objects for Repo<N, B> {
             Err(_) => unreachable!(),
         }
     }
+}
+
+/// Appends the line of a ref.
+fn put_ref<A: Allocator>(
+    lines: &mut Vec<u8, A>,
+    name: &[u8],
+    object: &Name,
+) -> Result<(), AllocError>
+    ensures { OnOk result (lines.new.items ≡ lines.old.items ++ stored_ref (name.now, object.now.bytes)) }
+{
+    lines.extend_from_slice(object.hex().as_slice())?;
+    lines.push(b' ')?;
+    lines.extend_from_slice(name)?;
+    lines.push(b'\n')?;
+    Ok(())
 }

@@ -26,7 +26,7 @@ pub(crate) fn eval_base<N: Namer, A: Allocator + Copy>(
     ensures memory { NeedsNoMemory RevFault.OutOfMemory result }
 {
     repo.sound();
-    if is_whole(base) {
+    if is_full_name(base) {
         return find_name(repo, base);
     }
     if let Some(name) = repo.find_ref(base)? {
@@ -39,15 +39,19 @@ pub(crate) fn eval_base<N: Namer, A: Allocator + Copy>(
     }
 }
 
-/// Whether the text is a name in full: 40 digits.
-fn is_whole(text: &[u8]) -> bool
+/// Whether a base is an object's name in full: 40 digits, of either case.
+///
+/// Cost: the text. Takes no memory. Source: gitrevisions(7), "sha1".
+pub fn is_full_name(text: &[u8]) -> bool
     ensures { result ≡ is_full_name text.now }
 {
     are_hex_digits(text) && text.len() == 40
 }
 
-/// Whether the text may abbreviate a name: 4 to 39 digits.
-fn is_abbreviation(text: &[u8]) -> bool
+/// Whether a base may abbreviate an object's name: 4 to 39 digits, of either case.
+///
+/// Cost: the text. Takes no memory. Source: gitrevisions(7), "sha1".
+pub fn is_abbreviation(text: &[u8]) -> bool
     ensures { result ≡ is_abbreviation text.now }
 {
     are_hex_digits(text) && 4 <= text.len() && text.len() < 40

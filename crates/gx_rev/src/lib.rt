@@ -20,6 +20,7 @@ mod suffix;
 mod walking;
 
 pub use ancestors::is_ancestor;
+pub use base::{is_abbreviation, is_full_name};
 pub use entries::put_entry_head;
 pub use fault::{RevFault, WalkFault};
 pub use first_parents::FirstParents;
@@ -29,5 +30,6 @@ pub use range::Range;
 pub use reached::{name_at, place_of};
 pub use refs::reached_from_refs;
 pub use revision::Revision;
-pub use shown::{Shown, answers_tell_values, commit, look, tree, tree_of_text};
+pub use shown::{Shown, answers_tell_values, commit, look, shown_as, tree, tree_of_text};
+pub use suffix::Suffix;
 pub use walking::{names_marked, walk, walked};

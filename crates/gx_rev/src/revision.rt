@@ -58,6 +58,29 @@ impl<A: Allocator + Copy> Revision<A> {
     }
 }
 
+impl<A: Allocator> Revision<A> {
+    /// The ref name or the digits that it begins with; `HEAD` for `@`. Takes no memory.
+    pub fn base(&self) -> &[u8]
+        ensures { result.now ≡ self.now.base }
+    {
+        self.base.as_slice()
+    }
+
+    /// The suffixes behind the base, from left to right. Takes no memory.
+    pub fn suffixes(&self) -> &[Suffix]
+        ensures { map shown_suffix result.now ≡ self.now.suffixes }
+    {
+        self.suffixes.as_slice()
+    }
+
+    /// The path behind the `:`, where there is one. Takes no memory.
+    pub fn path(&self) -> Option<&TreePath<A>>
+        ensures { borrowed result ≡ self.now.path }
+    {
+        self.path.as_ref()
+    }
+}
+
 /// What stands before the first `:`, and what follows it.
 fn cut_path(text: &[u8]) -> (&[u8], Option<&[u8]>)
     ensures front { result.0.now ≡ (with_path text.now (cut_at 58 text.now)).0 }

@@ -164,8 +164,8 @@ fn show_path<N: Namer, A: Allocator + Copy>(
     }
 }
 
-/// What an entry of this mode and name shows.
-fn shown_as(mode: Mode, name: Name) -> Shown
+/// What a tree's entry of this mode and name shows. Takes no memory. Source: gitrevisions(7), "<rev>:<path>".
+pub fn shown_as(mode: Mode, name: Name) -> Shown
     ensures { result ≡ shown_as mode name }
 {
     match mode {

@@ -22,8 +22,8 @@ use gx_text::decimal;
 use std::alloc::Allocator;
 
 /// A suffix of a revision. Source: gitrevisions(7), "Specifying Revisions".
-#[derive(Clone, Copy, Drop)]
-pub(crate) enum Suffix {
+#[derive(Clone, Copy, Debug, PartialEq, Eq, Drop)]
+pub enum Suffix {
     /// `^n`: the nth parent, or the commit where n is 0.
     Parent(u64),
     /// `~n`: n first parents up.

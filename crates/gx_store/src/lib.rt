@@ -11,6 +11,6 @@ mod text;
 
 pub use body::Body;
 pub use fault::StoreFault;
-pub use prefix::Prefix;
+pub use prefix::{Prefix, names_begun_by};
 pub use store::Store;
 pub use text::{Text, TextRange};

@@ -19,8 +19,8 @@ pub enum Prefix {
 
 /// The least and the greatest of the names that begin with these digits, of either case; none where no name does.
 ///
-/// Takes no memory. Source: gitrevisions(7), "sha1".
-pub(crate) fn names_begun_by(digits: &[u8]) -> Option<(Name, Name)>
+/// Cost: constant. Takes no memory. Source: gitrevisions(7), "sha1".
+pub fn names_begun_by(digits: &[u8]) -> Option<(Name, Name)>
     ensures within { IfSome result (λ ends. AreEnds digits.now ends.0 ends.1) }
     ensures none { IfNone result (BeginNone digits.now) }
 {

@@ -144,15 +144,13 @@ impl<D: Read> Read for WholeLines<D> {
 }
 
 /// What a command answers once its buffer is flushed, also where it is refused: its own fault comes first.
-pub(crate) fn flushed<T: Drop, W: Write + Drop>(
+pub(crate) fn flushed<T: Drop, F: From<CliFault>, W: Write + Drop>(
     out: &mut BufWriter<W>,
-    answer: Result<T, CliFault>,
-) -> Result<T, CliFault> {
+    answer: Result<T, F>,
+) -> Result<T, F> {
     let is_flushed = out.flush().is_ok();
-    let value = answer?;
-    if is_flushed {
-        Ok(value)
-    } else {
-        Err(CliFault::WriteFailed)
+    match answer {
+        Ok(_) if !is_flushed => Err(F::from(CliFault::WriteFailed)),
+        answer => answer,
     }
 }

@@ -4,7 +4,7 @@ use crate::fault::RunFault;
 use crate::run::Run;
 use crate::stores::{collect, drop_refs, grow, import, init, push, put, set_ref};
 use crate::streams::{Trial, adapt, answer_input, export, print, try_stream, verify};
-use gx_cli::{CliFault, Features, Line};
+use gx_cli::{Features, Line};
 use gx_versions::StoreForm;
 use std::hash::RandomState;
 use std::process::ExitCode;
@@ -132,12 +132,12 @@ fn run_command(run: &Run<'_>, line: &Line<'_>, state: RandomState) -> Result<(),
             run.explain_if(*explain);
             push(run, file, told, *done, *report, state)
         }
-        _ => Ok(answer(run, line, state)?),
+        _ => answer(run, line, state),
     }
 }
 
 /// Runs a command that changes no file.
-fn answer(run: &Run<'_>, line: &Line<'_>, state: RandomState) -> Result<(), CliFault> {
+fn answer(run: &Run<'_>, line: &Line<'_>, state: RandomState) -> Result<(), RunFault> {
     match line {
         Line::Try {
             revision,
@@ -146,7 +146,8 @@ fn answer(run: &Run<'_>, line: &Line<'_>, state: RandomState) -> Result<(), CliF
             explain,
         } => {
             run.explain_if(*explain);
-            try_stream(run, Trial::Revision(revision), features(done, force), state)
+            let trial = Trial::Revision(revision);
+            Ok(try_stream(run, trial, features(done, force), state)?)
         }
         Line::Check {
             done,
@@ -154,16 +155,16 @@ fn answer(run: &Run<'_>, line: &Line<'_>, state: RandomState) -> Result<(), CliF
             explain,
         } => {
             run.explain_if(*explain);
-            try_stream(run, Trial::Check, features(done, force), state)
+            Ok(try_stream(run, Trial::Check, features(done, force), state)?)
         }
         Line::WhereFault { done, force } => {
             run.explain_if(true);
-            try_stream(run, Trial::Fault, features(done, force), state)
+            Ok(try_stream(run, Trial::Fault, features(done, force), state)?)
         }
-        Line::Verify { file } => verify(run, file, state),
+        Line::Verify { file } => Ok(verify(run, file, state)?),
         Line::Batch { file, .. } => answer_input(run, line, Some(*file), state),
         Line::Export { file, .. } | Line::ExportRange { file, .. } => {
-            export(run, line, file, state)
+            Ok(export(run, line, file, state)?)
         }
         _ => match file_of(line) {
             Some(file) => print(run, line, file, state),

@@ -9,8 +9,9 @@ ghost use Rattle.gx_model.specs.Records.HistoryOf.{history_of};
 ghost use Rattle.gx_rev.specs.Views.{shown_range};
 ghost use Rattle.gx_rev.specs.Objects.{commit_at};
 ghost use Rattle.gx_rev.specs.Reached.{is_wanted};
-ghost use Rattle.gx_cli.specs.Logs.{AreCommits, ListsMarked, arranged, commits_logged, limited, turned};
-ghost use Rattle.gx_cli.specs.Stored.{all_words};
+ghost use Rattle.gx_print.specs.Logs.{AreCommits, arranged, commits_logged, limited, turned};
+ghost use Rattle.gx_cli.specs.Logs.{ListsMarked};
+ghost use Rattle.gx_print.specs.Stored.{all_words};
 ghost use Rattle.gx_cli.specs.Words.{GivesWords};
 
 use crate::words::refused;

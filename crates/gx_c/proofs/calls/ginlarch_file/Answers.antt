@@ -10,5 +10,5 @@ pub returns : goal.returns
 returns c =
     let answered = subst (λ opened. Answers (file_answer git_name (history_of opened.repo.1) c.args.revision.now c.args.path.now) c.file.result) c.deref.ensures c.file.ensures in
     goes_over (called.File c.args.revision.now c.args.path.now) c.args.store.now c.put_back.new.store c.in-Some.ensures.1 c.put_back.ensures.held
-    (record { repository = ap (λ opened. opened.repo) c.deref_mut.ensures.value; words = ap (λ opened. opened.words) c.deref_mut.ensures.value; answer = answered })
+    (record { repository = ap (λ opened. opened.repo) c.deref_mut.ensures.value; form = ap (λ opened. opened.form) c.deref_mut.ensures.value; words = ap (λ opened. opened.words) c.deref_mut.ensures.value; answer = answered })
     c.put_back.ensures.status c.put_back.ensures.open

@@ -11,5 +11,5 @@ pub returns : goal.returns
 returns c =
     let listed = subst (λ opened. AnswersText (listing_of git_name (history_of opened.repo.1) c.args.revision.now) c.ls.result) c.deref.ensures c.ls.ensures in
     goes_over (called.Lists c.args.revision.now) c.args.store.now c.put_back.new.store c.in-Some.ensures.1 c.put_back.ensures.held
-    (record { repository = ap (λ opened. opened.repo) c.deref_mut.ensures.value; words = ap (λ opened. opened.words) c.deref_mut.ensures.value; answer = listed })
+    (record { repository = ap (λ opened. opened.repo) c.deref_mut.ensures.value; form = ap (λ opened. opened.form) c.deref_mut.ensures.value; words = ap (λ opened. opened.words) c.deref_mut.ensures.value; answer = listed })
     c.put_back.ensures.status c.put_back.ensures.open

@@ -2,7 +2,7 @@ use Rattle.std.proofs.Common.{Ok, Err, subst, sym}
 use Rattle.gx_model.specs.Records.HistoryOf.{history_of}
 use Rattle.gx_archive.specs.Archives.{archive_of}
 use Rattle.gx_cli.specs.Answers.{Prints}
-use Rattle.gx_cli.specs.Stored.{only_word}
+use Rattle.gx_print.specs.Stored.{only_word}
 use Rattle.gx_cli.proofs.ArchivedWords.{archive_printed}
 use Rattle.gx_cli.proofs.archive.archive_revision.Goals as goal
 

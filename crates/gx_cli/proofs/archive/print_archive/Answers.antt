@@ -4,7 +4,7 @@ use Rattle.gx_model.specs.Records.HistoryOf.{history_of}
 use Rattle.gx_model.specs.Revisions.{revision_of}
 use Rattle.gx_archive.specs.Archives.{archive_of}
 use Rattle.gx_cli.specs.Answers.{Prints}
-use Rattle.gx_cli.specs.Stored.{only_word}
+use Rattle.gx_print.specs.Stored.{only_word}
 use Rattle.gx_cli.proofs.ArchivedWords.{unread_word}
 use Rattle.gx_cli.proofs.archive.print_archive.Goals as goal
 

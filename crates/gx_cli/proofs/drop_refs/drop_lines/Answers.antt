@@ -1,4 +1,4 @@
-use Rattle.gx_cli.specs.Words.{with_lines}
+use Rattle.gx_print.specs.Words.{with_lines}
 use Rattle.gx_cli.proofs.DroppedStores.{all_dropped, none_dropped}
 use Rattle.gx_cli.proofs.drop_refs.drop_lines.Goals as goal
 

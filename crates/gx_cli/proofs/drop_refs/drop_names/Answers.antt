@@ -1,6 +1,6 @@
 use Rattle.std.proofs.Common.{◌++◌, ap, map, ◌∙◌}
 use Rattle.gx_text.specs.Lent.{lent_texts}
-use Rattle.gx_cli.specs.Words.{with_lines}
+use Rattle.gx_print.specs.Words.{with_lines}
 use Rattle.gx_cli.proofs.DroppedStores.{names_dropped}
 use Rattle.gx_cli.proofs.drop_refs.drop_names.Goals as goal
 

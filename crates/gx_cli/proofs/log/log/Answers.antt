@@ -11,18 +11,19 @@ use Rattle.gx_model.specs.Revisions.{range_of}
 use Rattle.gx_rev.specs.Objects.{IsHeldAs, commit_at}
 use Rattle.gx_rev.specs.Views.{shown_range}
 use Rattle.gx_cli.specs.Answers.{Prints}
-use Rattle.gx_cli.specs.Logs.{arranged, commits_logged, entries_text, log_text}
+use Rattle.gx_print.specs.Logs.{arranged, commits_logged, entries_text, log_text}
 use Rattle.gx_cli.specs.Sending.{PrintsText}
-use Rattle.gx_cli.specs.Stored.{all_words}
+use Rattle.gx_print.specs.Stored.{all_words}
 use Rattle.gx_text.specs.Lent.{lent_texts}
 use Rattle.gx_cli.specs.Words.{RefusesWord}
-use Rattle.gx_cli.proofs.ListedCommits.{all_arranged, map_arranged}
-use Rattle.gx_cli.proofs.RefusedWords.{first_refused, in_two, later_refused, refusal_printed, then_words}
+use Rattle.gx_print.proofs.ListedCommits.{all_arranged, map_arranged}
+use Rattle.gx_cli.proofs.RefusedWords.{first_refused, later_refused, refusal_printed}
+use Rattle.gx_print.proofs.ReadSteps.{in_two, then_words}
 use Rattle.gx_cli.proofs.SentLines.{given_text}
 use Rattle.gx_cli.proofs.log.log.Goals as goal
 
-pub returns-in_err-read_into : goal.returns-in_err-read_into
-returns-in_err-read_into g c =
+pub returns-in_err-ranges : goal.returns-in_err-ranges
+returns-in_err-ranges g c =
     let p = err_from_is_err_and c.from_residual.result c.from_residual.ensures.1 in
     let name = g.N.Namer.name_of c.args.repo.now.0 in
     let o = c.args.options in
@@ -31,8 +32,8 @@ returns-in_err-read_into g c =
     let read = each_word range_of words in
     let listed = commits_logged name (history_of c.args.repo.now.1) o.all in
     let text : List Commit → Bytes = λ commits. entries_text name o (arranged o commits) in
-    let fault = c.in_err-read_into.field-0.0 in
-    rw (p.1, p.2) (subst (λ given. Prints given was was (Err fault)) (sym (in_two read listed text)) (refusal_printed (all_words (read >>= listed)) text was fault (first_refused read listed fault c.in_err-read_into.ensures)))
+    let fault = c.in_err-ranges.field-0.0 in
+    rw (p.1, p.2) (subst (λ given. Prints given was was (Err fault)) (sym (in_two read listed text)) (refusal_printed (all_words (read >>= listed)) text was fault (first_refused read listed fault c.in_err-ranges.ensures)))
 
 pub returns-in_err-names : goal.returns-in_err-names
 returns-in_err-names g c =
@@ -46,9 +47,9 @@ returns-in_err-names g c =
     let listed = commits_logged name h o.all in
     let text : List Commit → Bytes = λ commits. entries_text name o (arranged o commits) in
     let fault = c.in_err-names.field-0.0 in
-    let ranges = map shown_range c.read_into.new.ranges.items in
+    let ranges = map shown_range c.in_ok-ranges.ranges.items in
     let refused = subst (λ rs. RefusesWord fault (all_words (commits_logged name h o.all (map shown_range rs)))) c.as_slice.ensures.value c.in_err-names.ensures.commits in
-    rw (p.1, p.2) (subst (λ given. Prints given was was (Err fault)) (sym (in_two read listed text)) (refusal_printed (all_words (read >>= listed)) text was fault (later_refused read ranges listed fault c.in_ok-read_into.ensures refused)))
+    rw (p.1, p.2) (subst (λ given. Prints given was was (Err fault)) (sym (in_two read listed text)) (refusal_printed (all_words (read >>= listed)) text was fault (later_refused read ranges listed fault c.in_ok-ranges.ensures refused)))
 
 pub print_commits-requires : goal.print_commits-requires
 print_commits-requires g c =
@@ -69,8 +70,8 @@ returns g c =
     let listed = commits_logged name h o.all in
     let text : List Commit → Bytes = λ commits. entries_text name o (arranged o commits) in
     let names = c.in_ok-names.names.items in
-    let ranges = map shown_range c.read_into.new.ranges.items in
+    let ranges = map shown_range c.in_ok-ranges.ranges.items in
     let told = (λ i. all_words (commits_logged name h o.all (map shown_range (sym c.as_slice.ensures.value i)))) ∙ c.in_ok-names.ensures.commits in
-    let given = in_two read listed text ∙ ap (λ x. x >>= λ commits. Ok (text commits)) (then_words read ranges listed c.in_ok-read_into.ensures ∙ told) in
+    let given = in_two read listed text ∙ ap (λ x. x >>= λ commits. Ok (text commits)) (then_words read ranges listed c.in_ok-ranges.ensures ∙ told) in
     let lines = ap (λ ns. entries_text name o (map (commit_at r) ns)) (c.as_slice-2.ensures.value ∙ c.arrange.ensures) ∙ ap (entries_text name o) (map_arranged (commit_at r) o.reverse o.max_count names) in
     given_text (log_text name o h words) (text (map (commit_at r) names)) was now c.print_commits.result given (subst (λ t. PrintsText t was now c.print_commits.result) lines c.print_commits.ensures)

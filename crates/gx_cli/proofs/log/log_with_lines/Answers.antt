@@ -2,7 +2,7 @@ use Rattle.std.proofs.Common.{◌++◌, map, subst, Err}
 use Rattle.std.proofs.lemmas.Result.{err_from_is_err_and}
 use Rattle.gx_model.specs.Records.HistoryOf.{history_of}
 use Rattle.gx_cli.specs.Answers.{Prints}
-use Rattle.gx_cli.specs.Logs.{log_text}
+use Rattle.gx_print.specs.Logs.{log_text}
 use Rattle.gx_text.specs.Lent.{lent_texts}
 use Rattle.gx_cli.proofs.LoggedLines.{logs_lines, logs_words, no_lines, source_read, source_unread}
 use Rattle.gx_cli.proofs.log.log_with_lines.Goals as goal

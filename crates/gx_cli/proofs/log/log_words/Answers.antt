@@ -2,7 +2,7 @@ use Rattle.std.proofs.Common.{◌++◌, ap, map, subst, ◌∙◌}
 use Rattle.std.proofs.lemmas.Result.{err_from_is_err_and}
 use Rattle.gx_model.specs.Records.HistoryOf.{history_of}
 use Rattle.gx_cli.specs.Answers.{Prints}
-use Rattle.gx_cli.specs.Logs.{log_text}
+use Rattle.gx_print.specs.Logs.{log_text}
 use Rattle.gx_text.specs.Lent.{lent_texts}
 use Rattle.gx_cli.proofs.LoggedLines.{nothing_out}
 use Rattle.gx_cli.proofs.log.log_words.Goals as goal

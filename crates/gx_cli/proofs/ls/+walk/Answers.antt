@@ -6,11 +6,11 @@ use Rattle.gx_model.specs.Records.{entries}
 use Rattle.gx_model.specs.Texts.Sinks.{Took}
 use Rattle.gx_model.proofs.Texts.SentTexts.{IsLeft, all_left, less_left}
 use Rattle.gx_object.specs.Entries.{shown}
-use Rattle.gx_cli.specs.Listings.{entry_line}
+use Rattle.gx_print.specs.Listings.{entry_line}
 use Rattle.gx_cli.specs.Sending.{PrintsText}
-use Rattle.gx_cli.specs.WalkedFiles.{HavePaths, IsWithin, files_in, line_below}
+use Rattle.gx_print.specs.WalkedFiles.{HavePaths, IsWithin, files_in, line_below}
 use Rattle.gx_cli.proofs.SentLines.{cut_short}
-use Rattle.gx_cli.proofs.WalkedFiles.{dir_lines, dir_paths, file_lines, inner, is_dir_mode, lines_of, tree_lines, tree_paths, tree_within}
+use Rattle.gx_print.proofs.WalkedFiles.{dir_lines, dir_paths, file_lines, inner, is_dir_mode, lines_of, tree_lines, tree_paths, tree_within}
 use Rattle.gx_cli.proofs.ls.+walk.Goals.{print_entry-then-is_dir+in_ok-push+in_ok-print_below, print_entry-else-is_dir+in_ok-print_at}
 use Rattle.gx_cli.proofs.ls.+walk.Goals as goal
 

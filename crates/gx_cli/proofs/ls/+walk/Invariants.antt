@@ -1,8 +1,8 @@
 use Rattle.std.proofs.Common.{◌≡◌, ◌+◌, ◌*◌, ◌-◌, length}
 use Rattle.std.specs.List.{AllByRecursion, flat_map}
 use Rattle.gx_model.proofs.Texts.SentTexts.{IsLeft}
-use Rattle.gx_cli.specs.WalkedFiles.{IsWithin, files_in, line_below}
-use Rattle.gx_cli.proofs.WalkedFiles.{lines_of}
+use Rattle.gx_print.specs.WalkedFiles.{IsWithin, files_in, line_below}
+use Rattle.gx_print.proofs.WalkedFiles.{lines_of}
 use Rattle.gx_cli.proofs.ls.+walk.Given as goal
 
 abbrev pub decreases-print_below : goal.decreases-print_below

@@ -2,8 +2,8 @@ use Rattle.std.proofs.Common.{ap, Ok}
 use Rattle.gx_model.specs.Faults.{◌>>=◌}
 use Rattle.gx_model.specs.Records.HistoryOf.{history_of}
 use Rattle.gx_rev.specs.Objects.{files_at}
-use Rattle.gx_cli.specs.Listings.{tree_lines}
-use Rattle.gx_cli.specs.Stored.{files_of_word, list_lines, only_word}
+use Rattle.gx_print.specs.Listings.{tree_lines}
+use Rattle.gx_print.specs.Stored.{files_of_word, list_lines, only_word}
 use Rattle.gx_cli.proofs.Pieces.{shows_prints}
 use Rattle.gx_cli.proofs.RefusedWords.{only_refused}
 use Rattle.gx_cli.proofs.SentLines.{given_text}

@@ -2,8 +2,8 @@ use Rattle.std.proofs.Common.{◌∙◌, ap, subst, sym}
 use Rattle.std.specs.List.{flat_map}
 use Rattle.gx_rev.specs.Objects.{files_at}
 use Rattle.gx_cli.specs.Sending.{PrintsText}
-use Rattle.gx_cli.specs.WalkedFiles.{HavePaths, files_in, line_below}
-use Rattle.gx_cli.proofs.WalkedFiles.{root_lines, tree_paths}
+use Rattle.gx_print.specs.WalkedFiles.{HavePaths, files_in, line_below}
+use Rattle.gx_print.proofs.WalkedFiles.{root_lines, tree_paths}
 use Rattle.gx_cli.proofs.ls.print_files.Goals as goal
 
 pub print_below-requires : goal.print_below-requires

@@ -1,7 +1,7 @@
 use Rattle.std.proofs.Common.{◌≡◌, ◌+◌, ◌++◌, ◌∷◌, [], List, ℕ, append_assoc, drop, map, subst, sym, ap, ◌∙◌}
 use Rattle.std.proofs.lemmas.List.{map-append}
 use Rattle.gx_object.specs.declared.name.Name.{Name}
-use Rattle.gx_cli.proofs.SentLines.{from_place, past_place}
+use Rattle.gx_print.proofs.Places.{from_place, past_place}
 use Rattle.gx_cli.proofs.questions.parents_of.Goals.{in-Some+in_ok-push, in_default}
 use Rattle.gx_cli.proofs.questions.parents_of.Goals as goal
 

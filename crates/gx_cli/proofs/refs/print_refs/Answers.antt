@@ -2,7 +2,7 @@ use Rattle.std.proofs.Common.{Err, refl, subst, sym, Ok, ◌∙◌}
 use Rattle.std.specs.List.{flat_map}
 use Rattle.std.proofs.lemmas.Result.{err_from_is_err_and}
 use Rattle.gx_model.specs.Stores.StoreText.{stored_ref}
-use Rattle.gx_cli.specs.Stored.{refs_text}
+use Rattle.gx_print.specs.Stored.{refs_text}
 use Rattle.gx_model.proofs.Texts.SentTexts.{IsLeft, all_left}
 use Rattle.gx_cli.proofs.SentLines.{given_text}
 use Rattle.gx_cli.proofs.Pieces.{piece_cut, piece_sent}

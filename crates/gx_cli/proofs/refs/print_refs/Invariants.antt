@@ -1,6 +1,6 @@
 use Rattle.std.specs.List.{flat_map}
 use Rattle.gx_model.specs.Stores.StoreText.{stored_ref}
-use Rattle.gx_cli.specs.Stored.{refs_text}
+use Rattle.gx_print.specs.Stored.{refs_text}
 use Rattle.gx_model.proofs.Texts.SentTexts.{IsLeft}
 use Rattle.gx_cli.proofs.refs.print_refs.Given as goal
 

@@ -4,9 +4,10 @@ use Rattle.gx_model.specs.Revisions.Denotation.{denoted}
 use Rattle.gx_model.specs.Records.HistoryOf.{history_of}
 use Rattle.gx_rev.specs.Answers.{IsNamed, shown_by}
 use Rattle.gx_cli.proofs.Pieces.{rest_from}
-use Rattle.gx_cli.specs.Stored.{all_words}
-use Rattle.gx_cli.proofs.ReadWords.{AreRead, all_read, next_read, word_refused}
-use Rattle.gx_cli.proofs.WordsRead.{all_push}
+use Rattle.gx_print.specs.Stored.{all_words}
+use Rattle.gx_print.proofs.ReadWords.{AreRead, all_read, next_read}
+use Rattle.gx_cli.proofs.ReadWords.{word_refused}
+use Rattle.gx_print.proofs.WordsRead.{all_push}
 use Rattle.gx_cli.proofs.rev_parse.eval_into.Goals as goal
 
 pub loop-place-preserved : goal.loop-place-preserved

@@ -3,7 +3,7 @@ use Rattle.std.specs.List.{AllByRecursion}
 use Rattle.gx_model.specs.Revisions.Denotation.{denoted}
 use Rattle.gx_model.specs.Records.HistoryOf.{history_of}
 use Rattle.gx_rev.specs.Answers.{IsNamed, shown_by}
-use Rattle.gx_cli.proofs.ReadWords.{AreRead}
+use Rattle.gx_print.proofs.ReadWords.{AreRead}
 use Rattle.gx_cli.proofs.rev_parse.eval_into.Given as goal
 
 abbrev pub invariant-loop-place : goal.invariant-loop-place

@@ -1,7 +1,7 @@
 use Rattle.std.proofs.Common.{◌∙◌, refl, Err, subst, drop, ◌+◌, Ok}
 use Rattle.std.specs.List.{flat_map}
 use Rattle.std.proofs.lemmas.Result.{err_from_is_err_and}
-use Rattle.gx_cli.specs.Answers.{shown_line}
+use Rattle.gx_print.specs.Stored.{shown_line}
 use Rattle.gx_cli.specs.Sending.{PrintsText}
 use Rattle.gx_cli.proofs.SentLines.{given_text}
 use Rattle.gx_cli.proofs.Pieces.{piece_cut, left_from, piece_sent, sent_prints}

@@ -1,6 +1,6 @@
 use Rattle.std.proofs.Common.{drop}
 use Rattle.std.specs.List.{flat_map}
-use Rattle.gx_cli.specs.Answers.{shown_line}
+use Rattle.gx_print.specs.Stored.{shown_line}
 use Rattle.gx_model.proofs.Texts.SentTexts.{IsLeft}
 use Rattle.gx_cli.proofs.rev_parse.print_lines.Given as goal
 

@@ -1,20 +1,11 @@
-use Rattle.std.proofs.Common.{ap, ◌∙◌, sym, subst, [], Ok}
-use Rattle.std.specs.List.{AllByRecursion, flat_map}
+use Rattle.std.proofs.Common.{ap, ◌∙◌, subst, [], Ok}
+use Rattle.std.specs.List.{flat_map}
 use Rattle.gx_model.specs.Records.HistoryOf.{files_of_tree, value_of_name}
-use Rattle.gx_cli.specs.Listings.{IsListed, entry_line}
+use Rattle.gx_print.specs.Listings.{entry_line}
 use Rattle.gx_cli.specs.Trying.{Shows}
-use Rattle.gx_cli.proofs.ListedEntries.{all_lines, all_listed, content_held}
+use Rattle.gx_print.proofs.ListedEntries.{all_lines}
 use Rattle.gx_cli.proofs.Pieces.{sent_shows}
 use Rattle.gx_cli.proofs.show.print_entries.Goals as goal
-
-pub listing-requires : goal.listing-requires
-listing-requires g c =
-    let name = g.N.Namer.name_of c.args.repo.now.0 in
-    let namer = g.met.N.Namer.is_namer c.args.repo.now.0 in
-    let r = c.args.repo.now.1 in
-    let n = c.args.tree.now.bytes in
-    let f = files_of_tree (value_of_name r.records n) in
-    record { components = subst (AllByRecursion IsListed) (sym c.entries_of.ensures.files) (all_listed name namer f (content_held name namer r c.sound.ensures n c.requires)) }
 
 pub returns-in-Ok : goal.returns-in-Ok
 returns-in-Ok g c =

@@ -2,10 +2,11 @@ use Rattle.std.proofs.Common.{subst, sym}
 use Rattle.gx_model.specs.Records.HistoryOf.{history_of}
 use Rattle.gx_text.specs.Lent.{lent_texts}
 use Rattle.gx_cli.specs.Answers.{Prints}
-use Rattle.gx_cli.specs.Listings.{text_of_word}
+use Rattle.gx_print.specs.Listings.{text_of_word}
 use Rattle.gx_cli.specs.Logs.{LogsFrom}
 use Rattle.gx_cli.specs.Serving.{IsAnswered}
-use Rattle.gx_cli.specs.Stored.{list_text, show_text, tar_text}
+use Rattle.gx_print.specs.Stored.{list_text, show_text}
+use Rattle.gx_cli.specs.Archived.{tar_text}
 use Rattle.gx_cli.proofs.StoredAnswers.{shows_printed}
 use Rattle.gx_cli.proofs.stored.answer.Goals as goal
 

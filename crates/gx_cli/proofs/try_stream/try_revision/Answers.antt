@@ -1,6 +1,6 @@
 use Rattle.std.proofs.Common.{subst, []}
 use Rattle.gx_model.specs.Records.HistoryOf.{history_of}
-use Rattle.gx_cli.specs.Listings.{text_of_word}
+use Rattle.gx_print.specs.Listings.{text_of_word}
 use Rattle.gx_cli.specs.Trying.{Shows}
 use Rattle.gx_cli.proofs.ExplainedImports.{shown_told}
 use Rattle.gx_cli.proofs.RetoldImports.{shown_retold}

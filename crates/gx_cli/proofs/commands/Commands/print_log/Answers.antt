@@ -5,9 +5,10 @@ use Rattle.gx_model.specs.Texts.{Bytes}
 use Rattle.gx_batch.specs.Batches.{Sent}
 use Rattle.gx_text.specs.Lent.{lent_texts}
 use Rattle.gx_cli.specs.Answers.{Prints}
-use Rattle.gx_cli.specs.Commanding.{answered, no_options}
-use Rattle.gx_cli.specs.Logs.{log_text}
-use Rattle.gx_cli.specs.Stored.{Printed}
+use Rattle.gx_cli.specs.Commanding.{answered}
+use Rattle.gx_print.specs.Asking.{no_options}
+use Rattle.gx_print.specs.Logs.{log_text}
+use Rattle.gx_print.specs.Stored.{Printed}
 use Rattle.gx_cli.proofs.commands.Commands.print_log.Goals as goal
 
 pub returns : goal.returns

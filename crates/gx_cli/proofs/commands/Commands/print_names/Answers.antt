@@ -6,7 +6,7 @@ use Rattle.gx_batch.specs.Batches.{Sent}
 use Rattle.gx_text.specs.Lent.{lent_texts}
 use Rattle.gx_cli.specs.Answers.{Prints}
 use Rattle.gx_cli.specs.Commanding.{answered}
-use Rattle.gx_cli.specs.Stored.{Printed, names_text}
+use Rattle.gx_print.specs.Stored.{Printed, names_text}
 use Rattle.gx_cli.proofs.commands.Commands.print_names.Goals as goal
 
 pub returns : goal.returns

@@ -1,5 +1,5 @@
 use Rattle.std.proofs.Common.{ap, ◌∙◌}
-use Rattle.gx_cli.specs.Logs.{turned}
+use Rattle.gx_print.specs.Logs.{turned}
 use Rattle.gx_cli.proofs.log.commits.arrange.Goals as goal
 
 pub returns : goal.returns

@@ -5,8 +5,9 @@ use Rattle.gx_model.specs.Records.{name_of}
 use Rattle.gx_model.specs.Records.HistoryOf.{history_of}
 use Rattle.gx_rev.specs.Views.{shown_range}
 use Rattle.gx_rev.specs.Walking.{is_included}
-use Rattle.gx_cli.specs.Stored.{all_words}
-use Rattle.gx_cli.proofs.ListedCommits.{listing_with, logged_held, logged_refused}
+use Rattle.gx_print.specs.Stored.{all_words}
+use Rattle.gx_print.proofs.ListedCommits.{listing_with, logged_held}
+use Rattle.gx_cli.proofs.ListedCommits.{logged_refused}
 use Rattle.gx_cli.proofs.log.commits.names_listed.Goals as goal
 
 pub returns-in_ok-names-in-Ok-clause-commits : goal.returns-in_ok-names-in-Ok-clause-commits

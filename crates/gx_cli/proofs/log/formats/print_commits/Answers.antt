@@ -3,7 +3,7 @@ use Rattle.std.specs.List.{AllByRecursion, flat_map}
 use Rattle.std.proofs.lemmas.Result.{err_from_is_err_and}
 use Rattle.gx_model.specs.declared.objects.Kind.TheVariants as kinds
 use Rattle.gx_rev.specs.Objects.{IsHeldAs, commit_at}
-use Rattle.gx_cli.specs.Logs.{entries_text, entry_of, gap, next_entry}
+use Rattle.gx_print.specs.Logs.{entries_text, entry_of, gap, next_entry}
 use Rattle.gx_model.proofs.Texts.SentTexts.{IsLeft, all_left, less_left}
 use Rattle.gx_cli.proofs.CommitEntries.{no_entries}
 use Rattle.gx_cli.proofs.SentLines.{cut_short, last_sent}

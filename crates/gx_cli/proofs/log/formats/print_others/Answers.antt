@@ -3,7 +3,7 @@ use Rattle.std.specs.List.{flat_map}
 use Rattle.std.proofs.lemmas.Result.{err_from_is_err_and}
 use Rattle.gx_rev.specs.Objects.{commit_at}
 use Rattle.gx_model.specs.Texts.Sinks.{Took}
-use Rattle.gx_cli.specs.Logs.{entry_of, next_entry}
+use Rattle.gx_print.specs.Logs.{entry_of, next_entry}
 use Rattle.gx_cli.specs.Sending.{PrintsText}
 use Rattle.gx_model.proofs.Texts.SentTexts.{IsLeft, less_left}
 use Rattle.gx_cli.proofs.SentLines.{cut_short, lines_at}

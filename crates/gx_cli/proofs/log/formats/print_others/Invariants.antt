@@ -1,7 +1,7 @@
 use Rattle.std.proofs.Common.{drop, map}
 use Rattle.std.specs.List.{flat_map}
 use Rattle.gx_rev.specs.Objects.{commit_at}
-use Rattle.gx_cli.specs.Logs.{next_entry}
+use Rattle.gx_print.specs.Logs.{next_entry}
 use Rattle.gx_model.proofs.Texts.SentTexts.{IsLeft}
 use Rattle.gx_cli.proofs.log.formats.print_others.Given as goal
 

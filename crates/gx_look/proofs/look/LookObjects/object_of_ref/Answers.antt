@@ -1,17 +1,13 @@
-use Rattle.std.proofs.Common.{◌≡◌, ◌-◌, ℕ, arith, drop, length, sym, subst, take}
+use Rattle.std.proofs.Common.{drop, sym, subst}
 use Rattle.std.specs.Prelude.{IfSome}
-use Rattle.std.proofs.lemmas.List.{length-drop, take_all}
 use Rattle.std.proofs.lemmas.Option.{IfSome_then}
 use Rattle.gx_model.specs.Texts.{Bytes}
 use Rattle.gx_objects.specs.Answers.{FindsRef}
 use Rattle.gx_look.specs.Looking.{told_by}
 use Rattle.gx_look.specs.Refs.{AreLines}
+use Rattle.gx_look.proofs.JoinedTexts.{from_place}
 use Rattle.gx_look.proofs.ToldNames.{lines_tell}
 use Rattle.gx_look.proofs.look.LookObjects.object_of_ref.Goals as goal
-
--- a slice from a place on is what stands behind the place
-from_place : (n : ℕ) (text : Bytes) → take (length text - n) (drop n text) ≡ drop n text
-from_place n text = let l = length-drop n text in take_all (length text - n) (drop n text) (omega arith)
 
 pub returns-clause-object : goal.returns-clause-object
 returns-clause-object g c =

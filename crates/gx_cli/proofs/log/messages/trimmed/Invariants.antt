@@ -1,9 +1,0 @@
-use Rattle.std.proofs.Common.{◌≡◌, length}
-use Rattle.gx_cli.specs.Messages.{trimmed}
-use Rattle.gx_cli.proofs.log.messages.trimmed.Given as goal
-
-abbrev pub invariant-loop-last : goal.invariant-loop-last
-invariant-loop-last l = trimmed l.rest ≡ trimmed l.text
-
-abbrev pub decreases-loop-last : goal.decreases-loop-last
-decreases-loop-last l = length l.rest

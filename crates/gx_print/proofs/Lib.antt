@@ -1,0 +1,10 @@
+pub mod Places
+pub mod ReadWords
+pub mod ReadSteps
+pub mod SplitWords
+pub mod WordsRead
+pub mod ListedEntries
+pub mod WalkedFiles
+pub mod ListedCommits
+pub mod MessageTexts
+pub mod CommitTexts

@@ -1,0 +1,10 @@
+pub mod Listings
+pub mod Stored
+pub mod WalkedFiles
+pub mod Words
+pub mod Messages
+pub mod Identities
+pub mod Logs
+pub mod LogRows
+pub mod Asking
+pub mod BatchRows

@@ -1,0 +1,87 @@
+//! Bytes of a stream, as paths are printed. Source: git-ls-files(1), "core.quotePath".
+
+ghost use Rattle.std.specs.Prelude.{◌≡◌, ◌++◌, IfOk, OnOk};
+ghost use Rattle.std.specs.List.{list_all};
+ghost use Rattle.gx_model.specs.Texts.Paths.{is_printed_bare, letter_of, printed, printed_byte};
+ghost use Rattle.gx_text.specs.Quoting.{printed_quoted};
+
+use std::alloc::{AllocError, Allocator};
+
+/// A text as a path is printed.
+///
+/// Cost: its length, at most four bytes for each of the text's.
+pub fn printed_path<A: Allocator + Copy>(alloc: A, text: &[u8]) -> Result<Vec<u8, A>, AllocError>
+    ensures { IfOk result (λ shown. shown.items ≡ printed text.now) }
+{
+    let mut shown = Vec::new(alloc);
+    put_printed(&mut shown, text)?;
+    Ok(shown)
+}
+
+/// Appends a text as a path is printed: quoted where a byte is below 0x20, DEL, `"`, `\` or at least 0x80.
+///
+/// Cost: as of `printed_path`.
+pub fn put_printed<A: Allocator + Copy>(out: &mut Vec<u8, A>, text: &[u8]) -> Result<(), AllocError>
+    ensures { OnOk result (out.new.items ≡ out.old.items ++ printed text.now) }
+{
+    if are_bare(text) {
+        out.extend_from_slice(text)
+    } else {
+        put_quoted(out, text)
+    }
+}
+
+fn put_quoted<A: Allocator + Copy>(out: &mut Vec<u8, A>, text: &[u8]) -> Result<(), AllocError>
+    ensures { OnOk result (out.new.items ≡ out.old.items ++ printed_quoted text.now) }
+{
+    out.push(b'"')?;
+    for b in text {
+        put_byte(out, *b)?;
+    }
+    out.push(b'"')?;
+    Ok(())
+}
+
+fn put_byte<A: Allocator + Copy>(out: &mut Vec<u8, A>, b: u8) -> Result<(), AllocError>
+    ensures { OnOk result (out.new.items ≡ out.old.items ++ printed_byte b) }
+{
+    if is_bare(b) {
+        return out.extend_from_slice(&[b]);
+    }
+    match letter(b) {
+        Some(letter) => out.extend_from_slice(&[b'\\', letter]),
+        None => out.extend_from_slice(&[b'\\', b'0' + b / 8 / 8, b'0' + b / 8 % 8, b'0' + b % 8]),
+    }
+}
+
+/// Whether a text is printed as it stands.
+fn are_bare(text: &[u8]) -> bool
+    ensures { result ≡ list_all is_printed_bare text.now }
+{
+    text.iter().all(|b| is_bare(*b))
+}
+
+/// Whether the byte stands for itself in a text without quotes.
+fn is_bare(b: u8) -> bool
+    ensures { result ≡ is_printed_bare b }
+{
+    b >= 0x20 && b < 0x7f && b != b'"' && b != b'\\'
+}
+
+/// The letter of the byte's named escape.
+fn letter(b: u8) -> Option<u8>
+    ensures { result ≡ letter_of b }
+{
+    match b {
+        0x07 => Some(b'a'),
+        0x08 => Some(b'b'),
+        0x0c => Some(b'f'),
+        b'\n' => Some(b'n'),
+        b'\r' => Some(b'r'),
+        b'\t' => Some(b't'),
+        0x0b => Some(b'v'),
+        b'\\' => Some(b'\\'),
+        b'"' => Some(b'"'),
+        _ => None,
+    }
+}

@@ -1,0 +1,9 @@
+pub mod Reached
+pub mod Tips
+pub mod Walks
+pub mod Steps
+pub mod MeetingWalks
+pub mod Tellings
+pub mod WordTips
+pub mod Spans
+pub mod RefLines

@@ -1,0 +1,9 @@
+use Rattle.std.specs.Prelude.{IfSome}
+use Rattle.gx_ranges.specs.Fronts.{GoesDown, behind_last}
+use Rattle.gx_ranges.proofs.fronts.go_down.Given as goal
+
+abbrev pub invariant-loop-last : goal.invariant-loop-last
+invariant-loop-last g l = IfSome (g.O.Objects.told l.objects) (GoesDown (g.O.Objects.stands l.objects) l.place l.fn.front.entries l.front.entries)
+
+abbrev pub decreases-loop-last : goal.decreases-loop-last
+decreases-loop-last g l = behind_last l.front.entries

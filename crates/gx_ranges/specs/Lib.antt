@@ -1,0 +1,5 @@
+pub mod Answers
+pub mod Fronts
+pub mod Walks
+pub mod Words
+pub mod Refs

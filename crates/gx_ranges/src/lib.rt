@@ -1,0 +1,14 @@
+//! Which commits range words list, asked of whatever holds objects and refs. A walk goes down from the newest place, and reads
+//! what it comes to: so a short range costs little, however much is held.
+#![tactic(auto)]
+
+mod fault;
+mod fronts;
+mod meetings;
+mod refs;
+mod telling;
+mod walking;
+mod words;
+
+pub use fault::RangeFault;
+pub use walking::walk;

@@ -1,0 +1,99 @@
+-- What is printed where the lines of a source are words, too.
+use Rattle.std.proofs.Common.{◌≡◌, ◌∙◌, refl, sym, ap, subst, Bool, true, false, ℕ, List, [], ◌++◌, append-nil, map, Option, None, Some, Result, Ok, Err}
+use Rattle.std.specs.Prelude.{IfSome}
+use Rattle.std.specs.declared.vec.Vec.{Vec}
+use Rattle.gx_model.specs.declared.objects.Kind.{Kind}
+use Rattle.gx_model.specs.declared.objects.Kind.TheVariants as kinds
+use Rattle.gx_model.specs.Faults.{◌>>=◌}
+use Rattle.gx_model.specs.Histories.{Records}
+use Rattle.gx_model.specs.Histories.Values.{Commit}
+use Rattle.gx_model.specs.Records.HistoryOf.{history_of}
+use Rattle.gx_model.specs.Revisions.{RangeWord}
+use Rattle.gx_model.specs.Texts.{Bytes}
+use Rattle.gx_model.specs.Texts.Sinks.{Taken}
+use Rattle.gx_object.specs.declared.name.Name.{Name}
+use Rattle.gx_stream.specs.Heard.{heard}
+use Rattle.gx_text.specs.Devices.{Coming}
+use Rattle.gx_batch.specs.Batches.{AreRead, GivesLines}
+use Rattle.gx_batch.specs.Lines.{lines_from}
+use Rattle.gx_batch.specs.declared.ending.LineEnding.TheVariants.{Lf}
+use Rattle.gx_batch.specs.declared.fault.BatchFault.{BatchFault}
+use Rattle.gx_batch.specs.declared.fault.BatchFault.TheVariants as batch
+use Rattle.gx_line.specs.declared.command_line.LogOptions.{LogOptions}
+use Rattle.gx_questions.specs.declared.fault.AskFault.{AskFault}
+use Rattle.gx_questions.specs.declared.fault.AskFault.TheVariants as ask
+use Rattle.gx_ranges.specs.Answers.{AreLogged, RefusesWord}
+use Rattle.gx_print.specs.Logs.{AreCommits, arranged, commits_logged, entries_text, log_text, turned}
+use Rattle.gx_rev.specs.Objects.{IsHeldAs, commit_at}
+use Rattle.gx_model.proofs.Texts.SentTexts.{took_nothing}
+use Rattle.gx_print.specs.Stored.{all_words}
+use Rattle.gx_print.proofs.ListedCommits.{all_arranged, map_arranged}
+use Rattle.gx_print.proofs.ReadSteps.{nothing_in_front}
+use Rattle.gx_told.specs.Faults.{of_batch, refused_at}
+use Rattle.gx_told.specs.Logging.{LogsFrom, LogsRead, ranges_text}
+use Rattle.gx_told.specs.Printing.{Prints, PrintsText}
+use Rattle.gx_told.specs.declared.fault.ToldFault.{ToldFault}
+use Rattle.gx_told.specs.declared.fault.ToldFault.TheVariants.{OutOfMemory, ReadFailed}
+use Rattle.gx_told.proofs.Prints.{given_text, none_printed}
+
+module _ (name : Kind → Bytes → Bytes) (options : LogOptions) (r : Records) where
+  lines_unread : (A : Type 0) (words lines : List Bytes) (fails : Bool) (was : Option Taken) (fault : BatchFault) → AreRead {A = A} lines fails (Err fault) → LogsRead name options r words fails was was (Err (of_batch fault))
+  lines_unread A words lines fails was batch.ReadFailed h = (h, refl)
+  lines_unread A words lines fails was batch.OutOfMemory h = none_printed (log_text name options (history_of r) words) was
+  lines_unread A words lines fails was batch.WriteFailed h = absurd h
+
+  unread_from : (A : Type 0) (words : List Bytes) (coming : Option Coming) (was : Option Taken) (fault : BatchFault) → GivesLines {A = A} Lf coming (Err fault) → LogsFrom name options true r words coming was was (Err (of_batch fault))
+  unread_from A words None was fault h = (h.0, lines_unread A (words ++ lines_from Lf h.0) (lines_from Lf h.0) h.0.fails was fault h.1)
+  unread_from A words (Some c) was fault h = lines_unread A (words ++ lines_from Lf (heard c)) (lines_from Lf (heard c)) (heard c).fails was fault h
+
+  -- nothing is printed where a source isn't read
+  pub source_unread : (A : Type 0) (stdin : Bool) (words : List Bytes) (coming : Option Coming) (was : Option Taken) (fault : BatchFault) → stdin ≡ true → GivesLines {A = A} Lf coming (Err fault) → LogsFrom name options stdin r words coming was was (Err (of_batch fault))
+  source_unread A stdin words coming was fault e h = subst (λ b. LogsFrom name options b r words coming was was (Err (of_batch fault))) (sym e) (unread_from A words coming was fault h)
+
+  lines_read : (words : List Bytes) (fails : Bool) (was now : Option Taken) (answer : Result (Unit {0}) ToldFault) → fails ≡ false → Prints (log_text name options (history_of r) words) was now answer → LogsRead name options r words fails was now answer
+  lines_read words fails was now (Err ReadFailed) e h = absurd h
+  lines_read words fails was now (Err OutOfMemory) e h = h
+  lines_read words fails was now answer e h = (e, h)
+
+  read_from : {A : Type 0} (words : List Bytes) (coming : Option Coming) (read : Vec (Vec ℕ A) A) (was now : Option Taken) (answer : Result (Unit {0}) ToldFault) → GivesLines Lf coming (Ok read)
+      → Prints (log_text name options (history_of r) (words ++ map (λ line. line.items) read.items)) was now answer → LogsFrom name options true r words coming was now answer
+  read_from words None read was now answer h k =
+      (h.0, lines_read (words ++ lines_from Lf h.0) h.0.fails was now answer h.1.0 (subst (λ lines. Prints (log_text name options (history_of r) (words ++ lines)) was now answer) h.1.1 k))
+  read_from words (Some c) read was now answer h k =
+      lines_read (words ++ lines_from Lf (heard c)) (heard c).fails was now answer h.0 (subst (λ lines. Prints (log_text name options (history_of r) (words ++ lines)) was now answer) h.1 k)
+
+  -- what is printed of words and of the lines that were read
+  pub source_read : {A : Type 0} (stdin : Bool) (words : List Bytes) (coming : Option Coming) (read : Vec (Vec ℕ A) A) (was now : Option Taken) (answer : Result (Unit {0}) ToldFault) → stdin ≡ true → GivesLines Lf coming (Ok read)
+      → Prints (log_text name options (history_of r) (words ++ map (λ line. line.items) read.items)) was now answer → LogsFrom name options stdin r words coming was now answer
+  source_read stdin words coming read was now answer e h k = subst (λ b. LogsFrom name options b r words coming was now answer) (sym e) (read_from words coming read was now answer h k)
+
+  -- what is printed of words and of no line
+  pub no_lines : (stdin : Bool) (words : List Bytes) (coming : Option Coming) (was now : Option Taken) (answer : Result (Unit {0}) ToldFault) → stdin ≡ false → Prints (log_text name options (history_of r) (words ++ [])) was now answer → LogsFrom name options stdin r words coming was now answer
+  no_lines stdin words coming was now answer e h =
+      subst (λ b. LogsFrom name options b r words coming was now answer) (sym e) (subst (λ ws. Prints (log_text name options (history_of r) ws) was now answer) (append-nil words) h)
+
+  -- ---- the commits of ranges
+
+  -- names of the commits that are logged, turned round where that is asked for, are those of held commits
+  pub turned_held : (ns : List Name) → AreCommits r ns → AreCommits r (turned options.reverse ns)
+  turned_held ns h = all_arranged (IsHeldAs kinds.Commit r) options.reverse None ns h
+
+  -- and what is printed of these is printed of the ranges
+  pub ranges_given : (ws : List RangeWord) (ns : List Name) (was now : Option Taken) (answer : Result (Unit {0}) ToldFault) → AreLogged options.max_count r (commits_logged name (history_of r) options.all ws) ns
+      → PrintsText (entries_text name options (map (commit_at r) (turned options.reverse ns))) was now answer → Prints (ranges_text name options (history_of r) ws) was now answer
+  ranges_given ws ns was now answer h k =
+      let commits = h.0.0 in
+      let text : List Commit → Bytes = λ cs. entries_text name options cs in
+      let same = map_arranged (commit_at r) options.reverse None ns ∙ ap (turned options.reverse) h.0.2 in
+      given_text (ranges_text name options (history_of r) ws) (text (arranged options commits)) was now answer
+      (ap (λ g. all_words (g >>= λ cs. Ok (text (arranged options cs)))) h.0.1)
+      (subst (λ cs. PrintsText (text cs) was now answer) same k)
+
+-- a word isn't a range, or one gives nothing
+pub ranges_refused : (told : Option Records) (name : Kind → Bytes → Bytes) (options : LogOptions) (ws : List RangeWord) (was : Option Taken) (word : ℕ) (fault : AskFault)
+    → RefusesWord {X = List Commit} told (λ r. commits_logged name (history_of r) options.all ws) word fault → IfSome told (λ r. Prints (ranges_text name options (history_of r) ws) was was (Err (refused_at word fault)))
+ranges_refused None name options ws was word fault h = tt
+ranges_refused (Some r) name options ws was word ask.OutOfMemory h = none_printed (ranges_text name options (history_of r) ws) was
+ranges_refused (Some r) name options ws was word ask.ReadFailed h = ([], nothing_in_front (ranges_text name options (history_of r) ws), took_nothing was)
+ranges_refused (Some r) name options ws was word ask.Damaged h = absurd (cc h.1)
+ranges_refused (Some r) name options ws was word (ask.Revision kind) h = (ap (λ g. all_words (g >>= λ cs. Ok (entries_text name options (arranged options cs)))) h, took_nothing was)

@@ -1,0 +1,55 @@
+use Rattle.std.proofs.Common.{Ok, refl, subst, sym}
+use Rattle.gx_model.specs.Records.HistoryOf.{history_of}
+use Rattle.gx_text.specs.Lent.{lent_texts}
+use Rattle.gx_print.specs.Stored.{list_text, refs_text, show_text}
+use Rattle.gx_told.specs.Answering.{IsAnswered}
+use Rattle.gx_told.specs.Logging.{LogsFrom}
+use Rattle.gx_told.specs.Printing.{Prints, PrintsText}
+use Rattle.gx_told.proofs.Prints.{given_text}
+use Rattle.gx_told.proofs.Tellings.{map_told}
+use Rattle.gx_told.proofs.serving.answer.Goals as goal
+
+pub returns-in-Show : goal.returns-in-Show
+returns-in-Show g c =
+    let told = g.O.Objects.told c.args.objects.now in
+    let name = g.O.Objects.name_of c.args.objects.now in
+    let coming = g.R.Source.coming c.args.source in
+    let was = g.W.Sink.taken c.args.sink.now in
+    let now = g.W.Sink.taken c.show.new.sink in
+    let answer = c.show.result in
+    map_told told (λ r. Prints (show_text name (history_of r) c.as_bytes.result.now) was now answer) (λ r. IsAnswered name c.args.line.now r coming was now answer)
+    (λ r h. subst (λ l. IsAnswered name l r coming was now answer) (sym c.in-Show.is) (subst (λ word. Prints (show_text name (history_of r) word) was now answer) c.as_bytes.ensures.value h)) c.show.ensures
+
+pub returns-in-Ls : goal.returns-in-Ls
+returns-in-Ls g c =
+    let told = g.O.Objects.told c.args.objects.now in
+    let name = g.O.Objects.name_of c.args.objects.now in
+    let coming = g.R.Source.coming c.args.source in
+    let was = g.W.Sink.taken c.args.sink.now in
+    let now = g.W.Sink.taken c.list.new.sink in
+    let answer = c.list.result in
+    map_told told (λ r. Prints (list_text name c.in-Ls.recursive (history_of r) c.as_bytes-in-Ls.result.now) was now answer) (λ r. IsAnswered name c.args.line.now r coming was now answer)
+    (λ r h. subst (λ l. IsAnswered name l r coming was now answer) (sym c.in-Ls.is) (subst (λ word. Prints (list_text name c.in-Ls.recursive (history_of r) word) was now answer) c.as_bytes-in-Ls.ensures.value h)) c.list.ensures
+
+pub returns-in-Refs : goal.returns-in-Refs
+returns-in-Refs g c =
+    let told = g.O.Objects.told c.args.objects.now in
+    let name = g.O.Objects.name_of c.args.objects.now in
+    let coming = g.R.Source.coming c.args.source in
+    let was = g.W.Sink.taken c.args.sink.now in
+    let now = g.W.Sink.taken c.print_refs.new.sink in
+    let answer = c.print_refs.result in
+    map_told told (λ r. PrintsText (refs_text r) was now answer) (λ r. IsAnswered name c.args.line.now r coming was now answer)
+    (λ r h. subst (λ l. IsAnswered name l r coming was now answer) (sym c.in-Refs.is) (given_text (Ok (refs_text r)) (refs_text r) was now answer refl h)) c.print_refs.ensures
+
+pub returns-in-Log : goal.returns-in-Log
+returns-in-Log g c =
+    let told = g.O.Objects.told c.args.objects.now in
+    let name = g.O.Objects.name_of c.args.objects.now in
+    let coming = g.R.Source.coming c.args.source in
+    let was = g.W.Sink.taken c.args.sink.now in
+    let now = g.W.Sink.taken c.log_with_lines.new.sink in
+    let answer = c.log_with_lines.result in
+    let o = c.in-Log.options in
+    map_told told (λ r. LogsFrom name o o.stdin r (lent_texts c.as_slice-in-Log.result.now) coming was now answer) (λ r. IsAnswered name c.args.line.now r coming was now answer)
+    (λ r h. subst (λ l. IsAnswered name l r coming was now answer) (sym c.in-Log.is) (subst (λ words. LogsFrom name o o.stdin r (lent_texts words) coming was now answer) c.as_slice-in-Log.ensures.value h)) c.log_with_lines.ensures

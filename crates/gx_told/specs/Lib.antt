@@ -1,0 +1,5 @@
+pub mod Faults
+pub mod Printing
+pub mod Walking
+pub mod Logging
+pub mod Answering

@@ -1,0 +1,61 @@
+-- What `log` prints of a store, also where its words come from a source. Source: git-log(1), and git-rev-list(1), `--stdin`.
+use Rattle.std.specs.Prelude.{◌≡◌, Bool, true, false, not, List, [], ◌∷◌, ◌++◌, Option, Some, None, Result, Ok, Err}
+use Rattle.std.specs.List.{flat_map}
+use Rattle.gx_model.specs.declared.objects.Kind.{Kind}
+use Rattle.gx_model.specs.Faults.{◌>>=◌}
+use Rattle.gx_model.specs.Histories.{History, Records}
+use Rattle.gx_model.specs.Records.HistoryOf.{history_of}
+use Rattle.gx_model.specs.Objects.{hex}
+use Rattle.gx_model.specs.Revisions.{RangeWord}
+use Rattle.gx_model.specs.Texts.{Bytes}
+use Rattle.gx_model.specs.Texts.Sinks.{Taken}
+use Rattle.gx_text.specs.Devices.{Coming}
+use Rattle.gx_stream.specs.Heard.{heard}
+use Rattle.gx_batch.specs.Lines.{lines_from}
+use Rattle.gx_batch.specs.declared.ending.LineEnding.TheVariants.{Lf}
+use Rattle.gx_object.specs.declared.name.Name.{Name}
+use Rattle.gx_line.specs.declared.command_line.LogFormat.{LogFormat}
+use Rattle.gx_line.specs.declared.command_line.LogFormat.TheVariants.{Names}
+use Rattle.gx_line.specs.declared.command_line.LogOptions.{LogOptions}
+use Rattle.gx_print.specs.Logs.{arranged, commits_logged, entries_text, log_text}
+use Rattle.gx_print.specs.Stored.{Printed, all_words}
+use Rattle.gx_told.specs.Printing.{Prints}
+use Rattle.gx_told.specs.declared.fault.ToldFault.{ToldFault}
+use Rattle.gx_told.specs.declared.fault.ToldFault.TheVariants.{OutOfMemory, ReadFailed}
+
+module _ (name : Kind → Bytes → Bytes) (options : LogOptions) where
+  -- what is printed of the commits that ranges list
+  abbrev pub ranges_text : History → List RangeWord → Printed
+  ranges_text h ws = all_words (commits_logged name h options.all ws >>= λ commits. Ok (entries_text name options (arranged options commits)))
+
+  -- What is printed where a source brings words, too, behind those that are given, and then it ends or fails. Where it fails,
+  -- nothing is.
+  abbrev pub LogsRead : Records → List Bytes → Bool → Option Taken → Option Taken → Result (Unit {0}) ToldFault → Type 0
+  LogsRead repository words fails was now (Err ReadFailed) = (fails ≡ true) × (now ≡ was)
+  LogsRead repository words fails was now (Err OutOfMemory) = Prints (log_text name options (history_of repository) words) was now (Err OutOfMemory)
+  LogsRead repository words fails was now answer = (fails ≡ false) × Prints (log_text name options (history_of repository) words) was now answer
+
+  -- What is printed of a repository, and where they are asked for the lines of a source are words, too: of one that tells nothing
+  -- those of some text.
+  abbrev pub LogsFrom : Bool → Records → List Bytes → Option Coming → Option Taken → Option Taken → Result (Unit {0}) ToldFault → Type 0
+  LogsFrom false repository words coming was now answer = Prints (log_text name options (history_of repository) words) was now answer
+  LogsFrom true repository words None was now answer = (c : Coming) × LogsRead repository (words ++ lines_from Lf c) c.fails was now answer
+  LogsFrom true repository words (Some c) was now answer = LogsRead repository (words ++ lines_from Lf (heard c)) (heard c).fails was now answer
+
+-- ---- names alone
+
+-- whether nothing but names is asked for
+abbrev pub is_of_names : LogFormat → Bool → Bool
+is_of_names Names parents = not parents
+is_of_names format parents = false
+
+abbrev pub are_names : LogOptions → Bool
+are_names options = is_of_names options.format options.parents
+
+-- the digits of a name in a line
+abbrev pub name_line : Bytes → Bytes
+name_line called = hex called ++ 10 ∷ []
+
+-- names, each in a line
+abbrev pub name_lines : List Name → Bytes
+name_lines names = flat_map (λ called. name_line called.bytes) names

@@ -1,0 +1,70 @@
+//! What a command line asks of a store, answered.
+
+ghost use Rattle.std.specs.Prelude.{◌≡◌};
+ghost use Rattle.gx_questions.specs.Answers.{IfTold};
+ghost use Rattle.gx_told.specs.Answering.{IsAnswered, is_told};
+
+use crate::ToldFault;
+use crate::log::log_with_lines;
+use crate::ls::list;
+use crate::refs::print_refs;
+use crate::rev_parse::print_names;
+use crate::show::show;
+use gx_line::Line;
+use gx_objects::Objects;
+use gx_print::texts_of;
+use gx_text::{Sink, Source};
+use std::alloc::Allocator;
+
+/// Whether a command line asks what [`answer`] answers: `show`, `ls`, `refs`, `rev-parse` and `log`.
+pub fn answers(line: &Line<'_>) -> bool
+    ensures { result ≡ is_told line.now }
+{
+    matches!(
+        line,
+        Line::Show { .. }
+            | Line::Ls { .. }
+            | Line::Refs { .. }
+            | Line::RevParse { .. }
+            | Line::Log { .. }
+    )
+}
+
+/// Answers what a command line asks of a store, which is asked for what it needs. Where it asks nothing of these, nothing is answered.
+///
+/// `Revision`: the first word that isn't one, or else the first that gives nothing; nothing went out. `Damaged`: what the store
+/// holds is no repository's. `StoreReadFailed`, `OutOfMemory`, `WriteFailed`: a front of the text went out. `ReadFailed`: the source
+/// of `log --stdin` failed, and nothing went out.
+/// Cost: that of `gx_questions::eval` for each word, and what is printed; of `ls` the trees that are listed, of `log` that of
+/// `gx_ranges::walk`. Memory: an object, and its text; of `ls -r` a path and the trees above it; of `log` the names.
+/// Source: git-cat-file(1), git-ls-tree(1), git-show-ref(1), git-rev-parse(1), git-log(1).
+pub fn answer<O: Objects, R: Source + Drop, W: Sink, A: Allocator + Copy>(
+    alloc: A,
+    objects: &O,
+    line: &Line<'_>,
+    source: R,
+    sink: &mut W,
+) -> Result<(), ToldFault>
+    ensures { IfTold (O.told objects.now) (λ r. IsAnswered (O.name_of objects.now) line.now r
+        (R.coming source) (W.taken sink.old) (W.taken sink.new)) result }
+{
+    match line {
+        Line::Show { file: _, revision } => show(alloc, objects, revision.as_bytes(), sink),
+        Line::Ls {
+            recursive,
+            file: _,
+            revision,
+        } => list(alloc, objects, *recursive, revision.as_bytes(), sink),
+        Line::Refs { file: _ } => print_refs(alloc, objects, sink),
+        Line::RevParse { file: _, revisions } => {
+            let words = texts_of(alloc, revisions.as_slice())?;
+            print_names(alloc, objects, words.as_slice(), sink)
+        }
+        Line::Log {
+            options,
+            file: _,
+            ranges,
+        } => log_with_lines(alloc, objects, *options, ranges.as_slice(), source, sink),
+        _ => Ok(()),
+    }
+}

@@ -183,7 +183,8 @@ fn store_is_written_in_the_form_that_was_loaded(rt: HostRuntime) -> Result<(), F
         let status = ginlarch_text(alloc, &mut store);
         assert!(rt; gives(alloc, &mut store, status, text, 0), "text");
     }
-    let status = ginlarch_load(alloc, &mut store, &growing[..100]);
+    let cut = growing.get(..100).unwrap_or(b"");
+    let status = ginlarch_load(alloc, &mut store, cut);
     assert!(rt;
         refuses(alloc, &mut store, status, b"Truncated"),
         "a head that is cut"

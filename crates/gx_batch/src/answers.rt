@@ -70,8 +70,8 @@ fn eval_line<N: Namer, A: Allocator + Copy>(
     }
 }
 
-/// What stands before the slash at the end of a line's path, which isn't a slash alone.
-fn directory_of(asked: &[u8]) -> Option<&[u8]>
+/// What stands before the slash at the end of a line's path, which isn't a slash alone: the line then asks for a tree.
+pub fn directory_of(asked: &[u8]) -> Option<&[u8]>
     ensures { borrowed result ≡ directory_of asked.now }
 {
     let (_, path) = cut(asked, b':')?;

@@ -58,8 +58,8 @@ impl<A: Allocator + Copy> Format<A> {
         Ok(Format { parts })
     }
 
-    /// Makes the line of an object of this name, kind and size.
-    pub(crate) fn make_line(
+    /// Makes the line of an object of this name, kind and size, in place of what the buffer has.
+    pub fn make_line(
         &self,
         name: &Name,
         kind: Kind,

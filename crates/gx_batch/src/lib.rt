@@ -14,10 +14,10 @@ mod lines;
 mod replies;
 
 pub use answerer::{Answerer, answer_lines};
-pub use answers::answer_revision;
+pub use answers::{answer_revision, directory_of};
 pub use batching::{Revisions, batch};
 pub use ending::LineEnding;
 pub use fault::{BatchFault, FormatFault};
 pub use format::Format;
-pub use lines::read_lines;
+pub use lines::{LineReader, read_lines};
 pub use replies::{make_line, put_behind, refuse};

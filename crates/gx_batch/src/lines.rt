@@ -19,7 +19,7 @@ use std::alloc::{AllocError, Allocator};
 /// A reader of lines. What came and isn't read yet stands in the piece, between `at` and `end`; at most `room` bytes may
 /// still come.
 #[derive(Drop)]
-pub(crate) struct LineReader<R: Source, A: Allocator> {
+pub struct LineReader<R: Source, A: Allocator> {
     source: R,
     piece: Vec<u8, A>,
     at: usize,
@@ -30,7 +30,7 @@ pub(crate) struct LineReader<R: Source, A: Allocator> {
 
 impl<R: Source + Drop, A: Allocator + Copy> LineReader<R, A> {
     /// A reader of all the lines of a source. Nothing is pulled yet. Memory: one piece.
-    pub(crate) fn new(alloc: A, source: R) -> Result<LineReader<R, A>, AllocError>
+    pub fn new(alloc: A, source: R) -> Result<LineReader<R, A>, AllocError>
         ensures sound { IfOk result IsSound }
         ensures seen { IfOk result
             (λ reader. shown_from R.coming reader ≡ option_map heard (R.coming source)) }
@@ -53,11 +53,7 @@ impl<R: Source + Drop, A: Allocator + Copy> LineReader<R, A> {
     /// `ReadFailed`: the source failed. `OutOfMemory`: what came has no room in the line; a failed read is never told so.
     ///
     /// Cost: the line's bytes. Memory: the longest line.
-    pub(crate) fn next(
-        &mut self,
-        ending: LineEnding,
-        line: &mut Vec<u8, A>,
-    ) -> Result<bool, BatchFault>
+    pub fn next(&mut self, ending: LineEnding, line: &mut Vec<u8, A>) -> Result<bool, BatchFault>
         requires { IsSound self.old }
         ensures sound { IsSound self.new }
         ensures reads { Reads ending

@@ -6,3 +6,6 @@ pub mod NamedLines
 pub mod LoggedLines
 pub mod WalkedLines
 pub mod CommitLines
+pub mod AnsweredLines
+pub mod AnsweredRevisions
+pub mod AnsweredCommands

@@ -2,6 +2,8 @@
 //! refs, names, and the commits of range words. The texts are those that `gx_print` has of a repository.
 #![tactic(auto)]
 
+mod archive;
+mod batches;
 mod fault;
 mod files;
 mod log;
@@ -13,5 +15,6 @@ mod serving;
 mod show;
 mod words;
 
+pub use batches::batch;
 pub use fault::ToldFault;
 pub use serving::{answer, answers};

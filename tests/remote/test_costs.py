@@ -1,7 +1,10 @@
-"""What a store as a remote of git costs: processor time beside git's own remotes, and programs."""
+"""What a store as a remote of git costs: processor time beside git's own remotes, programs, and
+reads.
+"""
 
 from __future__ import annotations
 
+import re
 import shutil
 from collections.abc import Iterator
 from contextlib import ExitStack
@@ -10,7 +13,9 @@ from pathlib import Path
 from subprocess import PIPE
 
 import pytest
+from programs import printed, run_program
 from remote_world import World, helper
+from store_files import needs_strace
 
 COMMIT = b"commit %s\nmark :%d\ncommitter A <a@x> %d +0000\ndata 2\nx\n"
 CHANGE = b"M 100644 inline file%d\ndata 2\n%d\n\n"
@@ -135,3 +140,40 @@ def test_modules_that_are_loaded(world: World) -> None:
     for words in (["push", "origin", "main"], ["fetch", "-q", "origin"]):
         done = world.run(*words, more={"PYTHONPROFILEIMPORTTIME": "1"})
         assert done.status == 0 and b"| tempfile\n" in done.err and b"ctypes" not in done.err
+
+
+# ---- reads
+
+READS = "read,readv,pread64,preadv,preadv2,mmap,sendfile,splice,copy_file_range"
+READ = re.compile(r"^\w*read\w*\(\d+<([^>]*)>.* = (\d+)$", re.M)
+
+
+def read_by(world: World, *words: str, where: str = "work") -> int:
+    """How many bytes of the store a command of git reads, with all that it runs."""
+    folder = world.folder / "traces"
+    folder.mkdir()
+    front = ["strace", "-ff", "-y", "-qq", "-s", "0", "-o", folder / "of", "-e", f"trace={READS}"]
+    place = {"cwd": world.folder / where, "env": world.environment}
+    printed(run_program([*front, "git", *words], timeout=300, **place), ["git", *words])
+    lines = [line for path in folder.iterdir() for line in path.read_text().splitlines()]
+    of_store = [line for line in lines if f"<{world.remote}>" in line]
+    sizes = [int(READ.match(line)[2]) for line in of_store]
+    shutil.rmtree(folder)
+    return sum(sizes)
+
+
+@needs_strace
+def test_reads_of_a_growing_store(world: World) -> None:
+    """A clone reads at most 1.1 times the bytes of a growing store with annotated tags. What brings
+    nothing new reads a twentieth at most, whether the tags are there or not."""
+    stream = b"blob\ndata 4000000\n%s\n" % bytes(4000000)
+    stream += line_of_commits(1000, repeat(b"refs/heads/main"))
+    stream += b"".join(TAG % (row, row) for row in range(1, 10))
+    world.store("init", "--growing")
+    world.store("import", stdin=stream)
+    size = world.remote.stat().st_size
+    assert read_by(world, "clone", "-q", world.url, "clone", where=".") <= 1.1 * size
+    world.git("clone", "-q", "--no-tags", world.url, "bare", where=".")
+    for where in ("clone", "bare"):
+        for words in (["fetch"], ["pull", "-q"], ["ls-remote"], ["remote", "show", "origin"]):
+            assert read_by(world, *words, where=where) <= size / 20, words

@@ -1,6 +1,7 @@
 pub mod Tellings
 pub mod Prints
 pub mod Pieces
+pub mod ArchivedWords
 pub mod ShownBodies
 pub mod NamedLines
 pub mod LoggedLines

@@ -10,6 +10,7 @@ use Rattle.gx_text.specs.Lent.{lent_texts}
 use Rattle.gx_line.specs.declared.command_line.Line.{Line}
 use Rattle.gx_line.specs.declared.command_line.Line.TheVariants as line
 use Rattle.gx_print.specs.Stored.{list_text, names_text, refs_text, show_text}
+use Rattle.gx_told.specs.Archiving.{tar_text}
 use Rattle.gx_told.specs.Logging.{LogsFrom}
 use Rattle.gx_told.specs.Printing.{Prints}
 use Rattle.gx_told.specs.declared.fault.ToldFault.{ToldFault}
@@ -18,6 +19,7 @@ use Rattle.gx_told.specs.declared.fault.ToldFault.{ToldFault}
 abbrev pub is_told : Line → Bool
 is_told (line.Show file word) = true
 is_told (line.Ls recursive file word) = true
+is_told (line.Archive prefix file word) = true
 is_told (line.Refs file) = true
 is_told (line.RevParse file words) = true
 is_told (line.Log options file words) = true
@@ -28,6 +30,7 @@ module _ (name : Kind → Bytes → Bytes) where
   abbrev pub IsAnswered : Line → Records → Option Coming → Option Taken → Option Taken → Result (Unit {0}) ToldFault → Type 0
   IsAnswered (line.Show file word) r coming was now answer = Prints (show_text name (history_of r) word.now) was now answer
   IsAnswered (line.Ls recursive file word) r coming was now answer = Prints (list_text name recursive (history_of r) word.now) was now answer
+  IsAnswered (line.Archive prefix file word) r coming was now answer = Prints (tar_text name prefix.now (history_of r) word.now) was now answer
   IsAnswered (line.Refs file) r coming was now answer = Prints (Ok (refs_text r)) was now answer
   IsAnswered (line.RevParse file words) r coming was now answer = Prints (names_text name (history_of r) (lent_texts words.items)) was now answer
   IsAnswered (line.Log options file words) r coming was now answer = LogsFrom name options options.stdin r (lent_texts words.items) coming was now answer

@@ -5,6 +5,7 @@ ghost use Rattle.gx_questions.specs.Answers.{IfTold};
 ghost use Rattle.gx_told.specs.Answering.{IsAnswered, is_told};
 
 use crate::ToldFault;
+use crate::archive::print_archive;
 use crate::log::log_with_lines;
 use crate::ls::list;
 use crate::refs::print_refs;
@@ -16,7 +17,7 @@ use gx_print::texts_of;
 use gx_text::{Sink, Source};
 use std::alloc::Allocator;
 
-/// Whether a command line asks what [`answer`] answers: `show`, `ls`, `refs`, `rev-parse` and `log`.
+/// Whether a command line asks what [`answer`] answers: `show`, `ls`, `archive`, `refs`, `rev-parse` and `log`.
 pub fn answers(line: &Line<'_>) -> bool
     ensures { result ≡ is_told line.now }
 {
@@ -24,6 +25,7 @@ pub fn answers(line: &Line<'_>) -> bool
         line,
         Line::Show { .. }
             | Line::Ls { .. }
+            | Line::Archive { .. }
             | Line::Refs { .. }
             | Line::RevParse { .. }
             | Line::Log { .. }
@@ -35,9 +37,10 @@ pub fn answers(line: &Line<'_>) -> bool
 /// `Revision`: the first word that isn't one, or else the first that gives nothing; nothing went out. `Damaged`: what the store
 /// holds is no repository's. `StoreReadFailed`, `OutOfMemory`, `WriteFailed`: a front of the text went out. `ReadFailed`: the source
 /// of `log --stdin` failed, and nothing went out.
-/// Cost: that of `gx_questions::eval` for each word, and what is printed; of `ls` the trees that are listed, of `log` that of
-/// `gx_ranges::walk`. Memory: an object, and its text; of `ls -r` a path and the trees above it; of `log` the names.
-/// Source: git-cat-file(1), git-ls-tree(1), git-show-ref(1), git-rev-parse(1), git-log(1).
+/// Cost: that of `gx_questions::eval` for each word, and what is printed; of `ls` the trees that are listed, of `archive` that of
+/// `gx_archive::archive_of_objects`, of `log` that of `gx_ranges::walk`. Memory: an object, and its text; of `ls -r` and `archive`
+/// a path and the trees above it; of `log` the names.
+/// Source: git-cat-file(1), git-ls-tree(1), git-archive(1), git-show-ref(1), git-rev-parse(1), git-log(1).
 pub fn answer<O: Objects, R: Source + Drop, W: Sink, A: Allocator + Copy>(
     alloc: A,
     objects: &O,
@@ -55,6 +58,11 @@ pub fn answer<O: Objects, R: Source + Drop, W: Sink, A: Allocator + Copy>(
             file: _,
             revision,
         } => list(alloc, objects, *recursive, revision.as_bytes(), sink),
+        Line::Archive {
+            prefix,
+            file: _,
+            revision,
+        } => print_archive(alloc, objects, prefix.as_bytes(), revision.as_bytes(), sink),
         Line::Refs { file: _ } => print_refs(alloc, objects, sink),
         Line::RevParse { file: _, revisions } => {
             let words = texts_of(alloc, revisions.as_slice())?;

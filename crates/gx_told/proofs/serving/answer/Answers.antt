@@ -3,6 +3,7 @@ use Rattle.gx_model.specs.Records.HistoryOf.{history_of}
 use Rattle.gx_text.specs.Lent.{lent_texts}
 use Rattle.gx_print.specs.Stored.{list_text, refs_text, show_text}
 use Rattle.gx_told.specs.Answering.{IsAnswered}
+use Rattle.gx_told.specs.Archiving.{tar_text}
 use Rattle.gx_told.specs.Logging.{LogsFrom}
 use Rattle.gx_told.specs.Printing.{Prints, PrintsText}
 use Rattle.gx_told.proofs.Prints.{given_text}
@@ -30,6 +31,20 @@ returns-in-Ls g c =
     let answer = c.list.result in
     map_told told (λ r. Prints (list_text name c.in-Ls.recursive (history_of r) c.as_bytes-in-Ls.result.now) was now answer) (λ r. IsAnswered name c.args.line.now r coming was now answer)
     (λ r h. subst (λ l. IsAnswered name l r coming was now answer) (sym c.in-Ls.is) (subst (λ word. Prints (list_text name c.in-Ls.recursive (history_of r) word) was now answer) c.as_bytes-in-Ls.ensures.value h)) c.list.ensures
+
+pub returns-in-Archive : goal.returns-in-Archive
+returns-in-Archive g c =
+    let told = g.O.Objects.told c.args.objects.now in
+    let name = g.O.Objects.name_of c.args.objects.now in
+    let coming = g.R.Source.coming c.args.source in
+    let was = g.W.Sink.taken c.args.sink.now in
+    let now = g.W.Sink.taken c.print_archive.new.sink in
+    let answer = c.print_archive.result in
+    map_told told (λ r. Prints (tar_text name c.as_bytes-in-Archive.result.now (history_of r) c.as_bytes-in-Archive-2.result.now) was now answer) (λ r. IsAnswered name c.args.line.now r coming was now answer)
+    (λ r h.
+    let behind = subst (λ prefix. Prints (tar_text name prefix (history_of r) c.as_bytes-in-Archive-2.result.now) was now answer) c.as_bytes-in-Archive.ensures.value h in
+    let asked = subst (λ word. Prints (tar_text name c.in-Archive.prefix.now (history_of r) word) was now answer) c.as_bytes-in-Archive-2.ensures.value behind in
+    subst (λ l. IsAnswered name l r coming was now answer) (sym c.in-Archive.is) asked) c.print_archive.ensures
 
 pub returns-in-Refs : goal.returns-in-Refs
 returns-in-Refs g c =

@@ -19,6 +19,7 @@ from test_looks import asked
 SHOWN = re.compile(rb"([0-9a-f]{40}) (blob|tree|commit|tag) (\d+)\n")
 DAMAGED = b"gx: store: Damaged\n"
 ASKED_OF_DAMAGED = [
+    ["archive", "STORE", "main"],
     ["batch", "STORE"],
     ["log", "STORE", "main"],
     ["ls", "-r", "STORE", "main"],

@@ -1,5 +1,5 @@
 -- What is shown, by its kind.
-use Rattle.std.proofs.Common.{◌≡◌, ◌≢◌, ◌∙◌, refl, sym, subst, Option, Result}
+use Rattle.std.proofs.Common.{◌≡◌, ◌≢◌, ◌∙◌, refl, sym, subst, Option, None, Some, Result}
 use Rattle.std.specs.Prelude.{IfSome}
 use Rattle.gx_model.specs.declared.objects.Kind.{Kind}
 use Rattle.gx_model.specs.declared.objects.Kind.TheVariants as kinds
@@ -12,6 +12,8 @@ use Rattle.gx_model.specs.Texts.{Bytes}
 use Rattle.gx_model.specs.Texts.Sinks.{Taken}
 use Rattle.gx_model.proofs.Records.HeldValues.{held_kind}
 use Rattle.gx_object.specs.declared.name.Name.{Name}
+use Rattle.gx_objects.specs.declared.objects.Object.{Object as Found}
+use Rattle.gx_questions.specs.Objects.{IsObjectAt}
 use Rattle.gx_rev.specs.Answers.{IsNamed, shown_by}
 use Rattle.gx_rev.specs.Objects.{IsHeld, IsHeldAs, value_at}
 use Rattle.gx_rev.specs.declared.shown.Shown.TheVariants.{Object}
@@ -42,3 +44,8 @@ module _ (name : Kind → Bytes → Bytes) (told : Option Records) (kind : Kind)
   body_shown was now answer not =
       both_told told (λ r. IsNamed name r (Object kind called)) (λ r. PrintsText (body_of name (value_at r called)) was now answer) (λ r. PrintsText (shown_text name (shown_by r (Object kind called))) was now answer)
       (λ r h k. subst (λ text. PrintsText text was now answer) (text_of_body name (value_at r called) (λ e. not (h.0 ∙ e))) k)
+
+-- an object of another kind is of no repository
+pub other_kind : (name : Kind → Bytes → Bytes) (told : Option Records) (kind : Kind) (called : Name) (found : Found) → IfSome told (λ r. IsNamed name r (Object kind called)) → IfSome told (λ r. IsObjectAt name called r found) → found.kind ≢ kind → told ≡ None
+other_kind name None kind called found named is not = refl
+other_kind name (Some r) kind called found named is not = absurd (not (is.kind ∙ sym named.0))

@@ -6,6 +6,7 @@ mod archive;
 mod batches;
 mod fault;
 mod files;
+mod held;
 mod log;
 mod ls;
 mod refs;

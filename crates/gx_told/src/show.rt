@@ -4,19 +4,21 @@ ghost use Rattle.gx_model.specs.Records.{body_of};
 ghost use Rattle.gx_model.specs.Records.HistoryOf.{history_of};
 ghost use Rattle.gx_model.specs.declared.objects.Kind.TheVariants as kinds;
 ghost use Rattle.gx_rev.specs.Answers.{IsNamed, shown_by};
-ghost use Rattle.gx_rev.specs.Objects.{IsHeld, IsHeldAs, files_at, value_at};
+ghost use Rattle.gx_rev.specs.Objects.{IsHeldAs, files_at, value_at};
+ghost use Rattle.gx_rev.specs.declared.shown.Shown.TheVariants.{Object};
 ghost use Rattle.gx_print.specs.Listings.{shown_text, tree_lines};
 ghost use Rattle.gx_print.specs.Stored.{show_text};
 ghost use Rattle.gx_questions.specs.Answers.{IfTold};
 ghost use Rattle.gx_told.specs.Printing.{Prints, PrintsText};
 
 use crate::ToldFault;
+use crate::held::body_as;
 use crate::sending::put_text;
 use crate::words::refused;
 use gx_object::{Kind, Name};
 use gx_objects::Objects;
 use gx_print::listing;
-use gx_questions::{body, entries, eval_text};
+use gx_questions::{entries, eval_text};
 use gx_rev::Shown;
 use gx_text::Sink;
 use std::alloc::Allocator;
@@ -59,26 +61,27 @@ fn print_shown<O: Objects, A: Allocator + Copy, W: Sink>(
     match shown {
         Shown::Object(kind, name) => match kind {
             Kind::Tree => print_entries(alloc, objects, room, &name, sink),
-            Kind::Blob | Kind::Commit | Kind::Tag => print_body(objects, room, &name, sink),
+            Kind::Blob | Kind::Commit | Kind::Tag => print_body(objects, room, kind, &name, sink),
         },
         Shown::Submodule(name) => put_text(sink, name.hex().as_slice()),
     }
 }
 
-/// Prints the body of a held object.
+/// Prints the body of a held object of this kind.
 fn print_body<O: Objects, A: Allocator + Copy, W: Sink>(
     objects: &O,
     room: &mut Vec<u8, A>,
+    kind: Kind,
     name: &Name,
     sink: &mut W,
 ) -> Result<(), ToldFault>
-    requires { IfTold (O.told objects.now) IsHeld name.now }
+    requires { IfTold (O.told objects.now) (IsNamed (O.name_of objects.now)) (Object kind name.now) }
     ensures { IfTold (O.told objects.now)
         (λ r. PrintsText (body_of (O.name_of objects.now) (value_at r name.now))
         (W.taken sink.old) (W.taken sink.new)) result }
 {
-    match body(objects, name, room) {
-        Ok(object) => put_text(sink, object.body),
+    match body_as(objects, room, kind, name) {
+        Ok(body) => put_text(sink, body),
         Err(fault) => Err(refused(1, fault)),
     }
 }

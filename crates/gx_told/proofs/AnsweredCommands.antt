@@ -1,5 +1,5 @@
 -- What is answered to a line that is a command.
-use Rattle.std.proofs.Common.{◌≡◌, ◌∙◌, ℕ, refl, sym, ap, subst, List, [], Option, Some, Result, Ok, Err}
+use Rattle.std.proofs.Common.{◌≡◌, ◌∙◌, ℕ, sym, ap, subst, List, [], Option, Some, Result, Ok, Err}
 use Rattle.gx_model.specs.declared.objects.Kind.{Kind}
 use Rattle.gx_model.specs.Histories.{Records}
 use Rattle.gx_model.specs.Objects.{line}
@@ -16,7 +16,7 @@ use Rattle.gx_rev.specs.declared.fault.RevFault.{RevFault}
 use Rattle.gx_told.specs.Batching.{SendsAnswer, answer_to, command_answer, having_taken}
 use Rattle.gx_told.specs.Printing.{Prints}
 use Rattle.gx_told.specs.declared.fault.ToldFault.{ToldFault}
-use Rattle.gx_told.specs.declared.fault.ToldFault.TheVariants.{Damaged, OutOfMemory, ReadFailed, Revision, StoreReadFailed, WriteFailed}
+use Rattle.gx_told.specs.declared.fault.ToldFault.TheVariants.{Revision}
 
 module _ (command : Bytes) (words : List Bytes) (given : Printed) (was now : Option Taken) (answer : Result (Unit {0}) ToldFault) where
   -- a text that was made in memory, behind its line

@@ -1,5 +1,5 @@
 -- The answers to lines that went out, and one that didn't.
-use Rattle.std.proofs.Common.{Option, Result, Ok, Err}
+use Rattle.std.proofs.Common.{Option, Ok, Err, true}
 use Rattle.std.specs.Option.{option_map}
 use Rattle.gx_model.specs.Texts.{Bytes}
 use Rattle.gx_model.specs.Texts.Sinks.{Taken}

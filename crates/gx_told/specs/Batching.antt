@@ -2,6 +2,7 @@
 -- Source: git-cat-file(1), "BATCH OUTPUT" and "--batch-command".
 use Rattle.std.specs.Prelude.{◌≡◌, Bool, false, true, if◌then◌else◌, List, [], ◌∷◌, ◌++◌, length, codes, Option, Result, Ok, Err}
 use Rattle.gx_model.specs.declared.objects.Kind.{Kind}
+use Rattle.gx_model.specs.declared.objects.Kind.TheVariants as kinds
 use Rattle.gx_model.specs.Histories.{Records}
 use Rattle.gx_model.specs.Objects.{line}
 use Rattle.gx_model.specs.Records.HistoryOf.{history_of}
@@ -22,6 +23,8 @@ use Rattle.gx_print.specs.Stored.{list_text, names_text, refs_text}
 use Rattle.gx_questions.specs.declared.fault.AskFault.{AskFault}
 use Rattle.gx_questions.specs.declared.fault.AskFault.TheVariants as ask
 use Rattle.gx_rev.specs.RevFaults.{fault_of}
+use Rattle.gx_rev.specs.declared.shown.Shown.{Shown}
+use Rattle.gx_rev.specs.declared.shown.Shown.TheVariants as shown
 use Rattle.gx_told.specs.Archiving.{tar_text}
 use Rattle.gx_told.specs.Faults.{refused_at}
 use Rattle.gx_told.specs.declared.fault.ToldFault.{ToldFault}
@@ -55,6 +58,11 @@ abbrev pub line_answer : (Kind → Bytes → Bytes) → BatchForm → List Part 
 line_answer name form.Bytes parts repository = batch_answer name false parts (history_of repository)
 line_answer name form.Check parts repository = batch_answer name true parts (history_of repository)
 line_answer name form.Commands parts repository = command_answer name parts repository
+
+-- whether what is shown is a tree
+abbrev pub is_shown_tree : Shown → Bool
+is_shown_tree (shown.Object kinds.Tree called) = true
+is_shown_tree _ = false
 
 -- the line of an object of this kind, name and body, and where it is asked for the body and an LF
 abbrev pub text_of_object : Bool → List Part → Kind → Bytes → Bytes → Bytes

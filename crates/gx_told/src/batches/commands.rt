@@ -94,9 +94,10 @@ fn answer_log<O: Objects, W: Sink, A: Allocator + Copy>(
         (W.taken sink.old) (W.taken sink.new)) result }
 {
     let words = words_in(alloc, rest)?;
+    let words = words.as_slice();
     let mut made = Growing::new(alloc);
-    let printed = log(alloc, objects, NO_OPTIONS, words.as_slice(), &mut made);
-    send_printed(b"log", words.as_slice(), printed, made, buffer, sink)
+    let printed = log(alloc, objects, NO_OPTIONS, words, &mut made);
+    send_printed(b"log", words, printed, made, buffer, sink)
 }
 
 /// Sends the names of what the revisions of a text give.
@@ -113,9 +114,10 @@ fn answer_names<O: Objects, W: Sink, A: Allocator + Copy>(
         (W.taken sink.old) (W.taken sink.new)) result }
 {
     let words = words_in(alloc, rest)?;
+    let words = words.as_slice();
     let mut made = Growing::new(alloc);
-    let printed = print_names(alloc, objects, words.as_slice(), &mut made);
-    send_printed(b"rev-parse", words.as_slice(), printed, made, buffer, sink)
+    let printed = print_names(alloc, objects, words, &mut made);
+    send_printed(b"rev-parse", words, printed, made, buffer, sink)
 }
 
 /// Sends what a command printed into memory of these words, behind its own line; or the first word that is refused, and why.

@@ -9,15 +9,16 @@ ghost use Rattle.gx_rev.specs.Answers.{IsNamed, shown_by};
 ghost use Rattle.gx_rev.specs.Objects.{value_at};
 ghost use Rattle.gx_rev.specs.RevFaults.{fault_of};
 ghost use Rattle.gx_rev.specs.declared.shown.Shown.TheVariants.{Object};
-ghost use Rattle.gx_told.specs.Batching.{SendsAnswer, SendsRefusal, text_of_object};
+ghost use Rattle.gx_told.specs.Batching.{SendsAnswer, SendsRefusal, is_shown_tree, text_of_object};
 
 use crate::ToldFault;
+use crate::held::body_as;
 use crate::sending::put_text;
 use crate::words::refused;
 use gx_batch::{Format, directory_of, put_behind, refuse};
 use gx_object::{Kind, Name};
 use gx_objects::Objects;
-use gx_questions::{AskFault, body, eval_text};
+use gx_questions::{AskFault, eval_text};
 use gx_rev::{RevFault, Shown};
 use gx_text::Sink;
 use std::alloc::Allocator;
@@ -114,10 +115,18 @@ fn eval_line<O: Objects, A: Allocator + Copy>(
     let Some(front) = directory_of(asked) else {
         return eval_text(alloc, objects, room, asked);
     };
-    match eval_text(alloc, objects, room, front)? {
-        Shown::Object(Kind::Tree, name) => Ok(Shown::Object(Kind::Tree, name)),
-        _ => Err(AskFault::Revision(RevFault::WrongKind)),
+    let shown = eval_text(alloc, objects, room, front)?;
+    if is_tree(shown) {
+        Ok(shown)
+    } else {
+        Err(AskFault::Revision(RevFault::WrongKind))
     }
+}
+
+fn is_tree(shown: Shown) -> bool
+    ensures { result ≡ is_shown_tree shown }
+{
+    matches!(shown, Shown::Object(Kind::Tree, _))
 }
 
 /// Why a line gives no object.
@@ -146,8 +155,8 @@ fn answer_object<O: Objects, W: Sink, A: Allocator + Copy>(
         (object_text (O.name_of objects.now) check format.now.parts.items (value_at r name.now))
         (W.taken sink.old) (W.taken sink.new)) result }
 {
-    match body(objects, name, room) {
-        Ok(object) => send_object(check, format, kind, name, object.body, buffer, sink),
+    match body_as(objects, room, kind, name) {
+        Ok(body) => send_object(check, format, kind, name, body, buffer, sink),
         Err(fault) => Err(refused(1, fault)),
     }
 }

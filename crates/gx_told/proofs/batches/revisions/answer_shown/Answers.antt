@@ -1,5 +1,4 @@
-use Rattle.std.proofs.Common.{Ok, subst}
-use Rattle.std.specs.Prelude.{IfSome}
+use Rattle.std.proofs.Common.{subst}
 use Rattle.gx_questions.specs.Answers.{IfTold}
 use Rattle.gx_rev.specs.Answers.{IsNamed}
 use Rattle.gx_told.proofs.batches.revisions.answer_shown.Goals as goal

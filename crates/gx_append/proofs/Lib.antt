@@ -1,0 +1,6 @@
+mod Moments
+mod Pieces
+mod Readings
+mod Shown
+mod Staging
+mod Steps

@@ -227,12 +227,14 @@ ASKED = {
 }
 
 
-def reads(gx: Program, store: Path, words: list[str]) -> tuple[int, int]:
+def reads(
+    gx: Program, store: Path, words: list[str], stdin: bytes = b""
+) -> tuple[int, int]:
     """How often a question reads its store, and how many bytes."""
     trace = store.with_suffix(".trace")
     front: list[Word] = ["strace", "-f", "-y", "-qq", "-o", trace, "-e", "trace=%desc"]
     command = [store if word == "STORE" else word for word in words]
-    done = run_program([*front, gx.path, *command])
+    done = run_program([*front, gx.path, *command], stdin)
     assert done.status in (0, 1), done
     found = [line[2] for line in READ.finditer(trace.read_text()) if line[1] == str(store)]
     assert found
@@ -308,6 +310,46 @@ def test_failing(gx: Program, tmp_path: Path, change: str) -> None:
     assert done.err.decode() == line + cause.replace("FILE", str(store))
     assert done.status == (1 if line else 0)
     assert done.out == (b"" if line else b"version 1\n")
+
+
+ANSWERED = {
+    **{name: (words, b"") for name, words in ASKED.items()},
+    "files": (["ls", "-r", "STORE", "main"], b""),
+    "meetings": (["log", "STORE", "main~2...main~5"], b""),
+    "archive": (["archive", "STORE", "main"], b""),
+    "batch": (["batch", "STORE"], b"main\nmain:dir\nnone\nmain~7:dir/file3\n"),
+    "check": (["batch", "--check", "STORE"], b"main\nmain:dir\nnone\nmain~7:dir/file3\n"),
+    "command": (["batch", "--command", "STORE"], b"refs\nlog -n 2 main\narchive main~299\nls main\n"),
+}
+# a file that seems to have no first line is read whole
+READ_FAULTS = {
+    b"gx: read failed\n",
+    b"gx: store: Damaged\n",
+    b"gx: store: Truncated\n",
+}
+
+
+@needs_strace
+@pytest.mark.parametrize("question", ANSWERED)
+def test_each_failing(
+    gx: Program, new_store: Callable[..., Path], randoms: random.Random, question: str
+) -> None:
+    """Whichever read of a question fails or finds the end, the beginning of the answer was printed,
+    and a line tells the fault."""
+    store = grown(gx, new_store(name="plain").parent, new_store(long_stream(300)).read_bytes())
+    words, stdin = ANSWERED[question]
+    whole = asked(gx, store, words, stdin)
+    count = reads(gx, store, words, stdin)[0]
+    command = [store if word == "STORE" else word for word in words]
+    for number in sorted(randoms.sample(range(1, count + 1), min(count, 6))):
+        for fault in ("error=EIO", "retval=0"):
+            front: list[Word] = ["strace", "-f", "-qq", "-o", os.devnull, "-P", store]
+            front += ["-e", "trace=read,pread64", "-e", f"inject=read,pread64:{fault}:when={number}"]
+            done = run_program([*front, gx.path, *command], stdin, env=gx.environment)
+            counted["reads that fail"] += 1
+            if done != whole:
+                assert done.status == 1 and done.err in READ_FAULTS, f"{fault} {number}: {done}"
+                assert whole.out.startswith(done.out), f"{fault} {number}"
 
 
 def test_odd_files(gx: Program, tmp_path: Path) -> None:

@@ -1,5 +1,6 @@
-"""Growing stores that are damaged: whatever a file holds, a question to it ends, shows no body of
-another name, and answers as the repository that stands there, or that it is damaged.
+"""Growing stores that are damaged: whatever a file holds, `gx verify` tells what another reader
+does, and a question ends, shows no body of another name, and answers as the repository that stands
+there, or that it is damaged.
 """
 
 from __future__ import annotations
@@ -7,10 +8,13 @@ from __future__ import annotations
 import hashlib
 import random
 import re
+from collections.abc import Iterator
+from itertools import islice
 from pathlib import Path
 
 import pytest
 
+from growing_reading import verdict
 from growing_texts import GrowingText, Record
 from programs import Program, counted
 from test_growing import COUNT, damaged, history, mended
@@ -88,7 +92,9 @@ def try_text(gx: Program, store: Path, text: bytes, whole: bytes, randoms: rando
     lines = lines_for(whole)
     try_shows(gx, store, randoms, whole)
     plain = store.with_suffix(".plain")
-    is_whole = gx("verify", store, timeout=10).status == 0
+    verified = gx("verify", store, timeout=10)
+    assert (verified.out + verified.err).decode() == verdict(text)
+    is_whole = verified.status == 0
     if is_whole:
         gx.prints("init", plain)
         gx.prints("import", plain, stdin=gx.prints("export", store))
@@ -133,14 +139,20 @@ def test_each_byte(gx: Program, tmp_path: Path, randoms: random.Random) -> None:
 
 def try_draws(gx: Program, store: Path, randoms: random.Random, texts: int) -> None:
     """Asks so many texts of several segments with parts changed, cut, doubled or swapped."""
-    for _ in range(texts):
+    for whole, text in islice(draws(randoms), texts):
+        try_text(gx, store, text, whole, randoms)
+        counted["damaged texts that are asked"] += 1
+
+
+def draws(randoms: random.Random) -> Iterator[tuple[bytes, bytes]]:
+    """Texts of several segments, and what comes of each by damage that leaves the first line."""
+    while True:
         whole = several_runs(randoms)
         text = damaged(whole, randoms)
         if randoms.random() < 0.3 and len(text) > 12 and COUNT.search(text):
             text = damaged(text, randoms)
         if text.startswith(b"gxstore 3\n"):
-            text = mended(text) if randoms.random() < 0.6 else text
-            try_text(gx, store, text, whole, randoms)
+            yield whole, mended(text) if randoms.random() < 0.6 else text
 
 
 def test_damaged(gx: Program, tmp_path: Path, randoms: random.Random) -> None:

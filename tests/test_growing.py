@@ -9,6 +9,7 @@ import os
 import random
 import re
 import subprocess
+from itertools import islice
 from pathlib import Path
 
 import pytest
@@ -276,10 +277,9 @@ def draw(randoms: random.Random) -> bytes:
 
 def try_damaged(gx: Program, store: Path, randoms: random.Random, texts: int) -> None:
     """Holds the verdict on each of so many damaged texts to that of another reader."""
-    for number in range(texts):
-        text = draw(randoms)
-        if not text.startswith(b"gxstore 3\n"):
-            continue
+    drawn = iter(lambda: draw(randoms), None)
+    growing = filter(lambda text: text.startswith(b"gxstore 3\n"), drawn)
+    for number, text in enumerate(islice(growing, texts)):
         store.write_bytes(text)
         done = gx("verify", store)
         assert (done.out + done.err).decode() == verdict(text), f"text {number}"

@@ -8,13 +8,13 @@ use crate::stores::host::Host;
 use crate::streams::devices::{Noted, flushed};
 use file_at::FileAt;
 use gx_at::ReadAt;
-use gx_cli::{CliFault, Line};
+use gx_cli::{BatchForm, CliFault, Line, ending_of, read_format};
 use gx_look::Look;
 use gx_object::Sha1Namer;
 use gx_objects::LookFault;
 use gx_place::{FileKind, System};
 use gx_text::{FromRead, IntoWrite};
-use gx_told::{answer, answers};
+use gx_told::{answer, answers, batch};
 use gx_versions::{StoreForm, form_of};
 use std::alloc::Global;
 use std::io::{self, BufWriter};
@@ -31,7 +31,7 @@ pub(crate) fn growing_file<'a>(
     line: &Line<'_>,
     file: &'a str,
 ) -> Result<Option<FileAt<'a>>, CliFault> {
-    if answers(line) {
+    if answers(line) || matches!(line, Line::Batch { .. }) {
         run.want_read(open_growing(run, file))
     } else {
         Ok(None)
@@ -79,8 +79,43 @@ fn is_damaged<T>(look: &Result<T, LookFault>) -> bool {
     matches!(look, Err(LookFault::Damaged))
 }
 
+/// Answers a question to a growing store file that is open.
+pub(crate) fn answer_looked<'a>(
+    run: &'a Run<'a>,
+    line: &Line<'_>,
+    file: &'a str,
+    opened: FileAt<'a>,
+) -> Result<(), RunFault> {
+    match line {
+        Line::Batch {
+            form,
+            format,
+            nul,
+            file: _,
+        } => batch_looked(run, *form, *format, *nul, file, opened),
+        _ => print_looked(run, line, file, opened),
+    }
+}
+
+/// Answers each line of standard input. The format is read first, and each answer goes out before the next line is read.
+fn batch_looked<'a>(
+    run: &'a Run<'a>,
+    form: BatchForm,
+    format: Option<&str>,
+    nul: bool,
+    file: &'a str,
+    opened: FileAt<'a>,
+) -> Result<(), RunFault> {
+    let alloc = run.rt.alloc();
+    let format = read_format(alloc, format)?;
+    let look = look_into(run, file, opened)?;
+    let source = FromRead::new(Noted::input(run));
+    let sink = &mut IntoWrite::new(Noted::output(run));
+    Ok(batch(alloc, &look, form, &format, ending_of(nul), source, sink)?)
+}
+
 /// Prints what a question tells of a growing store file that is open. It goes out through a buffer.
-pub(crate) fn print_looked<'a>(
+fn print_looked<'a>(
     run: &'a Run<'a>,
     line: &Line<'_>,
     file: &'a str,

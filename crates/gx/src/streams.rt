@@ -8,7 +8,7 @@ pub(crate) mod traced;
 mod trail;
 
 use crate::fault::RunFault;
-use crate::looks::{growing_file, print_looked};
+use crate::looks::{answer_looked, growing_file};
 use crate::run::Run;
 use crate::stores::files::{open_text, read_store};
 use devices::{Noted, flushed};
@@ -86,6 +86,19 @@ pub(crate) fn answer_input(
     Ok(serve_line(run, line, store, Noted::output(run), state)?)
 }
 
+/// Answers each line of standard input over a store.
+pub(crate) fn batch(
+    run: &Run<'_>,
+    line: &Line<'_>,
+    file: &str,
+    state: RandomState,
+) -> Result<(), RunFault> {
+    if let Some(opened) = growing_file(run, line, file)? {
+        return answer_looked(run, line, file, opened);
+    }
+    answer_input(run, line, Some(file), state)
+}
+
 /// Prints what a command tells of a store.
 pub(crate) fn print(
     run: &Run<'_>,
@@ -94,7 +107,7 @@ pub(crate) fn print(
     state: RandomState,
 ) -> Result<(), RunFault> {
     if let Some(opened) = growing_file(run, line, file)? {
-        return print_looked(run, line, file, opened);
+        return answer_looked(run, line, file, opened);
     }
     let store = read_store(run, file)?;
     Ok(print_to(run, line, store, Noted::output(run), state)?)

@@ -3,7 +3,7 @@
 use crate::fault::RunFault;
 use crate::run::Run;
 use crate::stores::{collect, drop_refs, grow, import, init, push, put, set_ref};
-use crate::streams::{Trial, adapt, answer_input, export, print, try_stream, verify};
+use crate::streams::{Trial, adapt, answer_input, batch, export, print, try_stream, verify};
 use gx_cli::{Features, Line};
 use gx_versions::StoreForm;
 use std::hash::RandomState;
@@ -162,7 +162,7 @@ fn answer(run: &Run<'_>, line: &Line<'_>, state: RandomState) -> Result<(), RunF
             Ok(try_stream(run, Trial::Fault, features(done, force), state)?)
         }
         Line::Verify { file } => Ok(verify(run, file, state)?),
-        Line::Batch { file, .. } => answer_input(run, line, Some(*file), state),
+        Line::Batch { file, .. } => batch(run, line, file, state),
         Line::Export { file, .. } | Line::ExportRange { file, .. } => {
             Ok(export(run, line, file, state)?)
         }

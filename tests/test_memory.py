@@ -8,7 +8,9 @@ from pathlib import Path
 
 import pytest
 
+from growing_texts import GrowingText, Record
 from programs import Program, printed, run_program
+from store_files import COMMIT, COMMITTED, named
 
 SIZE = 40 << 20
 ROOM = int(1.35 * SIZE) + (16 << 20)
@@ -28,6 +30,37 @@ def large(new_store) -> Path:
 def test_next_text_goes_out_as_it_is_made(gx: Program, large: Path, words: str) -> None:
     given = [large if word == "FILE" else word for word in words.split()]
     gx.prints(*given, preexec_fn=lambda: resource.setrlimit(resource.RLIMIT_AS, (ROOM, ROOM)))
+
+
+LITTLE = 10 << 20
+QUESTIONS = {
+    "refs FILE": b"",
+    "rev-parse FILE main^{tree}": b"",
+    "show FILE main:test.txt": b"",
+    "ls -r FILE main": b"",
+    "log --format=raw FILE main": b"",
+    "archive FILE main": b"",
+    "batch FILE": b"main\nmain:test.txt\nnone\n",
+    "batch --check FILE": b"main\nmain:test.txt\nnone\n",
+    "batch --command FILE": b"refs\narchive main\nlog main\nls -r main\n",
+}
+
+
+@pytest.mark.parametrize("words", QUESTIONS)
+def test_question_holds_what_it_shows(gx: Program, tmp_path: Path, words: str) -> None:
+    """A question to a growing store has no room for an object that it doesn't ask for."""
+    objects = [*COMMITTED, ("blob", bytes(12 << 20))]
+    records = [
+        Record(kind.encode(), bytes.fromhex(named(kind, body)), body) for kind, body in objects
+    ]
+    growing = GrowingText()
+    growing.append(records, {b"refs/heads/main": bytes.fromhex(COMMIT)})
+    store = tmp_path / "store"
+    store.write_bytes(growing.text())
+    given = [store if word == "FILE" else word for word in words.split()]
+    limit = (LITTLE, LITTLE)
+    how = {"preexec_fn": lambda: resource.setrlimit(resource.RLIMIT_AS, limit)}
+    gx.prints(*given, stdin=QUESTIONS[words], **how)
 
 
 BLOCK = 96 << 20

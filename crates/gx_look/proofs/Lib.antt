@@ -1,3 +1,4 @@
+mod CheckedRefs
 mod FoundTogether
 mod HeadPlaces
 mod HeadingsInTexts

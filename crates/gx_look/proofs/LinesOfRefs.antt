@@ -28,7 +28,7 @@ pub record AreLeft (name rest : Bytes) (refs : List (Bytes × Bytes)) : Type 0 w
 -- ---- the line in front
 
 -- the last line
-last_line : cut_at 10 (refs_text []) ≡ Some (codes "end", [])
+pub last_line : cut_at 10 (refs_text []) ≡ Some (codes "end", [])
 last_line = if_there fault.Truncated (cut_at 10 (refs_text [])) (codes "end", []) (line_read (codes "end") [] refl)
 
 -- it has no space
@@ -38,13 +38,13 @@ no_space = refl
 
 module _ (rest : Bytes) (x : Bytes × Bytes) (xs : List (Bytes × Bytes)) (lines : AreLines rest (x ∷ xs)) where
   -- a ref's line stands in front
-  one_line : cut_at 10 rest ≡ Some (hex x.1 ++ 32 ∷ x.0, refs_text xs)
+  pub one_line : cut_at 10 rest ≡ Some (hex x.1 ++ 32 ∷ x.0, refs_text xs)
   one_line =
       ap (cut_at 10) (lines.spelled ∙ append_assoc (stored_ref x) (flat_map stored_ref xs) (codes "end" ++ 10 ∷ []))
       ∙ if_there fault.Truncated (cut_at 10 (stored_ref x ++ refs_text xs)) (hex x.1 ++ 32 ∷ x.0, refs_text xs) (word_line_read (hex x.1) x.0 (refs_text xs) (hex_line x.1) (passes _ lines.names.0))
 
   -- it has digits and a name
-  one_cut : cut_at 32 (hex x.1 ++ 32 ∷ x.0) ≡ Some (hex x.1, x.0)
+  pub one_cut : cut_at 32 (hex x.1 ++ 32 ∷ x.0) ≡ Some (hex x.1, x.0)
   one_cut = cut_after 32 (hex x.1) x.0 (link_no_space (hex x.1) (is_true _ (hex_text x.1 (passes _ lines.targets.0))))
 
   -- the digits are read

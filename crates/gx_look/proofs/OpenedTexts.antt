@@ -1,22 +1,25 @@
 -- A growing text that was opened: its slot, its tail, its runs and its records.
 use Rattle.std.proofs.Common.{◌≡◌, ℕ, ◌+◌, ◌*◌, ◌-◌, ◌≤◌, List, [], ◌∷◌, ◌++◌, length, take, Ok, sym, ap, ◌∙◌, subst, arith, append-nil}
+use Rattle.std.specs.Prelude.{T, IsTrue}
 use Rattle.std.specs.List.{AllByRecursion, AllZip, flat_map, list_all}
 use Rattle.std.specs.List.Sorted.{IsPermutation}
 use Rattle.std.proofs.lemmas.List.{length-take}
 use Rattle.sha2.specs.Sha256.{sha256}
 use Rattle.gx_model.specs.declared.objects.Kind.{Kind}
 use Rattle.gx_model.specs.Texts.{Bytes, same_bytes}
-use Rattle.gx_model.specs.Objects.{IsNamer}
+use Rattle.gx_model.specs.Objects.{IsNamer, is_name}
 use Rattle.gx_model.specs.Histories.{Record, Records}
 use Rattle.gx_model.specs.Records.Sound.{IsSound}
 use Rattle.gx_model.specs.Stores.StoreReading.{Stored}
-use Rattle.gx_model.proofs.Texts.PathTests.{same_is}
+use Rattle.gx_model.proofs.Texts.PathTests.{is_true, same_is}
+use Rattle.gx_model.proofs.Stores.StoredRefs.{targets_name}
 use Rattle.gx_growing.specs.GrowingText.{AreSegments, IsRun, IsSegment, Run, Segment, Slot, StandsIn, digests_length, head_text, live_rows, placed_rows, segment_text, sorted_rows, tail_text}
 use Rattle.gx_growing.specs.GrowingReading.{Front, front_of, grown_of, is_standing, same_rows}
 use Rattle.gx_growing.proofs.ReadFronts.{IsFront, front_is, head_long}
 use Rattle.gx_growing.proofs.RowTests.{rows_are, standing_are}
 use Rattle.gx_growing.proofs.RowsTell.{grown_parts, last_tail, same_sorted, three, up_to_end}
 use Rattle.gx_growing.proofs.RowsTellPlaces.{Tells, segments_stand}
+use Rattle.gx_objects.specs.Answers.{AreRefs}
 use Rattle.gx_look.specs.Tails.{IsLive, LeadsTo}
 
 -- the last of segments is one
@@ -37,6 +40,18 @@ all_live text ends (run ∷ runs) l told stand =
 -- one front is read of a text
 pub one_front : (x y : Slot × Front) → ◌≡◌ {A = Stored (Slot × Front)} (Ok x) (Ok y) → x ≡ y
 one_front x y e = cc
+
+-- the refs of a sound repository
+sound_refs : (name : Kind → Bytes → Bytes) → IsNamer name → (r : Records) → IsSound name r → AreRefs r.refs
+sound_refs name namer r sound = record {
+  sorted = sound.sorted;
+  names = sound.ref_names;
+  objects = named r.refs (targets_name name namer r.records sound.distinct sound.named r.refs sound.held);
+}
+  where
+    named : (refs : List (Bytes × Bytes)) → AllByRecursion (λ ref. T (is_name ref.1)) refs → AllByRecursion (λ ref. IsTrue (is_name ref.1)) refs
+    named [] h = tt
+    named (x ∷ xs) h = (is_true _ h.0, named xs h.1)
 
 -- a growing text that was opened: its slot leads to its last tail, and the rows of its runs are those of its records
 pub record IsTold (name : Kind → Bytes → Bytes) (text : Bytes) (r : Records) (x : Slot × Front) : Type 0 where
@@ -81,6 +96,7 @@ is_told name namer text r e =
           begins = before x.0.ends (length x.1.tail) x.0.tail f.begun;
           spelled = last_tail name sha256 text x f ∙ tail;
           digest = same_is x.0.digest (sha256 x.1.tail) parts.0 ∙ ap sha256 tail;
+          named = subst AreRefs (sym (ap (λ (z : Records). z.refs) g.3)) (sound_refs name namer r (subst (IsSound name) g.3 f.sound));
           live = all_live front x.0.ends x.1.runs size (subst (AllByRecursion IsRun) (sym f.runs) segment.runs) runs;
         };
         stand = subst (λ (z : Records). AllZip (Tells front) x.1.rows z.records) g.3 stand;

@@ -1,29 +1,25 @@
 -- What an opened growing text tells of the repository that it is of.
 use Rattle.std.proofs.Common.{◌≡◌, ℕ, zero, suc, ◌+◌, ◌*◌, ◌-◌, ◌<◌, ◌≤◌, ◌^◌, List, [], ◌∷◌, ◌++◌, length, map, take, drop, Option, Some, None, Ok, Err, refl, sym, ap, ◌∙◌, subst, arith, append-nil}
 use Rattle.std.specs.Prelude.{T, IsTrue, IfSome}
-use Rattle.std.specs.Bool.{passes}
 use Rattle.std.specs.Option.{option_map}
 use Rattle.std.specs.Result.{result_ok}
 use Rattle.std.specs.Int.{w64, from_be_bytes}
-use Rattle.std.specs.List.{AllByRecursion, Contains, list_all}
+use Rattle.std.specs.List.{AllByRecursion, Contains}
 use Rattle.std.specs.FinMap.Entries.{is_sorted}
 use Rattle.std.proofs.lemmas.List.{drop-append-le, length-drop, length-take, take-append-drop, take-append-le}
 use Rattle.sha2.specs.Sha256.{sha256}
 use Rattle.gx_model.specs.declared.objects.Kind.{Kind}
 use Rattle.gx_model.specs.declared.store_versions.Version.TheVariants.{Two}
-use Rattle.gx_model.specs.Texts.{Bytes, byte_cmp, is_line}
-use Rattle.gx_model.specs.Texts.RefNames.{is_ref_name}
+use Rattle.gx_model.specs.Texts.{Bytes, byte_cmp}
 use Rattle.gx_model.specs.Objects.{IsNamer, is_name}
 use Rattle.gx_model.specs.Histories.{Record, Records, object_of}
 use Rattle.gx_model.specs.Records.Growth.{record_named}
 use Rattle.gx_model.specs.Records.Sound.{IsSound}
 use Rattle.gx_model.specs.Stores.StoreText.{stored_record}
 use Rattle.gx_model.proofs.Texts.Cuts.{some_is}
-use Rattle.gx_model.proofs.Texts.LineTexts.{ref_is_line}
-use Rattle.gx_model.proofs.Texts.PathTests.{first, is_true, second}
+use Rattle.gx_model.proofs.Texts.PathTests.{is_true}
 use Rattle.gx_model.proofs.ObjectTexts.TreePaths.{name_is_name}
 use Rattle.gx_model.proofs.Records.TakenRecords.{all_named}
-use Rattle.gx_model.proofs.Stores.StoredRefs.{targets_name}
 use Rattle.gx_growing.specs.GrowingText.{Row, Run, Slot, StandsIn, digests_length, live_rows, part, rows_in, run_rows}
 use Rattle.gx_growing.specs.GrowingReading.{Front, Grown, grown_of}
 use Rattle.gx_growing.specs.GrowingLaws.{StandsAt}
@@ -39,6 +35,7 @@ use Rattle.gx_look.specs.Records.{IsRecordAt, TellsRecord, body_in}
 use Rattle.gx_look.specs.Refs.{AreLines}
 use Rattle.gx_look.specs.Rows.{AreSorted, PlacesIn}
 use Rattle.gx_look.specs.Tails.{HoldsTail}
+use Rattle.gx_look.proofs.CheckedRefs.{lines_of}
 use Rattle.gx_look.proofs.OpenedTexts.{IsTold, is_told}
 use Rattle.gx_look.proofs.TellingRows.{none_there, stands_there}
 
@@ -191,19 +188,7 @@ module _ (name : Kind → Bytes → Bytes) (namer : IsNamer name) where
     lines_tell = each_told told (λ r. AreLines (drop tail.refs tail.text.items) r.refs) (λ text e r g.
         let s = seen text e r g in
         let t = s.told_is in
-        subst (AreLines (drop tail.refs tail.text.items)) t.refs (record {
-          spelled = s.tail_is.1;
-          names = names_line s.x.1.refs (passes _ (subst (λ z. IsTrue (list_all (λ ref. is_ref_name ref.0) z)) (sym t.refs) t.sound.ref_names));
-          targets = targets_true s.x.1.refs (subst (λ z. AllByRecursion (λ ref. T (is_name ref.1)) z) (sym t.refs) (targets_name name namer r.records t.sound.distinct t.sound.named r.refs t.sound.held));
-        }))
-      where
-        names_line : (refs : List (Bytes × Bytes)) → T (list_all (λ ref. is_ref_name ref.0) refs) → AllByRecursion (λ ref. IsTrue (is_line ref.0)) refs
-        names_line [] h = tt
-        names_line (x ∷ xs) h = (ref_is_line x.0 (is_true _ (first (is_ref_name x.0) (list_all (λ ref. is_ref_name ref.0) xs) h)), names_line xs (second (is_ref_name x.0) (list_all (λ ref. is_ref_name ref.0) xs) h))
-
-        targets_true : (refs : List (Bytes × Bytes)) → AllByRecursion (λ ref. T (is_name ref.1)) refs → AllByRecursion (λ ref. IsTrue (is_name ref.1)) refs
-        targets_true [] h = tt
-        targets_true (x ∷ xs) h = (is_true _ h.0, targets_true xs h.1)
+        subst (AreLines (drop tail.refs tail.text.items)) t.refs (lines_of (drop tail.refs tail.text.items) s.x.1.refs s.tail_is.1 t.leads.named))
 
 -- ---- answers
 

@@ -1,16 +1,34 @@
 -- Refs that are found in their lines.
-use Rattle.std.specs.Prelude.{◌≡◌, List, Option, Some, IsTrue}
+use Rattle.std.specs.Prelude.{◌≡◌, ℕ, true, Bool, List, length, Option, Some, IsTrue}
 use Rattle.std.specs.Borrow.{Bor}
 use Rattle.std.specs.List.{AllByRecursion, flat_map}
 use Rattle.std.specs.Map.{lookup}
-use Rattle.std.specs.Option.{option_map}
-use Rattle.gx_model.specs.Texts.{Bytes, is_line, same_bytes}
+use Rattle.std.specs.Option.{option_and_then, option_map}
+use Rattle.gx_model.specs.Texts.{Bytes, cut_at, is_line, same_bytes}
 use Rattle.gx_model.specs.Objects.{is_name}
 use Rattle.gx_model.specs.Records.Lookups.{first_named}
+use Rattle.gx_model.specs.Stores.StoreReading.{ref_line}
 use Rattle.gx_model.specs.Stores.StoreText.{stored_ref}
 use Rattle.gx_object.specs.Parts.{bytes_if}
 use Rattle.gx_object.specs.declared.name.Name.{Name}
+use Rattle.gx_objects.specs.Answers.{AreRefs}
 use Rattle.gx_look.specs.Tails.{refs_text}
+
+-- ---- that they are lines of refs
+
+-- the ref in the first line, and what follows the line
+abbrev pub first_ref : Bytes → Option ((Bytes × Bytes) × Bytes)
+first_ref text = option_and_then (λ l. option_map (λ ref. (ref, l.1)) (ref_line l.0)) (cut_at 10 text)
+
+-- a ref's name, and what follows its line
+abbrev pub name_and_rest : (Bytes × Bytes) × Bytes → Bytes × Bytes
+name_and_rest first = (first.0.0, first.1)
+
+-- lines of so many refs, with the last line, are passed
+abbrev pub PassesRefs : ℕ → Bytes → Bool → Type 0
+PassesRefs count text is_passed = (refs : List (Bytes × Bytes)) → text ≡ refs_text refs → AreRefs refs → length refs ≡ count → is_passed ≡ true
+
+-- ---- which ref has a name
 
 -- lines of refs: no name breaks one, and what a ref holds is a name
 pub record AreLines (lines : Bytes) (refs : List (Bytes × Bytes)) : Type 0 where

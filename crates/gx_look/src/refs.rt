@@ -1,12 +1,68 @@
-//! Refs, found in the lines of a tail. Source: gitrevisions(7), "refname".
+//! The lines of refs in a tail: they are checked, and refs are found among them.
+//! Source: this project's own format, git-check-ref-format(1), and gitrevisions(7), "refname".
 
-ghost use Rattle.std.specs.Prelude.{◌≡◌, ◌++◌, drop};
+ghost use Rattle.std.specs.Prelude.{◌≡◌, ◌++◌, drop, IsTrue};
+ghost use Rattle.std.specs.Option.{option_map};
 ghost use Rattle.gx_model.specs.Revisions.Denotation.{ref_names};
+ghost use Rattle.gx_model.specs.Stores.StoreReading.{is_after, ref_line};
 ghost use Rattle.gx_model.specs.Texts.{same_bytes};
-ghost use Rattle.gx_look.specs.Refs.{FindsAmong, FindsOne, LeavesEnd};
+ghost use Rattle.gx_text.specs.Lent.{lent_pair};
+ghost use Rattle.gx_look.specs.Refs.{FindsAmong, FindsOne, LeavesEnd, PassesRefs, first_ref, name_and_rest};
+ghost use Rattle.gx_look.specs.Tails.{SpellsLines};
 
 use gx_object::Name;
-use gx_text::cut;
+use gx_text::{cut, is_ref_name};
+
+/// Whether a text has the lines of so many refs, in the byte order of their names, and the last line behind them.
+///
+/// Cost: one pass.
+pub(crate) fn are_refs(count: u64, text: &[u8]) -> bool
+    ensures spelled { IsTrue result → SpellsLines text.now }
+    ensures all { PassesRefs count text.now result }
+{
+    let mut rest = text;
+    let mut last: Option<&[u8]> = None;
+    for _ in 0..count {
+        let Some((name, behind)) = first_ref(rest) else {
+            return false;
+        };
+        if !is_after(last, name) {
+            return false;
+        }
+        last = Some(name);
+        rest = behind;
+    }
+    rest == b"end\n".as_slice()
+}
+
+/// The name of the ref in the first line, and what follows the line.
+fn first_ref(text: &[u8]) -> Option<(&[u8], &[u8])>
+    ensures { option_map lent_pair result ≡ option_map name_and_rest (first_ref text.now) }
+{
+    let (line, rest) = cut(text, b'\n')?;
+    let name = ref_name(line)?;
+    Some((name, rest))
+}
+
+/// The name in the line of a ref: it stands behind the digits of an object, and a space.
+#[tactic(auto, unfolding(gx_model::specs::Objects::Naming::lower_name_in))]
+fn ref_name(line: &[u8]) -> Option<&[u8]>
+    ensures { option_map (λ name. name.now) result ≡ option_map (λ ref. ref.0) (ref_line line.now) }
+{
+    let (digits, name) = cut(line, b' ')?;
+    let _object = Name::read_lower(digits)?;
+    if is_ref_name(name) { Some(name) } else { None }
+}
+
+/// Whether a name is greater than the one before, where there is one.
+fn is_after(last: Option<&[u8]>, name: &[u8]) -> bool
+    ensures { result ≡ is_after (option_map (λ last. last.now) last.entry) name.now }
+{
+    match last {
+        Some(last) => last < name,
+        None => true,
+    }
+}
 
 /// The object of the first ref among the six names that a word stands for, in their order.
 ///

@@ -6,6 +6,7 @@ ghost use Rattle.gx_growing_parts.specs.Shown.{shown_slot};
 ghost use Rattle.gx_look.specs.Tails.{AreWithin, IsWithin, ReadsRuns, ReadsTail, TellsTail};
 
 use crate::fill::read_on;
+use crate::refs::are_refs;
 use gx_at::ReadAt;
 use gx_growing_parts::{Run, Slot, digest_of, read_run};
 use gx_lines::read_count;
@@ -20,8 +21,8 @@ pub(crate) struct Tail<A: Allocator> {
     pub(crate) refs: usize,
 }
 
-/// The tail to which a slot leads. `Damaged` where the tail hasn't its digest, isn't one, or tells a run that stands behind
-/// the end.
+/// The tail to which a slot leads. `Damaged` where the tail hasn't its digest, isn't one, tells a run that stands behind the
+/// end, or has a line that is no ref's.
 pub(crate) fn read_tail<S: ReadAt, A: Allocator + Copy>(
     alloc: A,
     source: &S,
@@ -53,10 +54,13 @@ fn tail_of_text<A: Allocator + Copy>(
     ensures tail { ReadsTail ends text.items result }
 {
     let (runs, rest) = read_runs(alloc, ends, text.as_slice())?;
-    let Ok((_count, rest)) = read_count(b"refs", rest) else {
+    let Ok((count, rest)) = read_count(b"refs", rest) else {
         return Err(LookFault::Damaged);
     };
     let refs = text.len().saturating_sub(rest.len());
+    if !are_refs(count, &text.as_slice()[refs..]) {
+        return Err(LookFault::Damaged);
+    }
     Ok(Tail { runs, text, refs })
 }
 

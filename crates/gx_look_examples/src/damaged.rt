@@ -1,7 +1,7 @@
 //! Texts that are damaged: what is shown has its name, and every call ends.
 
-use crate::looks::two_segments;
-use crate::written::{name_of, put_at};
+use crate::looks::{look_into, two_segments};
+use crate::written::{Written, name_of, put_at};
 use gx_at::TextAt;
 use gx_look::Look;
 use gx_object::{Namer, Sha1Namer};
@@ -97,4 +97,37 @@ fn each_cut(alloc: Global) -> Option<bool> {
 #[test]
 fn text_that_is_cut_is_damaged(rt: HostRuntime) {
     assert!(rt; each_cut(rt.alloc()) == Some(true));
+}
+
+/// Names that no repository has for refs together: some aren't ref names, others aren't in order or stand twice, and one of them
+/// makes a line more than there are refs.
+const NO_REFS: [&[&[u8]]; 8] = [
+    &[b""],
+    &[b"refs/heads/a b"],
+    &[b"refs/heads/a..b"],
+    &[b"refs/heads/\x1b[31m"],
+    &[b"refs/heads/a\0"],
+    &[b"refs/heads/b", b"refs/heads/a"],
+    &[b"refs/heads/a", b"refs/heads/a"],
+    &[b"refs/heads/a\n43dd47ea691c90a5fa7827892c70241913351963 refs/heads/b"],
+];
+
+/// Whether a text with refs of these names can be opened.
+fn opens_with_refs(alloc: Global, names: &[&[u8]]) -> Option<bool> {
+    let mut refs = Vec::new(alloc);
+    for name in names {
+        refs.push((*name, name_of(b"one"))).ok()?;
+    }
+    let mut written = Written::new(alloc)?;
+    written.add(alloc, &[b"one"], &refs)?;
+    Some(look_into(alloc, &written.text, 1_000).is_ok())
+}
+
+#[test]
+fn lines_that_no_repository_has_for_refs_are_damaged(rt: HostRuntime) {
+    let alloc = rt.alloc();
+    for names in NO_REFS {
+        assert!(rt; opens_with_refs(alloc, names) == Some(false));
+    }
+    assert!(rt; opens_with_refs(alloc, &[b"refs/heads/a", b"refs/heads/b"]) == Some(true));
 }

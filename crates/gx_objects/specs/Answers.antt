@@ -1,15 +1,18 @@
 -- What is answered of objects and refs, in words of the repository that they are of.
-use Rattle.std.specs.Prelude.{◌≡◌, ℕ, ◌<◌, Option, Some, None, Result, IfErr, IfOk, IfSome}
+use Rattle.std.specs.Prelude.{◌≡◌, ℕ, ◌<◌, List, Option, Some, None, Result, IfErr, IfOk, IfSome, IsTrue}
 use Rattle.std.specs.Borrow.{Bor}
-use Rattle.std.specs.List.{flat_map}
+use Rattle.std.specs.FinMap.Entries.{is_sorted}
+use Rattle.std.specs.List.{AllByRecursion, flat_map, list_all}
 use Rattle.std.specs.Option.{option_map}
 use Rattle.gx_model.specs.declared.objects.Kind.{Kind}
 use Rattle.gx_model.specs.Histories.{Records, object_of}
+use Rattle.gx_model.specs.Objects.{is_name}
 use Rattle.gx_model.specs.Records.Growth.{record_named}
 use Rattle.gx_model.specs.Records.Lookups.{first_named, records_begun_by}
 use Rattle.gx_model.specs.Revisions.Denotation.{ref_names}
 use Rattle.gx_model.specs.Stores.StoreText.{stored_ref}
-use Rattle.gx_model.specs.Texts.{Bytes}
+use Rattle.gx_model.specs.Texts.{Bytes, byte_cmp}
+use Rattle.gx_model.specs.Texts.RefNames.{is_ref_name}
 use Rattle.gx_object.specs.Parts.{bytes_if}
 use Rattle.gx_object.specs.declared.name.Name.{Name}
 use Rattle.gx_store.specs.Prefixes.{prefix_of}
@@ -66,6 +69,16 @@ FindsBegun digits repository found = found ≡ prefix_of (records_begun_by repos
 -- these are the lines of a repository's refs
 abbrev pub AreRefLines : Records → Bor Bytes → Type 0
 AreRefLines repository lines = lines.now ≡ flat_map stored_ref repository.refs
+
+-- refs as a repository may have them: in the order of their names, which are ref names, each with the name of an object
+pub record AreRefs (refs : List (Bytes × Bytes)) : Type 0 where
+  pub sorted : IsTrue (is_sorted byte_cmp refs)
+  pub names : IsTrue (list_all (λ ref. is_ref_name ref.0) refs)
+  pub objects : AllByRecursion (λ ref. IsTrue (is_name ref.1)) refs
+
+-- a text that spells such refs
+abbrev pub SpellsRefs : Bytes → Type 0
+SpellsRefs text = (refs : List (Bytes × Bytes)) × (text ≡ flat_map stored_ref refs) × AreRefs refs
 
 -- this is what the first ref of six names holds
 abbrev pub FindsRef : Bytes → Records → Option Name → Type 0

@@ -6,7 +6,7 @@ ghost use Rattle.gx_model.specs.Histories.{Records};
 ghost use Rattle.gx_model.specs.Objects.{IsNamer};
 ghost use Rattle.gx_model.specs.Records.Sound.{IsSound};
 ghost use Rattle.gx_model.specs.Texts.{Bytes};
-ghost use Rattle.gx_objects.specs.Answers.{AreRefLines, FindsBegun, FindsRef, GoesUp, Holds, IsHeldThere, IsNamed, IsNamedAs, OnlyUntold, StandsIfTold, StandsThere, Tells};
+ghost use Rattle.gx_objects.specs.Answers.{AreRefLines, FindsBegun, FindsRef, GoesUp, Holds, IsHeldThere, IsNamed, IsNamedAs, OnlyUntold, SpellsRefs, StandsIfTold, StandsThere, Tells};
 
 use crate::LookFault;
 use gx_object::{Kind, Name};
@@ -90,13 +90,15 @@ pub trait Objects {
         ensures fault { OnlyUntold (told self.now) result };
 
     /// A line for each ref, in the byte order of their names: the digits of its object, a space, and its name. They are lent
-    /// from where they stand or from the room.
+    /// from where they stand or from the room. Whatever is told, they are so: names are ref names, and each stands once.
     ///
-    /// OutOfMemory: the room can't grow. ReadFailed and Damaged are those of `object`. Source: git-show-ref(1).
+    /// OutOfMemory: the room can't grow. ReadFailed and Damaged are those of `object`.
+    /// Source: git-show-ref(1), and git-check-ref-format(1).
     fn ref_lines<'a, A: Allocator + Copy>(
         &'a self,
         room: &'a mut Vec<u8, A>,
     ) -> Result<&'a [u8], LookFault>
         ensures lines { Tells (told self.now) AreRefLines result }
+        ensures spelled { IfOk result (λ lines. SpellsRefs lines.now) }
         ensures fault { OnlyUntold (told self.now) result };
 }

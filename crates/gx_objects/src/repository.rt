@@ -2,7 +2,7 @@
 
 ghost use Rattle.std.specs.Prelude.{◌≡◌, ◌++◌, IfOk, IsOk, OnOk, Some};
 ghost use Rattle.gx_model.specs.Stores.StoreText.{stored_ref};
-ghost use Rattle.gx_objects.specs.Answers.{AreRefLines, FindsBegun, FindsRef, Holds, IsHeldThere, IsNamed, IsNamedAs, OnlyUntold, StandsIfTold, StandsThere, Tells};
+ghost use Rattle.gx_objects.specs.Answers.{AreRefLines, FindsBegun, FindsRef, Holds, IsHeldThere, IsNamed, IsNamedAs, OnlyUntold, SpellsRefs, StandsIfTold, StandsThere, Tells};
 
 use crate::{LookFault, Object, Objects};
 use gx_object::{Name, Namer};
@@ -83,8 +83,10 @@ impl<N: Namer, B: Allocator + Copy> Objects for Repo<N, B> {
         room: &'a mut Vec<u8, A>,
     ) -> Result<&'a [u8], LookFault>
         ensures lines { Tells (Some self.now.1) AreRefLines result }
+        ensures spelled { IfOk result (λ lines. SpellsRefs lines.now) }
         ensures fault { OnlyUntold (Some self.now.1) result }
     {
+        self.sound();
         room.clear();
         for (name, object) in self.refs() {
             put_ref(room, name, &object)?;

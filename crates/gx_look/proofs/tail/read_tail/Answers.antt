@@ -22,4 +22,4 @@ returns-clause-tail g c =
     let size : length room ≡ slot.ends - slot.tail = c.in_ok-read_on.ensures.count ∙ c.in-Some.ensures.1 in
     let small : length room < 2 ^ 64 = omega arith in
     tail_told (g.S.ReadAt.text c.args.source.now) slot c.tail_of_text.result (λ text is runs refs leads.
-    c.tail_of_text.ensures.tail runs refs leads.live small (tail_is text slot runs refs leads room (subst (λ z. StandsAt z slot.tail room) is c.in_ok-read_on.ensures.there) size))
+    c.tail_of_text.ensures.tail runs refs leads.live leads.named small (tail_is text slot runs refs leads room (subst (λ z. StandsAt z slot.tail room) is c.in_ok-read_on.ensures.there) size))

@@ -8,6 +8,7 @@ use Rattle.gx_model.specs.Texts.{Bytes}
 use Rattle.gx_model.specs.Stores.StoreText.{stored_ref}
 use Rattle.gx_look.specs.Looking.{told_by}
 use Rattle.gx_look.specs.Refs.{AreLines}
+use Rattle.gx_look.proofs.CheckedRefs.{lines_of}
 use Rattle.gx_look.proofs.JoinedTexts.{from_place}
 use Rattle.gx_look.proofs.ToldNames.{lines_tell}
 use Rattle.gx_look.proofs.look.LookObjects.ref_lines.Goals as goal
@@ -36,3 +37,10 @@ returns-in-None-clause-fault g c = λ same.
     (nothing (told_by (g.N.Namer.name_of it.namer) told) (IfSome_then (told_by (g.N.Namer.name_of it.namer) told) tells (λ r lines.
     let held = subst (λ (z : Bytes). AreLines (drop it.tail.refs z) r.refs) (sym c.as_slice.ensures.value) lines in
     c.in-None.ensures r.refs (subst (λ (z : Bytes). AreLines z r.refs) (sym (from_place it.tail.refs c.as_slice.result.now)) held))))
+
+pub returns-in-Some-clause-spelled : goal.returns-in-Some-clause-spelled
+returns-in-Some-clause-spelled g c =
+    let it = c.self.inside in
+    let l = c.self.invariant.within.lines in
+    let held = subst (λ (z : Bytes). AreLines (drop it.tail.refs z) l.0) (sym c.as_slice.ensures.value) (lines_of (drop it.tail.refs it.tail.text.items) l.0 l.1 l.2) in
+    (l.0, some_is c.in-Some.refs.now (flat_map stored_ref l.0) (c.in-Some.ensures l.0 (subst (λ (z : Bytes). AreLines z l.0) (sym (from_place it.tail.refs c.as_slice.result.now)) held)), l.2)

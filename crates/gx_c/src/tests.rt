@@ -157,6 +157,15 @@ fn texts_are_read_back(rt: HostRuntime) -> Result<(), Fail> {
     Ok(())
 }
 
+/// Whether a store text of that repository is loaded, and is written as it was.
+fn is_written_again(alloc: Global, store: &mut Store, text: &[u8]) -> bool {
+    let is_loaded = ginlarch_load(alloc, store, text) == DONE;
+    let status = ginlarch_refs(alloc, store);
+    let has_refs = gives(alloc, store, status, REFS, 0);
+    let status = ginlarch_text(alloc, store);
+    is_loaded && has_refs && gives(alloc, store, status, text, 0)
+}
+
 #[test]
 fn store_is_written_in_the_form_that_was_loaded(rt: HostRuntime) -> Result<(), Fail> {
     let alloc = rt.alloc();
@@ -176,13 +185,15 @@ fn store_is_written_in_the_form_that_was_loaded(rt: HostRuntime) -> Result<(), F
         plain.starts_with(b"gxstore 2\n") && growing.starts_with(b"gxstore 3\n"),
         "versions"
     );
-    for text in [growing, plain, growing] {
-        assert_eq!(rt; ginlarch_load(alloc, &mut store, text), DONE, "load");
-        let status = ginlarch_refs(alloc, &mut store);
-        assert!(rt; gives(alloc, &mut store, status, REFS, 0), "refs");
-        let status = ginlarch_text(alloc, &mut store);
-        assert!(rt; gives(alloc, &mut store, status, text, 0), "text");
-    }
+    assert!(rt;
+        is_written_again(alloc, &mut store, growing),
+        "a growing text"
+    );
+    assert!(rt; is_written_again(alloc, &mut store, plain), "version 2");
+    assert!(rt;
+        is_written_again(alloc, &mut store, growing),
+        "a growing text behind one of version 2"
+    );
     let cut = growing.get(..100).unwrap_or(b"");
     let status = ginlarch_load(alloc, &mut store, cut);
     assert!(rt;

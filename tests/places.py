@@ -9,6 +9,7 @@ from contextlib import AbstractContextManager
 from pathlib import Path
 from typing import Any
 
+from growing_texts import HEAD
 from histories import Step
 from hypothesis import currently_in_test_context, note
 from programs import Program, Word, counted, printed, run_program
@@ -173,9 +174,11 @@ class Store:
         return self.prints("refs", self.path)
 
     def records(self) -> Iterator[tuple[bytes, bytes, bytes]]:
-        """Kind, size and digits of each record, in order."""
+        """Kind, size and digits of each record, in order. gx writes a growing store as one segment,
+        which has them behind its head."""
         text = self.path.read_bytes()
-        count = re.match(rb"gxstore 2\nobjects (\d+)\n", text)
+        start = HEAD if text.startswith(b"gxstore 3\n") else len(b"gxstore 2\n")
+        count = re.compile(rb"objects (\d+)\n").match(text, start)
         assert count
         at = count.end()
         for _ in range(int(count[1])):

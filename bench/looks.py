@@ -29,6 +29,7 @@ QUESTIONS = [
     ("ls", ["ls", "STORE", "REV:FOLDER"], ["ls-tree", "REV:FOLDER"], True),
     ("refs", ["refs", "STORE"], ["show-ref"], True),
     ("log of all", ["log", "STORE", "REV"], ["rev-list", "REV"], True),
+    ("log of all, no commit-graph", ["log", "STORE", "REV"], ["-c", "core.commitGraph=false", "rev-list", "REV"], True),
     ("log of all, dates", ["log", "--format=dates", "STORE", "REV"], ["log", "--format=%H %at %ct", "REV"], True),
     ("ls -r", ["ls", "-r", "STORE", "REV"], ["ls-tree", "-r", "REV"], True),
 ]

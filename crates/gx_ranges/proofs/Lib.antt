@@ -7,3 +7,4 @@ pub mod Tellings
 pub mod WordTips
 pub mod Spans
 pub mod RefLines
+pub mod Listings

@@ -1,6 +1,7 @@
 -- Steps of the code, as facts of the repository that is told.
 use Rattle.std.proofs.Common.{◌≡◌, ℕ, suc, ◌+◌, ◌<◌, ◌≤◌, Bool, true, refl, sym, ap, subst, ◌∙◌, arith, List, [], ◌∷◌, ◌++◌, length, Option, Some, None}
 use Rattle.std.specs.Prelude.{IfSome, is_some, ◌||◌}
+use Rattle.std.specs.Borrow.{Bor}
 use Rattle.std.specs.List.{slice_get}
 use Rattle.std.specs.Option.{option_map}
 use Rattle.std.specs.BTreeMap.{insert_entry, is_at}
@@ -19,6 +20,7 @@ use Rattle.gx_model.specs.Texts.{Bytes}
 use Rattle.gx_model.proofs.Records.HeldValues.{commit_text_held, got, kind_held, names_long, no_parent_there, parent_there}
 use Rattle.gx_object.specs.declared.name.Name.{Name}
 use Rattle.gx_objects.specs.Answers.{GoesUp, StandsThere}
+use Rattle.gx_questions.specs.Objects.{IsCommitAt}
 use Rattle.gx_rev.specs.Objects.{IsHeldAs, commit_at, parents_at}
 use Rattle.gx_ranges.specs.Fronts.{Adds, AreBelow, AreTips, GoesDown, IsLast, IsTip, LeadsToPlace, StandsBefore, lead_to}
 use Rattle.gx_ranges.proofs.Tips.{all_last, down_further, found_there, inserted, not_behind_limit, not_nowhere, parent_below, parents_down, told_there}
@@ -129,9 +131,17 @@ module _ (name : Kind → Bytes → Bytes) (namer : IsNamer name) (stands : ℕ 
     text_is_told None s t o n = refl
     text_is_told (Some r) s t o n = absurd (n _ (text_is_held r s t o))
 
-    pub parts_are_told : (told : Option Records) (view : CommitParts) → IfSome told (IsSound name) → IfSome told (λ r. IsTip stands r (place, called)) → IfSome told IsObject → ((parts : CommitParts) → IsCommitText parts body → view ≡ parts) → IfSome told (ArePartsOf name called view)
-    parts_are_told None view s t o f = tt
-    parts_are_told (Some r) view s t o f = f _ (text_is_held r s t o)
+    pub commit_is_there : (told : Option Records) (lent : Bor Bytes) (view : CommitParts) → lent.now ≡ body → IfSome told (IsSound name) → IfSome told (λ r. IsTip stands r (place, called)) → IfSome told IsObject → ((parts : CommitParts) → IsCommitText parts body → view ≡ parts) → IfSome told (λ r. IsCommitAt name called r (lent, view))
+    commit_is_there None lent view b s t o f = tt
+    commit_is_there (Some r) lent view b s t o f =
+        let k = kind_held name namer r s kinds.Commit called.bytes t.0 in
+        let e = got name namer r s called.bytes (kind, body) k.0 o in
+        record { body = b ∙ ap (λ p. p.1) e; parts = f _ (text_is_held r s t o) }
+
+  -- the parts of a commit that is there
+  pub parts_of_it : (called : Name) (told : Option Records) (found : Bor Bytes × CommitParts) → IfSome told (λ r. IsCommitAt name called r found) → IfSome told (ArePartsOf name called found.1)
+  parts_of_it called None found h = tt
+  parts_of_it called (Some r) found h = h.parts
 
   -- ---- going down
 

@@ -1,10 +1,9 @@
 -- The walk: what was told, as it goes down commit by commit.
-use Rattle.std.proofs.Common.{◌≡◌, ℕ, zero, suc, ◌+◌, ◌-◌, ◌<◌, ◌≤◌, Bool, true, false, cond, refl, sym, ap, subst, ◌∙◌, arith, List, [], ◌∷◌, ◌++◌, take, drop, length, length-append, Option, Some, None, inl, inr, append_assoc, append-nil}
-use Rattle.std.specs.Prelude.{IsTrue, IfSome, ◌&&◌, not, reverse, nat_le}
+use Rattle.std.proofs.Common.{◌≡◌, ℕ, zero, suc, ◌+◌, ◌-◌, ◌<◌, ◌≤◌, Bool, true, false, cond, refl, sym, ap, subst, ◌∙◌, arith, List, [], ◌∷◌, ◌++◌, drop, length, Some, inl, inr, append-nil}
+use Rattle.std.specs.Prelude.{IsTrue, ◌&&◌, not, reverse}
 use Rattle.std.specs.List.{filter, filter_map, slice_get}
-use Rattle.std.proofs.lemmas.List.{drop_all, take_all, take-append-le}
+use Rattle.std.proofs.lemmas.List.{drop_all}
 use Rattle.std.proofs.lemmas.List.Elements.{filter-append}
-use Rattle.std.proofs.lemmas.Bool.Decides.{nat_tests}
 use Rattle.std.proofs.lemmas.Grind.{reverse_onto}
 use Rattle.gx_model.specs.declared.objects.Kind.{Kind}
 use Rattle.gx_model.specs.Histories.{Records}
@@ -22,8 +21,7 @@ use Rattle.gx_object.specs.declared.name.Name.{Name}
 use Rattle.gx_objects.specs.Answers.{GoesUp}
 use Rattle.gx_rev.specs.Objects.{commit_at}
 use Rattle.gx_ranges.specs.Fronts.{Adds, AreBelow, AreTips, GoesDown, IsLast, IsTip, lead_to}
-use Rattle.gx_print.specs.Logs.{limited}
-use Rattle.gx_ranges.specs.Walks.{IsWalk, is_enough, passing_from}
+use Rattle.gx_ranges.specs.Walks.{IsWalk, passing_from}
 use Rattle.gx_ranges.proofs.Tips.{all_last, last_leads, leads_further, not_behind, number_of, reached_below, before}
 use Rattle.gx_ranges.proofs.Reached.{by_parents, or_either, or_first, or_second, reached_before, reaches_by, true_or_false}
 
@@ -33,18 +31,18 @@ Tip = ℕ × Name
 -- ---- what passes from a number on
 
 -- the commits of some values that pass, the last one first
-abbrev passing : (Commit → Bool) → List Value → List Commit
+abbrev pub passing : (Commit → Bool) → List Value → List Commit
 passing test vs = filter test (reverse (filter_map commit_of vs))
 
 -- the commit that is a value, where it passes
-abbrev if_passing : (Commit → Bool) → Value → List Commit
+abbrev pub if_passing : (Commit → Bool) → Value → List Commit
 if_passing test (commit_value c) = cond (test c) (c ∷ []) []
 if_passing test _ = []
 
 reversed_onto : {X : Type 0} (xs : List X) (x : X) → reverse (x ∷ xs) ≡ reverse xs ++ x ∷ []
 reversed_onto xs x = reverse_onto xs x []
 
-passing_first : (test : Commit → Bool) (v : Value) (vs : List Value) → passing test (v ∷ vs) ≡ passing test vs ++ if_passing test v
+pub passing_first : (test : Commit → Bool) (v : Value) (vs : List Value) → passing test (v ∷ vs) ≡ passing test vs ++ if_passing test v
 passing_first test (blob_value x) vs = sym (append-nil (passing test vs))
 passing_first test (tree_value f) vs = sym (append-nil (passing test vs))
 passing_first test (tag_value t) vs = sym (append-nil (passing test vs))
@@ -65,7 +63,7 @@ passing_none test (commit_value c) h = elim (true_or_false (test c)) [
 ]
 
 -- those that don't pass may be left out
-passing_later : (test : Commit → Bool) (vs : List Value) (n : ℕ) → NonePass test vs n → passing test vs ≡ passing test (drop n vs)
+pub passing_later : (test : Commit → Bool) (vs : List Value) (n : ℕ) → NonePass test vs n → passing test vs ≡ passing test (drop n vs)
 passing_later test [] zero h = refl
 passing_later test [] (suc n) h = refl
 passing_later test (v ∷ vs) zero h = refl
@@ -85,7 +83,7 @@ dropped_get vs zero i = ap (slice_get vs) (let e : i ≡ 0 + i = omega arith in 
 dropped_get [] (suc n) i = refl
 dropped_get (v ∷ vs) (suc n) i = dropped_get vs n i ∙ ap (slice_get (v ∷ vs)) (let e : suc (n + i) ≡ suc n + i = omega arith in e)
 
-drop_none : (n : ℕ) → ◌≡◌ {A = List Value} (drop n []) []
+pub drop_none : (n : ℕ) → ◌≡◌ {A = List Value} (drop n []) []
 drop_none zero = refl
 drop_none (suc n) = refl
 
@@ -113,15 +111,6 @@ module _ (r : Records) (included excluded : Commit → Bool) where
       ap (passing passes_both) (dropped_at (values_of r) n (commit_value c) e)
       ∙ passing_first passes_both (commit_value c) (drop (suc n) (values_of r))
       ∙ ap (λ b. passing passes_both (drop (suc n) (values_of r)) ++ cond b (c ∷ []) []) p
-
--- the last ones are told first
-passing_front : (test : Commit → Bool) (vs : List Value) (n : ℕ) → (more : List Commit) × (passing test vs ≡ passing test (drop n vs) ++ more)
-passing_front test [] zero = ([], refl)
-passing_front test [] (suc n) = ([], refl)
-passing_front test (v ∷ vs) zero = ([], sym (append-nil (passing test (v ∷ vs))))
-passing_front test (v ∷ vs) (suc n) =
-    let rest = passing_front test vs n in
-    (rest.0 ++ if_passing test v, passing_first test v vs ∙ ap (λ cs. cs ++ if_passing test v) rest.1 ∙ append_assoc (passing test (drop n vs)) rest.0 (if_passing test v))
 
 pub passing_ends : (r : Records) (included excluded : Commit → Bool) → passing_from r included excluded (length (values_of r)) ≡ []
 passing_ends r included excluded = ap (passing (λ made. included made && not (excluded made))) (drop_all (length (values_of r)) (values_of r) (omega arith))
@@ -288,37 +277,3 @@ module _ (name : Kind → Bytes → Bytes) (namer : IsNamer name) (r : Records) 
           told = ap (λ cs. cs ++ commit_at r last.1 ∷ []) w.told
               ∙ sym (passing_here r included excluded j (commit_at r last.1) at (passes_if (included (commit_at r last.1)) (excluded (commit_at r last.1)) (w.only (commit_at r last.1) last_leads_itself) kept));
         }
-
--- ---- so many at most
-
-pub enough_told : (r : Records) (included excluded : Commit → Bool) (told : List Commit) (number count : ℕ) (most : Option ℕ) → told ≡ passing_from r included excluded number → length told ≡ count
-    → IfSome most (λ n. count ≤ n) → is_enough count most ≡ true → told ≡ limited most (passing_from r included excluded 0)
-enough_told r included excluded told number count None e l few full = absurd cc
-enough_told r included excluded told number count (Some n) e l few full =
-    let least : n ≤ count = grind (arith, nat_tests) in
-    let many : length told ≡ n = omega (arith, l, few, least) in
-    let front = passing_front (λ made. included made && not (excluded made)) (values_of r) number in
-    let whole : passing_from r included excluded 0 ≡ told ++ front.0 = front.1 ∙ ap (λ cs. cs ++ front.0) (sym e) in
-    sym (ap (take n) whole ∙ take-append-le n told front.0 (omega (arith, many)) ∙ take_all n told (omega (arith, many)))
-
-pub all_told : {A : Type 0} (told all : List A) (count : ℕ) (most : Option ℕ) → told ≡ all → length told ≡ count → IfSome most (λ n. count ≤ n) → told ≡ limited most all
-all_told told all count None e l few = e
-all_told told all count (Some n) e l few = sym (ap (take n) (sym e) ∙ take_all n told (omega (arith, l, few)))
-
-pub one_more_told : (count : ℕ) (most : Option ℕ) → is_enough count most ≡ false → IfSome most (λ n. count + 1 ≤ n)
-one_more_told count None e = tt
-one_more_told count (Some n) e = grind (arith, nat_tests)
-
-pub few_of_none : {A : Type 0} (xs : List A) (most : Option ℕ) → xs ≡ [] → IfSome most (λ n. length xs ≤ n)
-few_of_none xs None e = tt
-few_of_none xs (Some n) e = let l = ap length e in omega (arith, l)
-
-pub few_with_one : {A : Type 0} (xs ys : List A) (x : A) (most : Option ℕ) (count : ℕ) → ys ≡ xs ++ x ∷ [] → count ≡ length xs → (full : Bool) → full ≡ is_enough count most → full ≡ false → IfSome most (λ n. length ys ≤ n)
-few_with_one xs ys x None count e l full f g = tt
-few_with_one xs ys x (Some n) count e l full f g =
-    let more = ap length e ∙ length-append xs (x ∷ []) in
-    let below : count < n = under n count (sym f ∙ g) in
-    omega (arith, more, below, l)
-  where
-    under : (n count : ℕ) → nat_le n count ≡ false → count < n
-    under n count h = grind (arith, nat_tests)

@@ -23,10 +23,12 @@ use Rattle.gx_questions.specs.declared.fault.AskFault.{AskFault}
 use Rattle.gx_questions.specs.declared.fault.AskFault.TheVariants.{OutOfMemory, ReadFailed, Damaged, Revision}
 use Rattle.gx_rev.specs.Reached.{is_wanted}
 use Rattle.gx_rev.specs.Walking.{is_included}
-use Rattle.gx_ranges.specs.Answers.{AreLogged, RefusesWord}
+use Rattle.gx_ranges.specs.Answers.{RefusesWord}
 use Rattle.gx_ranges.specs.Fronts.{Adds, AreTips, lead_to}
 use Rattle.gx_print.specs.Logs.{commits_logged, limited, with_refs, words_of_refs}
-use Rattle.gx_ranges.specs.Walks.{ListsReached, passing_from}
+use Rattle.gx_ranges.specs.Listings.{StillLists}
+use Rattle.gx_ranges.specs.Walks.{passing_from}
+use Rattle.gx_ranges.specs.declared.walking.CommitWalk.{CommitWalk}
 use Rattle.gx_ranges.proofs.Reached.{or_joined, or_none}
 
 abbrev Tip : Type 0
@@ -84,12 +86,17 @@ module _ (name : Kind → Bytes → Bytes) (r : Records) (asked : List RangeWord
   pub logged_so : (refs : Bool) → commits_logged name (history_of r) refs asked ≡ Ok (listing (history_of r) (with_refs refs (history_of r) words))
   logged_so refs = ap (λ g. g >>= λ xs. Ok (listing (history_of r) (with_refs refs (history_of r) xs))) e
 
-  pub names_logged : (stands : ℕ → ℕ) (refs : Bool) (most : Option ℕ) (wanted unwanted : List Tip) (names : List Name)
-      → Adds stands (is_included (with_refs refs (history_of r) words)) [] wanted r → Adds stands (is_excluded (with_refs refs (history_of r) words)) [] unwanted r
-      → ListsReached wanted unwanted most r names → AreLogged most r (commits_logged name (history_of r) refs asked) names
-  names_logged stands refs most wanted unwanted names a b l = (
-    (listing (history_of r) (with_refs refs (history_of r) words), logged_so refs, l.0 ∙ ap (limited most) (listed_so stands r (with_refs refs (history_of r) words) wanted unwanted a b)),
-    l.1,
+  -- a walk begins with them
+  pub walk_begins : {A : Type 0} (stands : ℕ → ℕ) (refs : Bool) (walk : CommitWalk A)
+      → Adds stands (is_included (with_refs refs (history_of r) words)) [] walk.wanted.entries r → Adds stands (is_excluded (with_refs refs (history_of r) words)) [] walk.unwanted.entries r
+      → (commits : List Commit) × (commits_logged name (history_of r) refs asked ≡ Ok commits) × StillLists stands r walk (limited walk.left commits)
+  walk_begins stands refs walk a b = (
+    listing (history_of r) (with_refs refs (history_of r) words),
+    logged_so refs,
+    record {
+      tips = record { wanted = a.tips; unwanted = b.tips };
+      lists = ap (limited walk.left) (sym (listed_so stands r (with_refs refs (history_of r) words) walk.wanted.entries walk.unwanted.entries a b));
+    },
   )
 
 -- the word that is refused
@@ -103,20 +110,24 @@ refused_so name (Some r) asked refs word (Revision f) h = ap (λ g. g >>= λ xs.
 
 -- ---- the whole
 
-module _ (name : Kind → Bytes → Bytes) (stands : ℕ → ℕ) (asked : List RangeWord) (most : Option ℕ) (wanted now unwanted : List Tip) (names : List Name) where
-  logged_with : (refs : Bool) (r : Records) (words : List Word) → words_denoted name (history_of r) asked ≡ Ok words → Adds stands (is_included words) [] wanted r → Adds stands (is_excluded words) [] unwanted r
-      → Adds stands (λ c. refs && is_wanted r c) wanted now r → ListsReached now unwanted most r names → AreLogged most r (commits_logged name (history_of r) refs asked) names
-  logged_with true r words e a b more l = names_logged name r asked words e stands true most now unwanted names
-      (adds_same stands r (λ c. is_included words c || is_wanted r c) (is_included (words ++ words_of_refs (history_of r))) [] now (with_refs_included r words) (adds_both stands r (is_included words) (is_wanted r) [] wanted now a more))
-      (adds_same stands r (is_excluded words) (is_excluded (words ++ words_of_refs (history_of r))) [] unwanted (with_refs_excluded r words) b) l
-  logged_with false r words e a b more l = names_logged name r asked words e stands false most now unwanted names
-      (adds_same stands r (λ c. is_included words c || false) (is_included words) [] now (λ c. or_none (is_included words c)) (adds_both stands r (is_included words) (λ c. false) [] wanted now a more)) b l
+module _ {A : Type 0} (name : Kind → Bytes → Bytes) (stands : ℕ → ℕ) (asked : List RangeWord) (walk : CommitWalk A) (wanted : List Tip) where
+  -- a walk begins with the commits that are logged
+  abbrev Begins : Bool → Records → Type 0
+  Begins refs r = (commits : List Commit) × (commits_logged name (history_of r) refs asked ≡ Ok commits) × StillLists stands r walk (limited walk.left commits)
 
-  pub logged_told : (refs : Bool) (told : Option Records)
-      → IfSome told (λ r. (words : List Word) × (words_denoted name (history_of r) asked ≡ Ok words) × Adds stands (is_included words) [] wanted r × Adds stands (is_excluded words) [] unwanted r)
-      → IfSome told (λ r. Adds stands (λ c. refs && is_wanted r c) wanted now r) → IfSome told (λ r. ListsReached now unwanted most r names) → IfSome told (λ r. AreLogged most r (commits_logged name (history_of r) refs asked) names)
-  logged_told refs None w more l = tt
-  logged_told refs (Some r) w more l = logged_with refs r w.0 w.1 w.2 w.3 more l
+  begins_with : (refs : Bool) (r : Records) (words : List Word) → words_denoted name (history_of r) asked ≡ Ok words → Adds stands (is_included words) [] wanted r → Adds stands (is_excluded words) [] walk.unwanted.entries r
+      → Adds stands (λ c. refs && is_wanted r c) wanted walk.wanted.entries r → Begins refs r
+  begins_with true r words e a b more = walk_begins name r asked words e stands true walk
+      (adds_same stands r (λ c. is_included words c || is_wanted r c) (is_included (words ++ words_of_refs (history_of r))) [] walk.wanted.entries (with_refs_included r words) (adds_both stands r (is_included words) (is_wanted r) [] wanted walk.wanted.entries a more))
+      (adds_same stands r (is_excluded words) (is_excluded (words ++ words_of_refs (history_of r))) [] walk.unwanted.entries (with_refs_excluded r words) b)
+  begins_with false r words e a b more = walk_begins name r asked words e stands false walk
+      (adds_same stands r (λ c. is_included words c || false) (is_included words) [] walk.wanted.entries (λ c. or_none (is_included words c)) (adds_both stands r (is_included words) (λ c. false) [] wanted walk.wanted.entries a more)) b
+
+  pub begun : (refs : Bool) (told : Option Records)
+      → IfSome told (λ r. (words : List Word) × (words_denoted name (history_of r) asked ≡ Ok words) × Adds stands (is_included words) [] wanted r × Adds stands (is_excluded words) [] walk.unwanted.entries r)
+      → IfSome told (λ r. Adds stands (λ c. refs && is_wanted r c) wanted walk.wanted.entries r) → IfSome told (Begins refs)
+  begun refs None w more = tt
+  begun refs (Some r) w more = begins_with refs r w.0 w.1 w.2 w.3 more
 
 pub words_wanted : (name : Kind → Bytes → Bytes) (stands : ℕ → ℕ) (asked : List RangeWord) (told : Option Records) (wanted unwanted : List Tip)
     → IfSome told (λ r. (words : List Word) × (words_denoted name (history_of r) asked ≡ Ok words) × Adds stands (is_included words) [] wanted r × Adds stands (is_excluded words) [] unwanted r)

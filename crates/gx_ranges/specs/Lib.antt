@@ -3,3 +3,4 @@ pub mod Fronts
 pub mod Walks
 pub mod Words
 pub mod Refs
+pub mod Listings

@@ -1,5 +1,5 @@
 -- A walk from the newest place down: what it has told, and what it has before it.
-use Rattle.std.specs.Prelude.{◌≡◌, ◌<◌, ◌&&◌, ◌++◌, ℕ, suc, Bool, false, not, IsTrue, List, [], ◌∷◌, map, drop, reverse, nat_le, Option, Some, None, IfSome, ◌⊎◌}
+use Rattle.std.specs.Prelude.{◌≡◌, ◌<◌, ◌&&◌, ◌++◌, ℕ, suc, Bool, false, not, IsTrue, List, [], ◌∷◌, drop, reverse, Option, Some, None, IfSome, ◌⊎◌}
 use Rattle.std.specs.List.{filter, filter_map}
 use Rattle.gx_model.specs.Histories.{Records}
 use Rattle.gx_model.specs.Histories.Marks.{IsAt}
@@ -9,7 +9,6 @@ use Rattle.gx_model.specs.Revisions.Ranges.{reaches}
 use Rattle.gx_object.specs.declared.name.Name.{Name}
 use Rattle.gx_rev.specs.Objects.{commit_at}
 use Rattle.gx_ranges.specs.Fronts.{AreBelow, AreTips, behind_last, lead_to}
-use Rattle.gx_print.specs.Logs.{AreCommits, limited}
 
 -- the commits that pass the one test and not the other, from a number on, the newest put first
 abbrev pub passing_from : Records → (Commit → Bool) → (Commit → Bool) → ℕ → List Commit
@@ -41,20 +40,9 @@ FindsNext stands wanted unwanted new_wanted new_unwanted repository next =
     (included excluded : Commit → Bool) (told : List Commit) (number : ℕ) → IsWalk stands included excluded wanted unwanted told number repository
     → GivesNext stands included excluded repository told new_wanted new_unwanted next
 
--- These are the names of the commits that the one front reaches and the other doesn't, the newest put first, so many at most.
-abbrev pub ListsReached : List (ℕ × Name) → List (ℕ × Name) → Option ℕ → Records → List Name → Type 0
-ListsReached wanted unwanted most repository names =
-    (map (commit_at repository) names ≡ limited most (passing_from repository (lead_to repository wanted) (lead_to repository unwanted) 0))
-    × AreCommits repository names
-
 -- the last of some commits was taken out, and those behind it
 abbrev pub TakesLast : List (ℕ × Name) → List (ℕ × Name) → Option (ℕ × Name) → Type 0
 TakesLast old new found = IfSome found (λ last. AreBelow last.0 new × (last.0 < behind_last old))
-
--- whether there are as many as are asked for
-abbrev pub is_enough : ℕ → Option ℕ → Bool
-is_enough count None = false
-is_enough count (Some most) = nat_le most count
 
 -- whether both of two commits reach a third
 abbrev pub reach_both : Commit → Commit → Commit → Bool

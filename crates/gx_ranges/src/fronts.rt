@@ -1,11 +1,14 @@
 //! The commits that a walk has before it, by their places. A parent stands before its commit: what doesn't is no repository's.
 
-ghost use Rattle.std.specs.Prelude.{◌≡◌, suc, IfSome, OnOk, Some};
+ghost use Rattle.std.specs.Prelude.{◌≡◌, suc, IfOk, IfSome, OnOk, Some};
 ghost use Rattle.gx_model.specs.declared.objects.Kind.TheVariants as kinds;
+ghost use Rattle.gx_model.specs.Objects.{IsCommitText};
 ghost use Rattle.gx_model.specs.Records.{parts_of_commit};
 ghost use Rattle.gx_model.specs.Revisions.Ranges.{reaches, some_reaches};
 ghost use Rattle.gx_objects.specs.Answers.{OnlyUntold, StandsThere, Tells};
 ghost use Rattle.gx_ranges.specs.Fronts.{Adds, AreBelow, AreTips, GoesDown, IsLastBehind, IsTip, LeadsToPlace, StandsBefore};
+ghost use Rattle.gx_questions.specs.Objects.{IsCommitAt};
+ghost use Rattle.gx_ranges.specs.Listings.{HasNameOf};
 ghost use Rattle.gx_rev.specs.Objects.{IsHeldAs, commit_at, parents_at};
 
 use gx_object::{CommitView, Kind, Name, decode_commit};
@@ -51,7 +54,30 @@ pub(crate) fn add_parents<O: Objects, A: Allocator + Copy>(
     ensures fault { OnlyUntold (O.told objects.now) result }
 {
     objects.sound_if_told();
-    let view = view_at(objects, place, commit, room)?;
+    let (_, view) = commit_at(objects, place, commit, room)?;
+    add_parents_of(objects, front, place, commit, &view)
+}
+
+/// Adds the parents that the parts of the commit at a place name.
+///
+/// Cost: a look-up of the place of each.
+pub(crate) fn add_parents_of<O: Objects, A: Allocator + Copy>(
+    objects: &O,
+    front: &mut BTreeMap<u64, Name, A>,
+    place: u64,
+    commit: &Name,
+    view: &CommitView<'_>,
+) -> Result<(), LookFault>
+    requires tips { IfSome (O.told objects.now) (AreTips (O.stands objects.now) front.old.entries) }
+    requires tip { IfSome (O.told objects.now) (λ r. IsTip (O.stands objects.now) r (place, commit.now)) }
+    requires parts { IfSome (O.told objects.now) (λ r.
+        view.now ≡ parts_of_commit (O.name_of objects.now) (commit_at r commit.now)) }
+    ensures below { OnOk result (AreBelow place front.old.entries → AreBelow place front.new.entries) }
+    ensures adds { Tells (O.told objects.now) (λ r _. Adds (O.stands objects.now)
+        (some_reaches (parents_at r commit.now)) front.old.entries front.new.entries r) result }
+    ensures fault { OnlyUntold (O.told objects.now) result }
+{
+    objects.sound_if_told();
     for number in 0..view.parent_count() {
         if let Some(parent) = view.parent(number) {
             add_below(objects, front, place, &parent)?;
@@ -98,16 +124,20 @@ pub(crate) fn place_of<O: Objects>(objects: &O, commit: &Name) -> Result<u64, Lo
     }
 }
 
-/// The parts of the body of the commit at a place.
-pub(crate) fn view_at<'a, O: Objects, A: Allocator + Copy>(
+/// The body and the parts of the commit at a place.
+///
+/// Cost: that of `Objects::object_at`.
+pub(crate) fn commit_at<'a, O: Objects, A: Allocator + Copy>(
     objects: &'a O,
     place: u64,
     commit: &Name,
     room: &'a mut Vec<u8, A>,
-) -> Result<CommitView<'a>, LookFault>
+) -> Result<(&'a [u8], CommitView<'a>), LookFault>
     requires tip { IfSome (O.told objects.now) (λ r. IsTip (O.stands objects.now) r (place, commit.now)) }
-    ensures parts { Tells (O.told objects.now) (λ r view.
-        view ≡ parts_of_commit (O.name_of objects.now) (commit_at r commit.now)) result }
+    ensures commit { Tells (O.told objects.now)
+        (IsCommitAt (O.name_of objects.now) commit.now) result }
+    ensures named { IfOk result (HasNameOf (O.name_of objects.now) commit.now) }
+    ensures text { IfOk result (λ found. IsCommitText found.1 found.0.now) }
     ensures fault { OnlyUntold (O.told objects.now) result }
 {
     objects.sound_if_told();
@@ -116,7 +146,7 @@ pub(crate) fn view_at<'a, O: Objects, A: Allocator + Copy>(
         return Err(LookFault::Damaged);
     };
     match decode_commit(object.body) {
-        Ok(view) => Ok(view),
+        Ok(view) => Ok((object.body, view)),
         Err(_) => Err(LookFault::Damaged),
     }
 }

@@ -11,4 +11,4 @@ mod walking;
 mod words;
 
 pub use fault::RangeFault;
-pub use walking::walk;
+pub use walking::{CommitWalk, walk};

@@ -1,22 +1,121 @@
-//! Which commits range words list.
+//! Which commits range words list, by a walk that goes on as it is asked.
 
-ghost use Rattle.std.specs.Prelude.{◌&&◌, IfSome, map};
-ghost use Rattle.gx_questions.specs.Answers.{IsOfTold, RefusesUntold};
+ghost use Rattle.std.specs.Prelude.{◌≡◌, ◌-◌, ◌&&◌, IfOk, IfSome, map};
+ghost use Rattle.std.specs.Option.{option_map};
+ghost use Rattle.gx_model.specs.Objects.{IsCommitText};
+ghost use Rattle.gx_objects.specs.Answers.{OnlyUntold, Tells};
+ghost use Rattle.gx_questions.specs.Answers.{IfTold, IsOfTold, RefusesUntold};
 ghost use Rattle.gx_ranges.specs.Answers.{AnswersLog};
 ghost use Rattle.gx_ranges.specs.Fronts.{Adds, AreTips};
+ghost use Rattle.gx_ranges.specs.Listings.{AreAllNames, AreTipsOf, BeginsList, ListsNext, GoesOn, HasNameOf, is_done};
 ghost use Rattle.gx_rev.specs.Reached.{is_wanted};
 ghost use Rattle.gx_rev.specs.Views.{shown_range};
 
 use crate::RangeFault;
+use crate::fronts::{add_parents_of, commit_at};
 use crate::refs::add_refs;
-use crate::telling::told;
+use crate::telling::next;
 use crate::words::add_words;
-use gx_object::Name;
-use gx_objects::Objects;
+use gx_object::{CommitView, Name};
+use gx_objects::{LookFault, Objects};
 use gx_questions::AskFault;
 use gx_rev::Range;
 use std::alloc::Allocator;
 use std::collections::BTreeMap;
+
+/// A walk from the newest place down: the commits that are still to be listed.
+///
+/// Memory: the places that are still to be visited.
+#[derive(Drop)]
+pub struct CommitWalk<A: Allocator> {
+    wanted: BTreeMap<u64, Name, A>,
+    unwanted: BTreeMap<u64, Name, A>,
+    left: Option<u64>,
+}
+
+impl<A: Allocator + Copy> CommitWalk<A> {
+    /// A walk over the commits that some word includes and none excludes, so many at most. Where that is asked for, what refs
+    /// reach is included, too.
+    ///
+    /// The faults are those of `walk`. Cost: what the revisions cost; with refs a line, an object and a look-up for each. What
+    /// is in the room before and after stands for nothing.
+    /// Source: gitrevisions(7), "Specifying Ranges", and git-rev-list(1), `--all` and `--max-count`.
+    pub fn begin<O: Objects>(
+        alloc: A,
+        objects: &O,
+        words: &[Range<A>],
+        refs: bool,
+        most: Option<u64>,
+        room: &mut Vec<u8, A>,
+    ) -> Result<CommitWalk<A>, RangeFault>
+        ensures { BeginsList (O.name_of objects.now) (O.stands objects.now) (O.told objects.now)
+            (map shown_range words.now) refs most result }
+    {
+        objects.sound_if_told();
+        let mut wanted = BTreeMap::new(alloc);
+        let mut unwanted = BTreeMap::new(alloc);
+        add_words(alloc, objects, room, words, &mut wanted, &mut unwanted)?;
+        add_asked(alloc, objects, refs, &mut wanted, room)?;
+        Ok(CommitWalk {
+            wanted,
+            unwanted,
+            left: most,
+        })
+    }
+
+    /// The newest commit that is still to be listed, with its body and its parts. It isn't listed again.
+    ///
+    /// OutOfMemory: a growth is refused. ReadFailed: a read failed. Damaged: this is no repository.
+    /// Cost: its body, and a look-up for each of its parents; and the bodies of those that are excluded and stand behind it.
+    /// Source: git-rev-list(1).
+    pub fn next<'a, O: Objects>(
+        &mut self,
+        objects: &'a O,
+        room: &'a mut Vec<u8, A>,
+    ) -> Result<Option<(Name, (&'a [u8], CommitView<'a>))>, LookFault>
+        requires tips { IfTold (O.told objects.now) (AreTipsOf (O.stands objects.now)) self.old }
+        ensures next { Tells (O.told objects.now)
+            (ListsNext (O.name_of objects.now) (O.stands objects.now) self.old self.new) result }
+        ensures ahead { IfOk result (GoesOn self.old self.new) }
+        ensures named { IfOk result
+            (λ found. IfSome found (λ c. HasNameOf (O.name_of objects.now) c.0 c.1)) }
+        ensures text { IfOk result (λ found. IfSome found (λ c. IsCommitText c.1.1 c.1.0.now)) }
+        ensures fault { OnlyUntold (O.told objects.now) result }
+    {
+        objects.sound_if_told();
+        if is_done(self.left) {
+            return Ok(None);
+        }
+        let Some((place, commit)) = next(objects, &mut self.wanted, &mut self.unwanted, room)?
+        else {
+            return Ok(None);
+        };
+        self.left = one_less(self.left);
+        let found = commit_at(objects, place, &commit, room)?;
+        add_parents_of(objects, &mut self.wanted, place, &commit, &found.1)?;
+        Ok(Some((commit, found)))
+    }
+}
+
+/// Whether no more may come.
+fn is_done(left: Option<u64>) -> bool
+    ensures { result ≡ is_done left }
+{
+    match left {
+        Some(left) => left == 0,
+        None => false,
+    }
+}
+
+/// How many may come after one.
+fn one_less(left: Option<u64>) -> Option<u64>
+    ensures { result ≡ option_map (λ n. n - 1) left }
+{
+    match left {
+        Some(left) => Some(left.saturating_sub(1)),
+        None => None,
+    }
+}
 
 /// The names of the commits that some word includes and none excludes, the newest put first, so many at most. Where that is
 /// asked for, what refs reach is included, too.
@@ -38,13 +137,28 @@ pub fn walk<O: Objects, A: Allocator + Copy>(
     ensures { AnswersLog (O.name_of objects.now) (O.told objects.now) (map shown_range words.now)
         refs most result }
 {
-    objects.sound_if_told();
     let mut room = Vec::new(alloc);
-    let mut wanted = BTreeMap::new(alloc);
-    let mut unwanted = BTreeMap::new(alloc);
-    add_words(alloc, objects, &mut room, words, &mut wanted, &mut unwanted)?;
-    add_asked(alloc, objects, refs, &mut wanted, &mut room)?;
-    let names = told(alloc, objects, &mut wanted, &mut unwanted, most, &mut room)?;
+    let mut walk = CommitWalk::begin(alloc, objects, words, refs, most, &mut room)?;
+    let names = all_names(alloc, objects, &mut walk, &mut room)?;
+    Ok(names)
+}
+
+/// The names of all commits that a walk still lists.
+fn all_names<O: Objects, A: Allocator + Copy>(
+    alloc: A,
+    objects: &O,
+    walk: &mut CommitWalk<A>,
+    room: &mut Vec<u8, A>,
+) -> Result<Vec<Name, A>, LookFault>
+    requires tips { IfTold (O.told objects.now) (AreTipsOf (O.stands objects.now)) walk.old }
+    ensures names { Tells (O.told objects.now) (λ r names.
+        AreAllNames (O.stands objects.now) walk.old r names.items) result }
+    ensures fault { OnlyUntold (O.told objects.now) result }
+{
+    let mut names = Vec::new(alloc);
+    while let Some((name, _commit)) = walk.next(objects, room)? {
+        names.push(name)?;
+    }
     Ok(names)
 }
 

@@ -13,7 +13,7 @@ ghost use Rattle.gx_rev.specs.Views.{shown_range};
 
 use crate::RangeFault;
 use crate::fault::refused;
-use crate::fronts::{add, add_parents, place_of, view_at};
+use crate::fronts::{add, add_parents, place_of};
 use crate::meetings::add_common;
 use gx_object::Name;
 use gx_objects::Objects;

@@ -10,3 +10,4 @@ pub mod CommitLines
 pub mod AnsweredLines
 pub mod AnsweredRevisions
 pub mod AnsweredCommands
+pub mod WalkedCommits

@@ -23,18 +23,21 @@ use Rattle.gx_line.specs.declared.command_line.LogOptions.{LogOptions}
 use Rattle.gx_questions.specs.declared.fault.AskFault.{AskFault}
 use Rattle.gx_questions.specs.declared.fault.AskFault.TheVariants as ask
 use Rattle.gx_ranges.specs.Answers.{AreLogged, RefusesWord}
-use Rattle.gx_print.specs.Logs.{AreCommits, arranged, commits_logged, entries_text, log_text, turned}
+use Rattle.gx_ranges.specs.Listings.{AreTipsOf, StillLists}
+use Rattle.gx_ranges.specs.declared.walking.CommitWalk.{CommitWalk}
+use Rattle.gx_print.specs.Logs.{AreCommits, arranged, commits_logged, entries_text, limited, log_text, turned}
 use Rattle.gx_rev.specs.Objects.{IsHeldAs, commit_at}
 use Rattle.gx_model.proofs.Texts.SentTexts.{took_nothing}
 use Rattle.gx_print.specs.Stored.{all_words}
 use Rattle.gx_print.proofs.ListedCommits.{all_arranged, map_arranged}
 use Rattle.gx_print.proofs.ReadSteps.{nothing_in_front}
 use Rattle.gx_told.specs.Faults.{of_batch, refused_at}
-use Rattle.gx_told.specs.Logging.{LogsFrom, LogsRead, ranges_text}
+use Rattle.gx_told.specs.Logging.{LogsFrom, LogsRead, PrintsWalk, ranges_text}
 use Rattle.gx_told.specs.Printing.{Prints, PrintsText}
 use Rattle.gx_told.specs.declared.fault.ToldFault.{ToldFault}
 use Rattle.gx_told.specs.declared.fault.ToldFault.TheVariants.{OutOfMemory, ReadFailed}
 use Rattle.gx_told.proofs.Prints.{given_text, none_printed}
+use Rattle.gx_told.proofs.Tellings.{both_told, map_told}
 
 module _ (name : Kind → Bytes → Bytes) (options : LogOptions) (r : Records) where
   lines_unread : (A : Type 0) (words lines : List Bytes) (fails : Bool) (was : Option Taken) (fault : BatchFault) → AreRead {A = A} lines fails (Err fault) → LogsRead name options r words fails was was (Err (of_batch fault))
@@ -97,3 +100,23 @@ ranges_refused (Some r) name options ws was word ask.OutOfMemory h = none_printe
 ranges_refused (Some r) name options ws was word ask.ReadFailed h = ([], nothing_in_front (ranges_text name options (history_of r) ws), took_nothing was)
 ranges_refused (Some r) name options ws was word ask.Damaged h = absurd (cc h.1)
 ranges_refused (Some r) name options ws was word (ask.Revision kind) h = (ap (λ g. all_words (g >>= λ cs. Ok (entries_text name options (arranged options cs)))) h, took_nothing was)
+
+-- ---- a walk
+
+module _ {A : Type 0} (name : Kind → Bytes → Bytes) (options : LogOptions) (stands : ℕ → ℕ) (told : Option Records) (ws : List RangeWord) (walk : CommitWalk A) where
+  -- a walk begins with the commits that are logged
+  abbrev Begins : Records → Type 0
+  Begins r = (commits : List Commit) × (commits_logged name (history_of r) options.all ws ≡ Ok commits) × StillLists stands r walk (limited options.max_count commits)
+
+  pub begun_tips : IfSome told Begins → IfSome told (λ r. AreTipsOf stands r walk)
+  begun_tips = map_told told Begins (λ r. AreTipsOf stands r walk) (λ r h. h.2.tips)
+
+  -- what is printed of a walk that isn't turned round is printed of the ranges
+  pub walk_given : options.reverse ≡ false → (was now : Option Taken) (answer : Result (Unit {0}) ToldFault) → IfSome told Begins → IfSome told (λ r. PrintsWalk name stands options walk was now r answer)
+      → IfSome told (λ r. Prints (ranges_text name options (history_of r) ws) was now answer)
+  walk_given e was now answer = both_told told Begins (λ r. PrintsWalk name stands options walk was now r answer) (λ r. Prints (ranges_text name options (history_of r) ws) was now answer) (λ r b k.
+      let commits = b.0 in
+      let same : turned options.reverse (limited options.max_count commits) ≡ limited options.max_count commits = ap (λ t. turned t (limited options.max_count commits)) e in
+      given_text (ranges_text name options (history_of r) ws) (entries_text name options (limited options.max_count commits)) was now answer
+      (ap (λ g. all_words (g >>= λ cs. Ok (entries_text name options (arranged options cs)))) b.1 ∙ ap (λ cs. Ok (entries_text name options cs)) same)
+      (k (limited options.max_count commits) b.2))

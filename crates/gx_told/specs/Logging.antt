@@ -1,9 +1,10 @@
 -- What `log` prints of a store, also where its words come from a source. Source: git-log(1), and git-rev-list(1), `--stdin`.
-use Rattle.std.specs.Prelude.{◌≡◌, Bool, true, false, not, List, [], ◌∷◌, ◌++◌, Option, Some, None, Result, Ok, Err}
+use Rattle.std.specs.Prelude.{◌≡◌, ℕ, Bool, true, false, not, List, [], ◌∷◌, ◌++◌, Option, Some, None, Result, Ok, Err}
 use Rattle.std.specs.List.{flat_map}
 use Rattle.gx_model.specs.declared.objects.Kind.{Kind}
 use Rattle.gx_model.specs.Faults.{◌>>=◌}
 use Rattle.gx_model.specs.Histories.{History, Records}
+use Rattle.gx_model.specs.Histories.Values.{Commit}
 use Rattle.gx_model.specs.Records.HistoryOf.{history_of}
 use Rattle.gx_model.specs.Objects.{hex}
 use Rattle.gx_model.specs.Revisions.{RangeWord}
@@ -19,7 +20,9 @@ use Rattle.gx_line.specs.declared.command_line.LogFormat.TheVariants.{Names}
 use Rattle.gx_line.specs.declared.command_line.LogOptions.{LogOptions}
 use Rattle.gx_print.specs.Logs.{arranged, commits_logged, entries_text, log_text}
 use Rattle.gx_print.specs.Stored.{Printed, all_words}
-use Rattle.gx_told.specs.Printing.{Prints}
+use Rattle.gx_ranges.specs.Listings.{StillLists}
+use Rattle.gx_ranges.specs.declared.walking.CommitWalk.{CommitWalk}
+use Rattle.gx_told.specs.Printing.{Prints, PrintsText}
 use Rattle.gx_told.specs.declared.fault.ToldFault.{ToldFault}
 use Rattle.gx_told.specs.declared.fault.ToldFault.TheVariants.{OutOfMemory, ReadFailed}
 
@@ -41,6 +44,13 @@ module _ (name : Kind → Bytes → Bytes) (options : LogOptions) where
   LogsFrom false repository words coming was now answer = Prints (log_text name options (history_of repository) words) was now answer
   LogsFrom true repository words None was now answer = (c : Coming) × LogsRead repository (words ++ lines_from Lf c) c.fails was now answer
   LogsFrom true repository words (Some c) was now answer = LogsRead repository (words ++ lines_from Lf (heard c)) (heard c).fails was now answer
+
+-- ---- a walk
+
+-- the commits that a walk still lists are printed
+abbrev pub PrintsWalk : {A : Type 0} → (Kind → Bytes → Bytes) → (ℕ → ℕ) → LogOptions → CommitWalk A → Option Taken → Option Taken → Records → Result (Unit {0}) ToldFault → Type 0
+PrintsWalk name stands options walk was now repository result =
+    (commits : List Commit) → StillLists stands repository walk commits → PrintsText (entries_text name options commits) was now result
 
 -- ---- names alone
 

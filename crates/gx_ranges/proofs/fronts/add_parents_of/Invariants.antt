@@ -1,7 +1,7 @@
 use Rattle.std.specs.Prelude.{IfSome}
 use Rattle.gx_ranges.specs.Fronts.{AreBelow}
 use Rattle.gx_ranges.proofs.Steps.{AddsFirst}
-use Rattle.gx_ranges.proofs.fronts.add_parents.Given as goal
+use Rattle.gx_ranges.proofs.fronts.add_parents_of.Given as goal
 
 abbrev pub invariant-loop-number : goal.invariant-loop-number
 invariant-loop-number g l = record {

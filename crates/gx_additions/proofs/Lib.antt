@@ -1,0 +1,3 @@
+mod OldTexts
+mod OtherRefs
+mod Spelled

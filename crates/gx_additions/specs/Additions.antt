@@ -1,0 +1,40 @@
+-- Segments that bring no objects, by the lines of their tails. Source: this project's own format.
+use Rattle.std.specs.Prelude.{◌≡◌, ◌^◌, ℕ, ◌+◌, ◌<◌, List, [], ◌∷◌, ◌++◌, length, drop, codes}
+use Rattle.std.specs.List.{flat_map}
+use Rattle.sha2.specs.Sha256.{sha256}
+use Rattle.gx_model.specs.declared.objects.Kind.{Kind}
+use Rattle.gx_model.specs.Texts.{Bytes}
+use Rattle.gx_model.specs.Histories.{Records}
+use Rattle.gx_model.specs.Records.Sound.{IsSound}
+use Rattle.gx_model.specs.Texts.Numbers.{number_text}
+use Rattle.gx_model.specs.Objects.{line}
+use Rattle.gx_model.specs.Stores.StoreText.{stored_ref}
+use Rattle.gx_growing.specs.GrowingText.{IsGrowingText, Run, Segment, Slot, run_text, segment_text}
+use Rattle.gx_growing.specs.GrowingLaws.{ForEachDigester}
+use Rattle.gx_append.specs.Appending.{Takes}
+
+-- a segment that brings no records and no rows: these are the live runs still
+abbrev pub refs_alone : List Run → List (Bytes × Bytes) → Segment
+refs_alone runs refs = record { records = []; count = 0; table = []; runs = runs; refs = refs }
+
+-- A growing text takes the segment that has its live runs and other refs, which makes it one of the same records with these refs,
+-- where they are sound together.
+pub record RefsAreTaken (name : Kind → Bytes → Bytes) : Type 0 where
+  pub taken : ForEachDigester (λ digest. (text : Bytes) (repository : Records) (old : IsGrowingText name digest text repository)
+      (refs : List (Bytes × Bytes)) → IsSound name (record { records = repository.records; refs = refs }) → length text < 2 ^ 63
+      → old.slot.ends + length (segment_text (refs_alone old.last.runs refs)) < 2 ^ 63
+      → Takes name digest text repository (record { records = repository.records; refs = refs }) old (refs_alone old.last.runs refs))
+
+-- the lines of these runs, with that of their number, and those of so many refs
+pub record AreLines (live : List Run) (named : List (Bytes × Bytes)) (runs : Bytes) (count : ℕ) (refs : Bytes) : Type 0 where
+  pub of_runs : runs ≡ line (codes "runs") (number_text (length live)) ++ flat_map run_text live
+  pub counted : count ≡ length named
+  pub of_refs : refs ≡ flat_map stored_ref named
+
+-- the tail of these lines
+abbrev pub tail_with : Bytes → ℕ → Bytes → Bytes
+tail_with runs count refs = runs ++ (line (codes "refs") (number_text count) ++ (refs ++ (codes "end" ++ 10 ∷ [])))
+
+-- the slot of a segment behind a place, of which 18 bytes stand before its tail
+abbrev pub slot_of : ℕ → Bytes → Slot
+slot_of ends segment = record { ends = (ends + 18) + length (drop 18 segment); tail = ends + 18; digest = sha256 (drop 18 segment) }

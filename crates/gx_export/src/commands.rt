@@ -17,7 +17,7 @@ use gx_text::Sink;
 use itoa::Buffer;
 
 /// Writes a blob under a mark.
-pub(crate) fn write_blob<W: Sink>(
+pub fn write_blob<W: Sink>(
     output: &mut Output<'_, W>,
     mark: u64,
     bytes: &[u8],
@@ -83,7 +83,7 @@ fn write_optional<W: Sink>(
 }
 
 /// Writes the lines of a branch's next commit up to its message, under a mark.
-pub(crate) fn write_commit_head<W: Sink>(
+pub fn write_commit_head<W: Sink>(
     output: &mut Output<'_, W>,
     branch: &[u8],
     mark: u64,
@@ -124,7 +124,7 @@ fn write_authors<W: Sink>(
 }
 
 /// Writes the line of a parent, with its word.
-pub(crate) fn write_parent<W: Sink>(
+pub fn write_parent<W: Sink>(
     output: &mut Output<'_, W>,
     word: &[u8],
     parent: CommitIsh,
@@ -146,10 +146,7 @@ pub(crate) fn write_parent<W: Sink>(
 }
 
 /// Writes a reset to no commit.
-pub(crate) fn write_reset<W: Sink>(
-    output: &mut Output<'_, W>,
-    name: &[u8],
-) -> Result<(), ExportFault>
+pub fn write_reset<W: Sink>(output: &mut Output<'_, W>, name: &[u8]) -> Result<(), ExportFault>
     ensures text { Writes output.old output.new (command_text (to_nothing name.now)) result }
     ensures memory { NeedsNoMemory ExportFault.OutOfMemory result }
 {
@@ -157,7 +154,7 @@ pub(crate) fn write_reset<W: Sink>(
 }
 
 /// Writes a reset to a commit.
-pub(crate) fn write_reset_to<W: Sink>(
+pub fn write_reset_to<W: Sink>(
     output: &mut Output<'_, W>,
     name: &[u8],
     commit: CommitIsh,
@@ -172,7 +169,7 @@ pub(crate) fn write_reset_to<W: Sink>(
 }
 
 /// Writes a tag of a commit.
-pub(crate) fn write_tag<W: Sink>(
+pub fn write_tag<W: Sink>(
     output: &mut Output<'_, W>,
     tag: &TagView<'_>,
     commit: CommitIsh,

@@ -94,7 +94,7 @@ fn write_behind_blobs<N: Namer, A: Allocator + Copy, W: Sink>(
 }
 
 /// Writes the reset of a branch before a commit without parents.
-pub(crate) fn write_root<W: Sink>(
+pub fn write_root<W: Sink>(
     output: &mut Output<'_, W>,
     branch: &[u8],
     commit: &CommitView<'_>,
@@ -157,7 +157,7 @@ fn write_parents<N: Namer, A: Allocator + Copy, W: Sink>(
 }
 
 /// The word of the line of the parent with this number, from 0.
-pub(crate) fn parent_word(number: usize) -> &'static [u8]
+pub fn parent_word(number: usize) -> &'static [u8]
     ensures first { number ≡ 0 → result.now ≡ codes "from" }
     ensures other { number ≢ 0 → result.now ≡ codes "merge" }
 {

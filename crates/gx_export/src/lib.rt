@@ -20,6 +20,14 @@ mod refs;
 mod trees;
 mod written;
 
+pub use commands::{
+    write_blob, write_commit_head, write_parent, write_reset, write_reset_to, write_tag,
+};
+pub use commit::{parent_word, write_root};
 pub use exporting::export;
 pub use exporting_changes::{export_changes, export_range};
 pub use fault::{ExportFault, RangeFault};
+pub use lines::{append_all, end_line, mode_digits};
+pub use naming::CommitIsh;
+pub use output::Output;
+pub use pairs::{Pair, Pairs, is_same, name_in};

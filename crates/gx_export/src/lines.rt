@@ -345,7 +345,7 @@ fn comes_before(path: &[u8], other: &[u8]) -> bool {
 }
 
 /// Appends a path, as it is printed, and the end of its line.
-pub(crate) fn end_line<A: Allocator + Copy>(
+pub fn end_line<A: Allocator + Copy>(
     text: &mut Vec<u8, A>,
     path: &TreePath<A>,
 ) -> Result<(), AllocError>
@@ -359,7 +359,7 @@ pub(crate) fn end_line<A: Allocator + Copy>(
 }
 
 /// Appends the bytes of all parts.
-pub(crate) fn append_all<A: Allocator + Copy>(
+pub fn append_all<A: Allocator + Copy>(
     text: &mut Vec<u8, A>,
     parts: &[&[u8]],
 ) -> Result<(), AllocError>
@@ -372,7 +372,7 @@ pub(crate) fn append_all<A: Allocator + Copy>(
 }
 
 /// The six digits of a mode.
-fn mode_digits(mode: Mode) -> [u8; 6]
+pub fn mode_digits(mode: Mode) -> [u8; 6]
     ensures { result ≡ mode_digits mode }
 {
     match mode {

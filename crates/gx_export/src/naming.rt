@@ -17,7 +17,7 @@ use std::alloc::Allocator;
 
 /// What names a commit in a stream. Source: git-fast-import(1), "from".
 #[derive(Clone, Copy)]
-pub(crate) enum CommitIsh {
+pub enum CommitIsh {
     Marked(u64),
     Named(Name),
 }

@@ -1,6 +1,6 @@
 //! The entries of two trees side by side, so that what differs is found in one pass over both.
 
-ghost use Rattle.std.specs.Prelude.{◌≡◌};
+ghost use Rattle.std.specs.Prelude.{◌≡◌, ◌↔◌, [], IsTrue};
 ghost use Rattle.std.specs.Iterator.{item_count};
 ghost use Rattle.std.specs.Map.Iter.{TakesFirst};
 ghost use Rattle.gx_object.specs.Entries.{mark_of, shown};
@@ -14,14 +14,14 @@ use std::mem::replace;
 
 /// What an old and a new tree have at one component, as files or as directories: an entry of one of them, or of both.
 #[derive(Clone, Copy)]
-pub(crate) struct Pair<'a> {
-    pub(crate) old: Option<Entry<'a>>,
-    pub(crate) new: Option<Entry<'a>>,
+pub struct Pair<'a> {
+    pub old: Option<Entry<'a>>,
+    pub new: Option<Entry<'a>>,
 }
 
 /// The pairs of two trees' entries, in the order that the entries of a tree have. It is seen as the list of those left.
 #[derive(Drop)]
-pub(crate) struct Pairs<'a> {
+pub struct Pairs<'a> {
     old: Option<Entry<'a>>,
     olds: TreeEntries<'a>,
     new: Option<Entry<'a>>,
@@ -41,7 +41,7 @@ impl<'a> Model for Pairs<'a> {
 
 impl<'a> Pairs<'a> {
     /// The pairs of all entries. Takes no memory.
-    pub(crate) fn new(olds: TreeEntries<'a>, news: TreeEntries<'a>) -> Pairs<'a>
+    pub fn new(olds: TreeEntries<'a>, news: TreeEntries<'a>) -> Pairs<'a>
         ensures { result ≡ side_by_side entry_order olds.entry news.entry }
     {
         let mut olds = olds;
@@ -54,6 +54,13 @@ impl<'a> Pairs<'a> {
             new,
             news,
         }
+    }
+
+    /// Whether none is left. Takes no memory.
+    pub fn is_empty(&self) -> bool
+        ensures { IsTrue result ↔ (self.now ≡ []) }
+    {
+        self.old.is_none() && self.new.is_none()
     }
 }
 
@@ -122,7 +129,7 @@ fn mark(mode: Mode) -> &'static [u8]
 }
 
 /// Whether both entries are there and name the same.
-pub(crate) fn is_same(pair: &Pair<'_>) -> bool
+pub fn is_same(pair: &Pair<'_>) -> bool
     ensures { result ≡ is_same (shown_pair pair.now) }
 {
     match pair.old {
@@ -135,7 +142,7 @@ pub(crate) fn is_same(pair: &Pair<'_>) -> bool
 }
 
 /// The name of what an entry names, where there is one.
-pub(crate) fn name_in(entry: &Option<Entry<'_>>) -> Option<Name>
+pub fn name_in(entry: &Option<Entry<'_>>) -> Option<Name>
     ensures { bytes_if result ≡ name_if entry.now }
 {
     match entry {

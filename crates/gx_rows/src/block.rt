@@ -9,7 +9,10 @@ use gx_at::{ReadAt, fill_at};
 use gx_text::Failed;
 
 /// How many rows are read together: as many as 4,096 bytes have.
-pub(crate) const ROWS: u64 = 146;
+const ROWS: u64 = 146;
+
+/// The rows of a table of which a first guess is mostly so near that those read around it have the one that is looked for.
+const FEW: u64 = 5_000;
 
 /// Rows of a table that stand one behind the other.
 #[derive(Drop)]
@@ -61,12 +64,25 @@ impl Block {
         if self.first <= row && row - self.first < self.count {
             return Ok(());
         }
-        let first = row.saturating_sub(ROWS / 2);
-        let count = ROWS.min(table.count - first);
+        let rows = self.rows_at_once(table);
+        let first = row.saturating_sub(rows / 2);
+        let count = rows.min(table.count - first);
         let room = &mut self.bytes[..count as usize * ROW];
         fill_at(source, table.at + 28 * first, room)?;
         self.first = first;
         self.count = count;
         Ok(())
+    }
+
+    /// How many rows of a table are read at once. The first of a large one is read alone: it only tells where to read next.
+    fn rows_at_once(&self, table: Table) -> u64
+        ensures some { 0 < result }
+        ensures few { result ≤ 146 }
+    {
+        if self.count == 0 && table.count > FEW {
+            1
+        } else {
+            ROWS
+        }
     }
 }

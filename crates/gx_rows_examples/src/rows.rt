@@ -61,11 +61,8 @@ fn each_row_is_found_however_reads_are_cut(rt: HostRuntime) -> Result<(), Fail> 
     Ok(())
 }
 
-/// The most reads that the look-up of one of these numbers takes, of those at places that are a step apart; none where one isn't
-/// found.
-fn most_reads(text: &[u8], numbers: &[u64], step: usize) -> Option<u64>
-    requires { 0 < step }
-{
+/// How many reads the look-up of a number takes; none where it isn't found.
+fn reads_of(text: &[u8], number: u64) -> Option<u64> {
     let reads = Cell::new(0);
     let source = Counted {
         text: TextAt {
@@ -75,53 +72,58 @@ fn most_reads(text: &[u8], numbers: &[u64], step: usize) -> Option<u64>
         reads: &reads,
         most: u64::MAX,
     };
-    let mut most = 0;
+    let _found = find_row(&source, whole(text), &name_of(number)).ok()??;
+    Some(reads.get())
+}
+
+/// The fewest and the most reads that look-ups of these numbers take, of those a step apart. The first one is left out: its row is
+/// the first guess.
+fn reads_of_each(text: &[u8], numbers: &[u64], step: usize) -> Option<(u64, u64)>
+    requires { 0 < step }
+{
+    let mut ends = (u64::MAX, 0);
     for (row, number) in numbers.iter().enumerate() {
-        if row % step == 0 {
-            reads.set(0);
-            let _found = find_row(&source, whole(text), &name_of(*number)).ok()??;
-            most = reads.get().max(most);
+        if row > 0 && row % step == 0 {
+            let reads = reads_of(text, *number)?;
+            ends = (reads.min(ends.0), reads.max(ends.1));
         }
     }
-    Some(most)
+    Some(ends)
 }
 
-/// Whether a number is there, and between two.
-fn is_within(number: Option<u64>, least: u64, most: u64) -> bool {
-    match number {
-        Some(number) => least <= number && number <= most,
-        None => false,
-    }
-}
-
-/// The most reads of look-ups among so many rows.
-fn reads_among(alloc: Global, count: usize, step: usize) -> Option<u64>
+/// The fewest and the most reads of look-ups among so many rows.
+fn reads_among(alloc: Global, count: usize, step: usize) -> Option<(u64, u64)>
     requires { 0 < step }
 {
     let numbers = spread(alloc, count)?;
     let text = table_of(alloc, &numbers)?;
-    most_reads(&text, &numbers, step)
+    reads_of_each(&text, &numbers, step)
 }
 
 #[test]
-fn two_reads_find_a_row_of_three_hundred_thousand(rt: HostRuntime) {
-    assert!(rt; reads_among(rt.alloc(), 300_000, 7) == Some(2));
-    assert!(rt; reads_among(rt.alloc(), 73, 1) == Some(1));
+fn reads_do_not_grow_with_the_table(rt: HostRuntime) {
+    for count in [73, 1_000, 4_000] {
+        assert!(rt; reads_among(rt.alloc(), count, 1) == Some((1, 1)));
+    }
+    for count in [5_001, 20_000, 300_000] {
+        assert!(rt; reads_among(rt.alloc(), count, 7) == Some((2, 2)));
+    }
 }
 
-/// The most reads among names that all begin alike, as they may be made to.
-fn reads_among_like_names(alloc: Global, count: u64) -> Option<u64> {
+/// Whether look-ups among names that all begin alike, as they may be made to, take at most so many reads.
+fn like_names_take_at_most(alloc: Global, count: u64, most: u64) -> Option<bool> {
     let mut numbers = Vec::new(alloc);
     for number in 0..count {
         numbers.push(number).ok()?;
     }
     let text = table_of(alloc, &numbers)?;
-    most_reads(&text, &numbers, 11)
+    let (_, reads) = reads_of_each(&text, &numbers, 11)?;
+    Some(reads <= most)
 }
 
 #[test]
 fn names_that_begin_alike_take_few_reads(rt: HostRuntime) {
-    assert!(rt; is_within(reads_among_like_names(rt.alloc(), 100_000), 1, 12 + 17));
+    assert!(rt; like_names_take_at_most(rt.alloc(), 100_000, 12 + 17) == Some(true));
 }
 
 /// How many of the rows of 10, 20 and 30 stand before a number, and the numbers of the two rows behind these.

@@ -1,8 +1,10 @@
 -- The files of held trees, by the names of what they hold, and what differs between them.
-use Rattle.std.proofs.Common.{◌≡◌, ◌≢◌, ◌∙◌, List, [], ◌++◌, map, Option, Some, None, IsTrue, refl, sym, ap, subst}
+use Rattle.std.proofs.Common.{◌≡◌, ◌≢◌, ◌∙◌, List, [], ◌∷◌, ◌++◌, map, Option, Some, None, IsTrue, refl, sym, ap, subst}
 use Rattle.std.specs.Prelude.{IfSome}
+use Rattle.std.specs.List.{AllByRecursion}
 use Rattle.gx_model.specs.declared.objects.Kind.{Kind}
 use Rattle.gx_model.specs.declared.objects.Kind.TheVariants as kind
+use Rattle.gx_model.specs.declared.objects.Mode.TheVariants.{Dir}
 use Rattle.gx_model.specs.Changes.{changed_files, gone_paths}
 use Rattle.gx_model.specs.Histories.Files.{FileMap}
 use Rattle.gx_model.specs.Histories.Values.{blobs_of, sub_maps, tree_value}
@@ -11,7 +13,7 @@ use Rattle.gx_model.specs.Objects.{IsNamer}
 use Rattle.gx_model.specs.Objects.NameMaps.{AreFiles, IsHeldTree}
 use Rattle.gx_model.specs.Records.{name_of, named_map}
 use Rattle.gx_model.specs.Records.HistoryOf.{files_of_tree, history_of, value_of_name}
-use Rattle.gx_model.specs.Records.Sound.{IsSound}
+use Rattle.gx_model.specs.Records.Sound.{IsHeldAs, IsSound}
 use Rattle.gx_model.specs.Texts.{Bytes}
 use Rattle.gx_model.specs.Texts.Paths.{Path}
 use Rattle.gx_model.proofs.ObjectTexts.OneTree.{all_left}
@@ -26,11 +28,12 @@ use Rattle.gx_object.specs.Parts.{bytes_if}
 use Rattle.gx_rev.specs.Objects.{files_at}
 use Rattle.gx_tree.specs.Lists.{below}
 use Rattle.gx_tree.proofs.Listed.{below_root}
+use Rattle.gx_tree.proofs.NamedFiles.{each-filter}
 use Rattle.gx_export.specs.Compared.{IsBelowIf, IsTreeIf, paths_below}
 use Rattle.gx_export.specs.FileTexts.{IsTreeBelow}
 use Rattle.gx_export.proofs.Gathering.{whole_tree}
 use Rattle.gx_export.proofs.NamedChanges.{paths_root}
-use Rattle.gx_differences.specs.Differences.{AddsFile, AreDifferences, AreTrees, ComparesTrees, names_if, shown_files}
+use Rattle.gx_differences.specs.Differences.{AddsFile, AreDifferences, AreTrees, ComparesTrees, HaveFiles, IsHeldFile, names_if, shown_files}
 use Rattle.gx_differences.specs.declared.differences.Differences.{Differences}
 use Rattle.gx_differences.proofs.Told.{both_told}
 
@@ -58,6 +61,18 @@ module _ (name : Kind → Bytes → Bytes) (namer : IsNamer name) (r : Records) 
   root_if : (t : Option Name) → IsTreeIf r t → IsBelowIf name r 4095 [] (bytes_if t) (names_if name r t)
   root_if None h = refl
   root_if (Some t) h = root_held t h
+
+  -- what its files name is held
+  files_held : (t : Option Name) → IsTreeIf r t → AllByRecursion (IsHeldFile r) (names_if name r t)
+  files_held None h = tt
+  files_held (Some t) h =
+      let f = files_at r t in
+      let m = files_named name namer r sound f (named_map name f) (tree_files f (tree_stands name namer r sound t.bytes h).1) in
+      by (named_map name f) m.files m.held
+    where
+      by : (es : FileMap Bytes) → AllByRecursion (λ e. e.1.0 ≢ Dir) es → AllByRecursion (λ e. IsHeldAs r.records e.1.0 e.1.1) es → AllByRecursion (IsHeldFile r) es
+      by [] h k = tt
+      by (e ∷ es) h k = (record { file = h.0; held = k.0 }, by es h.1 k.1)
 
 module _ (name : Kind → Bytes → Bytes) (namer : IsNamer name) (told : Option Records) (old new : Option Name) (front : Path) (root : front ≡ []) where
   pub roots_told : IfSome told (IsSound name) → IfSome told (λ r. IsTreeIf r old) → IfSome told (λ r. IsTreeIf r new) → IfSome told (AreTrees name 4095 front (bytes_if old) (bytes_if new))
@@ -93,3 +108,10 @@ module _ (name : Kind → Bytes → Bytes) (namer : IsNamer name) (told : Option
             gone = a.paths ∙ ap (λ t. t ++ paths_below front (gone_paths f k)) g ∙ ap (λ p. paths_below p (gone_paths f k)) root ∙ paths_root (gone_paths f k);
             changed = a.files ∙ ap (λ t. shown_files t ++ below front (changed_files f k)) h ∙ ap (λ p. below p (changed_files f k)) root ∙ below_root (changed_files f k);
           }
+
+  pub roots_held : {A : Type 0} (found : Differences A) → IfSome told (IsSound name) → IfSome told (λ r. IsTreeIf r new) → IfSome told (λ r. AreDifferences name old new r found) → IfSome told (HaveFiles found.files.items)
+  roots_held found = by told
+    where
+      by : (told : Option Records) → IfSome told (IsSound name) → IfSome told (λ r. IsTreeIf r new) → IfSome told (λ r. AreDifferences name old new r found) → IfSome told (HaveFiles found.files.items)
+      by None s n d = tt
+      by (Some r) s n d = subst (AllByRecursion (IsHeldFile r)) (sym d.changed) (each-filter (IsHeldFile r) _ (names_if name r new) (files_held name namer r s new n))

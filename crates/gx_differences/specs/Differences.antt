@@ -2,6 +2,7 @@
 use Rattle.std.specs.Prelude.{◌≡◌, ◌≢◌, ◌++◌, ◌∷◌, ℕ, List, [], map, Option, Some, None, IsTrue, ⊤}
 use Rattle.std.specs.List.{AllByRecursion}
 use Rattle.gx_model.specs.declared.objects.Kind.{Kind}
+use Rattle.gx_model.specs.declared.objects.Mode.TheVariants.{Dir}
 use Rattle.gx_model.specs.Changes.{changed_files, gone_paths}
 use Rattle.gx_model.specs.Histories.Files.{FileMap, Leaf}
 use Rattle.gx_model.specs.Histories.{Records}
@@ -34,9 +35,13 @@ pub record AreDifferences {A : Type 0} (name : Kind → Bytes → Bytes) (old ne
   pub gone : found.gone.items ≡ gone_paths (names_if name repository old) (names_if name repository new)
   pub changed : shown_files found.files.items ≡ changed_files (names_if name repository old) (names_if name repository new)
 
--- what each of these files names is held
+-- what a file names is held, and it is no directory
+pub record IsHeldFile (repository : Records) (e : Path × Leaf Bytes) : Type 0 where
+  pub file : e.1.0 ≢ Dir
+  pub held : IsHeldAs repository.records e.1.0 e.1.1
+
 abbrev pub HaveFiles : {A : Type 0} → List (ChangedFile A) → Records → Type 0
-HaveFiles changed repository = AllByRecursion (λ e. IsHeldAs repository.records e.1.0 e.1.1) (shown_files changed)
+HaveFiles changed repository = AllByRecursion (IsHeldFile repository) (shown_files changed)
 
 -- ---- what is added
 

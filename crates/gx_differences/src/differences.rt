@@ -7,7 +7,7 @@ ghost use Rattle.gx_text.specs.TreePaths.{is_path};
 ghost use Rattle.gx_export.specs.Compared.{IsTreeIf, entries_if, file_if, or_other, path_unless};
 ghost use Rattle.gx_export.specs.Pairs.{is_same, shown_pair};
 ghost use Rattle.gx_questions.specs.Answers.{IsOfTold, RefusesUntold};
-ghost use Rattle.gx_differences.specs.Differences.{AddsFile, AreDifferences, ArePair, AreTrees, ComparesPair, ComparesTrees, IsNoChild};
+ghost use Rattle.gx_differences.specs.Differences.{AddsFile, AreDifferences, ArePair, AreTrees, ComparesPair, ComparesTrees, HaveFiles, IsNoChild};
 
 use gx_export::{Pair, Pairs, is_same, name_in};
 use gx_object::{Entry, Mode, Name, TreeEntries, held_tree};
@@ -47,6 +47,7 @@ pub fn compare<O: Objects, A: Allocator + Copy>(
     requires new { IfSome (O.told objects.now) (λ r. IsTreeIf r new) }
     ensures found { IsOfTold (O.told objects.now)
         (AreDifferences (O.name_of objects.now) old new) result }
+    ensures held { IsOfTold (O.told objects.now) (λ r found. HaveFiles found.files.items r) result }
     ensures fault { RefusesUntold (O.told objects.now) result }
 {
     objects.sound_if_told();

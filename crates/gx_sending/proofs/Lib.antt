@@ -1,1 +1,4 @@
 pub mod Sending
+mod Marks
+mod Blobs
+mod Lines

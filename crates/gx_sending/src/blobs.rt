@@ -10,9 +10,8 @@ ghost use Rattle.gx_sending.specs.Faults.{IsOnTheWay};
 ghost use Rattle.gx_sending.specs.Files.{blobs_at};
 ghost use Rattle.gx_sending.specs.Marks.{AddsBlobs, HasWritten, IsWritten};
 
-use crate::SendFault;
+use crate::{SendFault, Written};
 use gx_differences::ChangedFile;
-use crate::Written;
 use gx_export::write_blob;
 use gx_object::{Kind, Mode, Name};
 use gx_objects::Objects;
@@ -37,6 +36,7 @@ pub fn write_blobs<O: Objects, A: Allocator + Copy, W: Sink>(
         → AddsBlobs ws (blobs_at r files.now) written.old written.new result r) }
     ensures fault { IsOnTheWay (O.told objects.now) result }
 {
+    objects.sound_if_told();
     for file in files {
         if file.mode != Mode::Gitlink {
             write_blob_once(objects, room, written, &file.name)?;

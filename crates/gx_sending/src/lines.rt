@@ -1,21 +1,22 @@
 //! The lines of what differs between a commit's files and those of its first parent.
 
 ghost use Rattle.std.specs.Prelude.{◌≡◌, ◌++◌, ◌∷◌, [], List, OnOk};
+ghost use Rattle.gx_model.specs.declared.objects.Kind.{Kind};
 ghost use Rattle.gx_model.specs.declared.objects.Mode.TheVariants.{Gitlink};
 ghost use Rattle.gx_model.specs.Export.{items_text, mark_text};
 ghost use Rattle.gx_model.specs.Histories.Values.{Value};
 ghost use Rattle.gx_model.specs.Histories.{Records};
-ghost use Rattle.gx_export.specs.ChangedParts.{differing_lines};
-ghost use Rattle.gx_export.specs.Compared.{gone_items};
 ghost use Rattle.gx_model.specs.Objects.{hex};
+ghost use Rattle.gx_model.specs.Texts.{Bytes};
 ghost use Rattle.gx_model.specs.Texts.Paths.{path_text, printed};
+ghost use Rattle.gx_export.specs.ChangedParts.{differing_lines};
+ghost use Rattle.gx_export.specs.Compared.{gone_items, gone_text};
 ghost use Rattle.gx_export.specs.Texts.{file_items, file_line};
 ghost use Rattle.gx_sending.specs.Files.{AreShown, PutsFile, contents_at};
 ghost use Rattle.gx_sending.specs.Marks.{Adds, HasWritten};
 
-use crate::SendFault;
+use crate::{SendFault, Written};
 use gx_differences::{ChangedFile, Differences};
-use crate::Written;
 use gx_export::{append_all, end_line, mode_digits};
 use gx_object::Mode;
 use gx_text::{Sink, TreePath};
@@ -31,9 +32,9 @@ pub fn write_differences<A: Allocator + Copy, W: Sink>(
     written: &mut Written<'_, W, A>,
     found: &Differences<A>,
 ) -> Result<(), SendFault>
-    ensures adds { (r : Records) (ws : List Value)
+    ensures { (name : Kind → Bytes → Bytes) (r : Records) (ws : List Value)
         → HasWritten r ws written.old
-        → AreShown ws r found.now.files.items
+        → AreShown name ws r found.now.files.items
         → Adds ws (differing_lines ws found.now.gone.items (contents_at r found.now.files.items))
         written.old written.new result r }
 {
@@ -50,16 +51,26 @@ fn write_gone<A: Allocator + Copy, W: Sink>(
     line: &mut Vec<u8, A>,
     gone: &[TreePath<A>],
 ) -> Result<(), SendFault>
-    ensures adds { (r : Records) (ws : List Value) → HasWritten r ws written.old
+    ensures { (r : Records) (ws : List Value) → HasWritten r ws written.old
         → Adds ws (gone_items gone.now) written.old written.new result r }
 {
     for path in gone {
         line.clear();
-        append_all(line, &[b"D ".as_slice()])?;
-        end_line(line, path)?;
+        put_gone(line, path)?;
         written.output.write(line)?;
     }
     Ok(())
+}
+
+/// Appends the line of a file that is gone.
+fn put_gone<A: Allocator + Copy>(
+    line: &mut Vec<u8, A>,
+    path: &TreePath<A>,
+) -> Result<(), AllocError>
+    ensures { OnOk result (line.new.items ≡ line.old.items ++ gone_text (path.now ∷ [])) }
+{
+    append_all(line, &[b"D ".as_slice()])?;
+    end_line(line, path)
 }
 
 /// Writes the lines of files, likewise.
@@ -68,9 +79,9 @@ fn write_files<A: Allocator + Copy, W: Sink>(
     line: &mut Vec<u8, A>,
     files: &[ChangedFile<A>],
 ) -> Result<(), SendFault>
-    ensures adds { (r : Records) (ws : List Value)
+    ensures { (name : Kind → Bytes → Bytes) (r : Records) (ws : List Value)
         → HasWritten r ws written.old
-        → AreShown ws r files.now
+        → AreShown name ws r files.now
         → Adds ws (file_items ws (contents_at r files.now)) written.old written.new result r }
 {
     for file in files {
@@ -87,8 +98,9 @@ fn put_file<A: Allocator + Copy, W: Sink>(
     line: &mut Vec<u8, A>,
     file: &ChangedFile<A>,
 ) -> Result<(), SendFault>
-    ensures line { (r : Records) (ws : List Value)
-        → HasWritten r ws written.now → AreShown ws r (file.now ∷ [])
+    ensures { (name : Kind → Bytes → Bytes) (r : Records) (ws : List Value)
+        → HasWritten r ws written.now
+        → AreShown name ws r (file.now ∷ [])
         → PutsFile ws r file.now line.old.items line.new.items result }
 {
     if file.mode == Mode::Gitlink {

@@ -19,5 +19,5 @@ returns-clause-held g c =
     let o = c.args.objects.now in
     let s = c.sound_if_told.ensures in
     let found = roots_differ (g.O.Objects.name_of o) s.namer (g.O.Objects.told o) c.args.old c.args.new c.root-root.result c.root-root.ensures (record { gone = c.new.result; files = c.new-2.result }) c.compare_trees.new.found
-        c.new.ensures.items c.new-2.ensures.items s.sound c.requires.old c.requires.new c.in_ok-compare_trees.ensures.found in
+    c.new.ensures.items c.new-2.ensures.items s.sound c.requires.old c.requires.new c.in_ok-compare_trees.ensures.found in
     roots_held (g.O.Objects.name_of o) s.namer (g.O.Objects.told o) c.args.old c.args.new c.root-root.result c.root-root.ensures c.compare_trees.new.found s.sound c.requires.new found

@@ -1,0 +1,4 @@
+pub mod Ranks
+pub mod Tips
+pub mod Found
+pub mod Told

@@ -1,0 +1,1 @@
+use Rattle.gx_branches.proofs.ranks.ranks_of.Goals as goal

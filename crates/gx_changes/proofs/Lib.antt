@@ -1,0 +1,6 @@
+mod Told
+mod OwnFiles
+mod Commits
+mod Refs
+mod Texts
+mod Finding

@@ -118,11 +118,11 @@ module _ {W A B : Type 0} (name : Kind → Bytes → Bytes) (closed : Bool) (com
     opening_stops None e k = tt
     opening_stops (Some r) e k = opening_fails name closed (commits_sent r commits) (targets r refs) r old (none r) after e k
 
-    module _ (open : Writes old.output after (items_text (opening closed)) (Ok tt)) where
+    module _ (gone : Writes old.output after (items_text (opening closed)) (Ok tt)) where
       -- nothing was written behind the first line
       pub still_none : (told : Option Records) → IfSome told (λ r. HasWritten r [] (record old { output = after }))
       still_none None = tt
-      still_none (Some r) = (adds_bytes r [] (opening closed) old after (none r) open).written
+      still_none (Some r) = (adds_bytes r [] (opening closed) old after (none r) gone).written
 
       -- the commits go out, whatever refs they are on
       abbrev pub AddsCommits : Option Records → Written W A → Result (Unit {0}) SendFault → Type 0
@@ -131,14 +131,14 @@ module _ {W A B : Type 0} (name : Kind → Bytes → Bytes) (closed : Bool) (com
 
       pub commits_stop_told : (told : Option Records) (new : Written W A) (e : SendFault) → IfSome told (λ r. FindsBranches refs commits r branches) → AddsCommits told new (Err e) → AddsAll told new (Err e)
       commits_stop_told None new e b k = tt
-      commits_stop_told (Some r) new e b k = commits_stop name closed (commits_sent r commits) (targets r refs) r old (none r) after open new e (k refs b)
+      commits_stop_told (Some r) new e b k = commits_stop name closed (commits_sent r commits) (targets r refs) r old (none r) after gone new e (k refs b)
 
       pub behind_told : (told : Option Records) (last new : Written W A) (result : Result (Unit {0}) SendFault) → IfSome told (λ r. FindsBranches refs commits r branches) → AddsCommits told last (Ok tt)
           → IfSome told (λ r. (commits : List Name) → FindsBranches refs commits r branches → (ws : List Value) → HasWritten r ws last → Adds ws (behind_items name closed (commits_sent r commits) (targets r refs) ws) last new result r) → AddsAll told new result
       behind_told None last new result b k h = tt
       behind_told (Some r) last new result b k h =
           let c = k refs b in
-          behind_out name closed (commits_sent r commits) (targets r refs) r old (none r) after open last new result c (h commits b (all_changes (commits_sent r commits)) c.written)
+          behind_out name closed (commits_sent r commits) (targets r refs) r old (none r) after gone last new result c (h commits b (all_changes (commits_sent r commits)) c.written)
 
 -- ---- commits, the last of them first
 

@@ -1,4 +1,4 @@
 pub mod Sending
 mod Marks
-mod Blobs
-mod Lines
+mod SentBlobs
+mod SentLines

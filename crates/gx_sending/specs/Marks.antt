@@ -1,5 +1,5 @@
 -- The values that were written, with their marks by the names of their objects.
-use Rattle.std.specs.Prelude.{◌≡◌, ◌≢◌, ◌<◌, ◌≤◌, ◌∷◌, ℕ, if◌then◌else◌, List, length, Option, Some, None, Result, IfErr, OnOk}
+use Rattle.std.specs.Prelude.{◌≡◌, ◌≢◌, ◌<◌, ◌≤◌, ◌+◌, ◌∷◌, ℕ, if◌then◌else◌, List, length, Option, Some, None, Result, IfErr, OnOk}
 use Rattle.std.specs.BTreeMap.{get}
 use Rattle.gx_model.specs.declared.objects.Kind.{Kind}
 use Rattle.gx_model.specs.declared.objects.Kind.TheVariants as kinds

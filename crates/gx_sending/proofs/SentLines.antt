@@ -12,27 +12,32 @@ use Rattle.gx_model.specs.Histories.{Records, is_in}
 use Rattle.gx_model.specs.Objects.{hex}
 use Rattle.gx_model.specs.Records.HistoryOf.{bytes_of_blob, contents_of, named_values}
 use Rattle.gx_model.specs.Streams.Commands.{Remove}
-use Rattle.gx_model.specs.Streams.Items.{Item}
+use Rattle.gx_model.specs.Streams.Items.{Item, Line}
 use Rattle.gx_model.specs.Texts.{Bytes}
 use Rattle.gx_model.specs.Texts.Paths.{Path, path_text, printed}
 use Rattle.gx_model.proofs.ObjectTexts.OneTree.{all_left, all_right}
 use Rattle.gx_model.proofs.Records.HeldValues.{holds_held, kind_held}
 use Rattle.gx_rev.specs.Objects.{IsHeldAs, value_at}
+use Rattle.gx_export.specs.ChangedParts.{differing_lines}
 use Rattle.gx_export.specs.Compared.{gone_items}
 use Rattle.gx_export.specs.FileTexts.{AreWritten}
+use Rattle.gx_export.specs.Outputs.{Sent, Writes}
 use Rattle.gx_export.specs.Texts.{file_items, file_line}
+use Rattle.gx_export.specs.declared.fault.ExportFault.{ExportFault}
 use Rattle.gx_export.proofs.BlobLists.{one_bytes}
 use Rattle.gx_export.proofs.CommitLines.{file_dataref, file_held}
 use Rattle.gx_export.proofs.FileLines.{lines_append, one_line}
 use Rattle.gx_export.proofs.Numbering.{blob_is}
 use Rattle.gx_differences.specs.Differences.{shown_files}
 use Rattle.gx_differences.specs.declared.differences.ChangedFile.{ChangedFile}
+use Rattle.gx_sending.specs.Faults.{of_export}
 use Rattle.gx_sending.specs.Files.{AreShown, blobs_at, contents_at}
-use Rattle.gx_sending.specs.Marks.{HasWritten, mark_at, mark_in}
+use Rattle.gx_sending.specs.Marks.{Adds, HasWritten, mark_at, mark_in}
+use Rattle.gx_sending.specs.declared.fault.SendFault.{SendFault}
 use Rattle.gx_sending.specs.declared.written.Written.{Written}
-use Rattle.gx_sending.proofs.Blobs.{blobs_behind, held_file}
+use Rattle.gx_sending.proofs.SentBlobs.{blobs_behind, held_file}
 use Rattle.gx_sending.proofs.Marks.{mark_is, no_mark}
-use Rattle.gx_sending.proofs.Sending.{listed_parts}
+use Rattle.gx_sending.proofs.Sending.{adds_bytes, adds_later, listed_parts, sink_fails, stops_sooner}
 
 -- ---- what is gone
 
@@ -90,3 +95,29 @@ module _ {A : Type 0} (r : Records) (ws : List Value) where
           let number = mark_is ws (blob_value (bytes_of_blob (value_at r f.name))) mark (e ∙ mark_here) in
           ap (λ t. file_line f.mode t (printed (path_text f.path)) ∷ []) (ap mark_text number ∙ sym (file_dataref named ws f.mode f.name.bytes link s.held.0.file))
           ∙ sym (one_line named ws f.path f.mode f.name.bytes s.held.0.file)
+
+-- ---- all lines of a commit's differences
+
+module _ {W A : Type 0} (r : Records) (ws : List Value) (gone : List Path) (files : List (ChangedFile A)) (old : Written W A) where
+  abbrev all_lines : List Item
+  all_lines = differing_lines ws gone (contents_at r files)
+
+  abbrev ending : List Item
+  ending = Line [] ∷ []
+
+  pub gone_stops : (new : Written W A) (e : SendFault) → Adds ws (gone_items gone) old new (Err e) r → Adds ws all_lines old new (Err e) r
+  gone_stops new e h = stops_sooner r ws ws (gone_items gone) (lines_at r ws files ++ ending) old new e h
+
+  module _ (mid : Written W A) (h : Adds ws (gone_items gone) old mid (Ok tt) r) where
+    pub files_stop : (new : Written W A) (e : SendFault) → Adds ws (lines_at r ws files) mid new (Err e) r → Adds ws all_lines old new (Err e) r
+    files_stop new e k = adds_later r ws ws (gone_items gone) (lines_at r ws files ++ ending) old mid new (Err e) h (stops_sooner r ws ws (lines_at r ws files) ending mid new e k)
+
+    module _ (last : Written W A) (k : Adds ws (lines_at r ws files) mid last (Ok tt) r) (after : Sent) where
+      behind : (new : Written W A) (result : Result (Unit {0}) SendFault) → Adds ws ending last new result r → Adds ws all_lines old new result r
+      behind new result l = adds_later r ws ws (gone_items gone) (lines_at r ws files ++ ending) old mid new result h (adds_later r ws ws (lines_at r ws files) ending mid last new result k l)
+
+      pub end_fails : (e : ExportFault) → Writes last.output after (10 ∷ []) (Err e) → Adds ws all_lines old (record last { output = after }) (Err (of_export e)) r
+      end_fails e w = behind (record last { output = after }) (Err (of_export e)) (sink_fails r ws ending last after e w)
+
+      pub all_sent : Writes last.output after (10 ∷ []) (Ok tt) → Adds ws all_lines old (record last { output = after }) (Ok tt) r
+      all_sent w = behind (record last { output = after }) (Ok tt) (adds_bytes r ws ending last after k.written w)

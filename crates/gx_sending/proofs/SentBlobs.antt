@@ -107,11 +107,11 @@ pub untold : (told : Option Records) (P : Records → Type 0) → told ≡ None 
 untold told P e = subst (λ t. IfSome t P) (sym e) tt
 
 -- a question's fault
-pub ask_told : {X : Type 0} (told : Option Records) (e : AskFault) → RefusesUntold {X = X} told (Err e) → IsOnTheWay {X = Unit {0}} told (Err (of_ask e))
-ask_told told ask.OutOfMemory h = tt
-ask_told told ask.ReadFailed h = tt
-ask_told told ask.Damaged h = h
-ask_told told (ask.Revision f) h = absurd h
+pub ask_told : (X : Type 0) (told : Option Records) (e : AskFault) → RefusesUntold {X = X} told (Err e) → IsOnTheWay {X = Unit {0}} told (Err (of_ask e))
+ask_told X told ask.OutOfMemory h = tt
+ask_told X told ask.ReadFailed h = tt
+ask_told X told ask.Damaged h = h
+ask_told X told (ask.Revision f) h = absurd h
 
 module _ {W A : Type 0} (name : Kind → Bytes → Bytes) (namer : IsNamer name) (n : Name) (old : Written W A) where
   abbrev AddsOne : Option Records → Written W A → Result (Unit {0}) SendFault → Type 0
@@ -121,12 +121,12 @@ module _ {W A : Type 0} (name : Kind → Bytes → Bytes) (namer : IsNamer name)
   one_stays None found s k e b = tt
   one_stays (Some r) found s k e b = λ ws h. blob_stays name namer r s n k ws old h (was_written name namer r s n k ws old h found e ∙ b)
 
-  pub one_asked : {X : Type 0} (told : Option Records) (e : AskFault) → RefusesUntold {X = X} told (Err e) → AddsOne told old (Err (of_ask e))
-  one_asked None e h = tt
-  one_asked (Some r) ask.OutOfMemory h = λ ws k. stops_here r _ _ old OutOfMemory (λ q. cc q) refl
-  one_asked (Some r) ask.ReadFailed h = λ ws k. stops_here r _ _ old ReadFailed (λ q. cc q) refl
-  one_asked (Some r) ask.Damaged h = absurd (cc h)
-  one_asked (Some r) (ask.Revision f) h = absurd h
+  pub one_asked : (X : Type 0) (told : Option Records) (e : AskFault) → RefusesUntold {X = X} told (Err e) → AddsOne told old (Err (of_ask e))
+  one_asked X None e h = tt
+  one_asked X (Some r) ask.OutOfMemory h = λ ws k. stops_here r _ _ old OutOfMemory (λ q. cc q) refl
+  one_asked X (Some r) ask.ReadFailed h = λ ws k. stops_here r _ _ old ReadFailed (λ q. cc q) refl
+  one_asked X (Some r) ask.Damaged h = absurd (cc h)
+  one_asked X (Some r) (ask.Revision f) h = absurd h
 
   module _ (object : Object) (mark : ℕ) (next : IsNextMark old mark) (found : Option ℕ) (at : found ≡ mark_at old n.bytes) (none : is_some found ≡ false) (after : Sent) where
     body_is : (r : Records) → IsSound name r → IsHeldAs kinds.Blob r n → IsObjectAt name n r object → object.body.now ≡ bytes_of_blob (value_at r n)

@@ -10,7 +10,7 @@ use crate::ChangesFault;
 use gx_object::Name;
 use gx_objects::{LookFault, Objects};
 use gx_rev::Range;
-use gx_tips::{Spans, Tip, tips};
+use gx_tips::{Spans, Tip, tips_of};
 use std::alloc::Allocator;
 
 /// The refs whose commits range words include or exclude, and the commits that some word includes and none excludes, the newest
@@ -48,7 +48,7 @@ fn found_in<'a, O: Objects, A: Allocator + Copy>(
     ensures found { Tells (O.told objects.now) (IsFoundIn (O.stands objects.now) spans) result }
     ensures fault { OnlyUntold (O.told objects.now) result }
 {
-    let all = tips(alloc, objects, room, objects.ref_lines(lines)?)?;
+    let all = tips_of(alloc, objects, room, objects.ref_lines(lines)?)?;
     let refs = spans.reached(alloc, objects, room, &all)?;
     let commits = spans.listed(alloc, objects, room)?;
     Ok(Sent { refs, commits })

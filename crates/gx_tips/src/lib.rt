@@ -6,4 +6,4 @@ mod spans;
 mod tips;
 
 pub use spans::Spans;
-pub use tips::{Tip, tips};
+pub use tips::{Tip, tips_of};

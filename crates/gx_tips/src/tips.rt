@@ -24,7 +24,7 @@ pub struct Tip<'a> {
 /// Cost: for each its line, its object, and a look-up of its commit's place. Takes memory for the refs. What is in the room
 /// before and after stands for nothing.
 /// Source: git-show-ref(1), and gitrevisions(7), "<rev>^{}".
-pub fn tips<'a, O: Objects, A: Allocator + Copy>(
+pub fn tips_of<'a, O: Objects, A: Allocator + Copy>(
     alloc: A,
     objects: &O,
     room: &mut Vec<u8, A>,

@@ -1,6 +1,6 @@
 -- What stands at one component of two trees of the repository that is told, by the entry that is chosen.
-use Rattle.std.proofs.Common.{◌≡◌, ◌≢◌, ◌∙◌, ℕ, ◌-◌, ◌<◌, ◌≤◌, List, [], ◌∷◌, ◌++◌, map, length, Option, Some, None, Err, IsTrue, refl, sym, ap, subst, arith}
-use Rattle.std.specs.Prelude.{IfSome, false, ⊤}
+use Rattle.std.proofs.Common.{◌≡◌, ◌≢◌, ◌∙◌, ℕ, ◌-◌, ◌≤◌, [], ◌∷◌, ◌++◌, map, length, Option, Some, None, IsTrue, sym, ap, subst, arith}
+use Rattle.std.specs.Prelude.{IfSome, false}
 use Rattle.std.specs.List.{AllByRecursion}
 use Rattle.gx_model.specs.declared.objects.Kind.{Kind}
 use Rattle.gx_model.specs.declared.objects.Mode.TheVariants.{Dir}
@@ -22,11 +22,8 @@ use Rattle.gx_export.specs.FileTexts.{IsEntryBelow, IsTreeBelow}
 use Rattle.gx_export.specs.Pairs.{is_same, name_if, shown_if, shown_pair}
 use Rattle.gx_export.specs.declared.pairs.Pair.{Pair}
 use Rattle.gx_export.proofs.OneMap.{one_map}
-use Rattle.gx_export.proofs.Pairing.{IsOfPair, one_there, pair_is}
-use Rattle.gx_questions.specs.Answers.{RefusesUntold}
-use Rattle.gx_questions.specs.declared.fault.AskFault.{AskFault}
-use Rattle.gx_questions.specs.declared.fault.AskFault.TheVariants.{OutOfMemory, ReadFailed, Damaged, Revision}
-use Rattle.gx_differences.specs.Differences.{AddsBetween, AddsFile, AreTrees, ArePair, ComparesPair, ComparesTrees, IsNoChild, IsPairAt}
+use Rattle.gx_export.proofs.Pairing.{IsOfPair, pair_is}
+use Rattle.gx_differences.specs.Differences.{AddsFile, AreTrees, ArePair, ComparesPair, ComparesTrees}
 use Rattle.gx_differences.specs.declared.differences.Differences.{Differences}
 use Rattle.gx_differences.proofs.Told.{map_told, none_told}
 

@@ -1,5 +1,5 @@
 -- The files of held trees, by the names of what they hold, and what differs between them.
-use Rattle.std.proofs.Common.{◌≡◌, ◌≢◌, ◌∙◌, List, [], ◌∷◌, ◌++◌, map, Option, Some, None, IsTrue, refl, sym, ap, subst}
+use Rattle.std.proofs.Common.{◌≡◌, ◌≢◌, ◌∙◌, [], ◌∷◌, ◌++◌, map, Option, Some, None, refl, sym, ap, subst}
 use Rattle.std.specs.Prelude.{IfSome}
 use Rattle.std.specs.List.{AllByRecursion}
 use Rattle.gx_model.specs.declared.objects.Kind.{Kind}
@@ -12,7 +12,7 @@ use Rattle.gx_model.specs.Histories.{IsIn, Records}
 use Rattle.gx_model.specs.Objects.{IsNamer}
 use Rattle.gx_model.specs.Objects.NameMaps.{AreFiles, IsHeldTree}
 use Rattle.gx_model.specs.Records.{name_of, named_map}
-use Rattle.gx_model.specs.Records.HistoryOf.{files_of_tree, history_of, value_of_name}
+use Rattle.gx_model.specs.Records.HistoryOf.{history_of}
 use Rattle.gx_model.specs.Records.Sound.{IsHeldAs, IsSound}
 use Rattle.gx_model.specs.Texts.{Bytes}
 use Rattle.gx_model.specs.Texts.Paths.{Path}
@@ -33,9 +33,8 @@ use Rattle.gx_export.specs.Compared.{IsBelowIf, IsTreeIf, paths_below}
 use Rattle.gx_export.specs.FileTexts.{IsTreeBelow}
 use Rattle.gx_export.proofs.Gathering.{whole_tree}
 use Rattle.gx_export.proofs.NamedChanges.{paths_root}
-use Rattle.gx_differences.specs.Differences.{AddsFile, AreDifferences, AreTrees, ComparesTrees, HaveFiles, IsHeldFile, names_if, shown_files}
+use Rattle.gx_differences.specs.Differences.{AreDifferences, AreTrees, ComparesTrees, HaveFiles, IsHeldFile, names_if, shown_files}
 use Rattle.gx_differences.specs.declared.differences.Differences.{Differences}
-use Rattle.gx_differences.proofs.Told.{both_told}
 
 module _ (name : Kind → Bytes → Bytes) (namer : IsNamer name) (r : Records) (sound : IsSound name r) where
   tree_files : (f : FileMap Bytes) → IsIn (history_of r).values (tree_value f) → AreFiles name (history_of r).values f (named_map name f)

@@ -1,4 +1,4 @@
-use Rattle.std.proofs.Common.{◌≡◌, ◌∷◌, ◌++◌, [], Ok, sym, ap, ◌∙◌}
+use Rattle.std.proofs.Common.{◌≡◌, ◌∷◌, ◌++◌, [], Ok, sym, ◌∙◌}
 use Rattle.gx_model.specs.Texts.Paths.{path_of}
 use Rattle.gx_tree.proofs.Listed.{child_read, not_refused}
 use Rattle.gx_differences.proofs.differences.child.Goals as goal

@@ -1,5 +1,4 @@
-use Rattle.std.proofs.Common.{◌≡◌, ◌∷◌, ◌++◌, [], sym, ap, ◌∙◌, arith}
-use Rattle.gx_model.specs.Texts.Paths.{path_text}
+use Rattle.std.proofs.Common.{◌∷◌, ◌++◌, [], sym, ap, ◌∙◌, arith}
 use Rattle.gx_tree.proofs.Listed.{child_of_root, child_text}
 use Rattle.gx_differences.proofs.differences.child_text.Goals as goal
 use Rattle.gx_differences.proofs.differences.child_text.Goals.{then-len-gt0+in_ok-push, else-len-gt0}

@@ -13,14 +13,16 @@ from histories import Step, histories
 from programs import Program, counted
 from test_looks import asked, in_segments, parts_of, ranges
 
-SUFFIXES = ["", "", "", "~1", "^", "^2", "~2", "^0", "^{}", "^@", "^!", "^-1"]
+SUFFIXES = ["", "", "", "", "~1", "^", "^0", "^2", "~2", "^{}"]
 
 
 @st.composite
-def words(draw: st.DrawFn, names: list[str]) -> str:
-    """A word of a range that is often one of commits."""
-    made = draw(ranges(st.sampled_from(names)))
-    return made + draw(st.sampled_from(SUFFIXES))
+def words(draw: st.DrawFn, names: list[str]) -> list[str]:
+    """Words of ranges, of which the last one often excludes a commit's parents."""
+    revisions = st.tuples(st.sampled_from(names), st.sampled_from(SUFFIXES)).map("".join)
+    made = draw(st.lists(st.one_of(ranges(revisions), revisions), max_size=2))
+    last = draw(st.sampled_from([[], [f"{draw(revisions)}^!"], [f"^{draw(revisions)}^"]]))
+    return [draw(st.sampled_from(names)), *made, *last]
 
 
 @given(changes=histories(8), data=st.data())
@@ -40,12 +42,13 @@ def test_random_ranges(
     records, refs = parts_of(text)
     commits = [record.name.hex() for record in records if record.kind in (b"commit", b"tag")]
     names = [ref.decode() for ref in refs] + commits
-    for asking in data.draw(st.lists(st.lists(words(names), min_size=1, max_size=3), min_size=8, max_size=20)):
+    for asking in data.draw(st.lists(words(names), min_size=8, max_size=20)):
         form = data.draw(st.sampled_from([[], ["--no-done"]]))
         question = ["export", "--changes", *form, "--", "STORE", *asking]
         answers = [asked(gx, store, question, b"") for store in (plain, one, many)]
         assert answers[1] == answers[0], question
         assert answers[2] == answers[0], question
-        counted["random ranges that are sent" if answers[0].out.count(b"\n") > 6 else "other random ranges"] += 1
+        sends = b"\ncommit " in answers[0].out
+        counted["random ranges that are sent" if sends else "other random ranges"] += 1
     for store in (plain, one, many):
         store.unlink()

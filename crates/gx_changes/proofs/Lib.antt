@@ -1,6 +1,7 @@
 mod Told
 mod OwnFiles
 mod Commits
-mod Refs
+mod Parents
+mod SentRefs
 mod Texts
-mod Finding
+mod Found

@@ -1,5 +1,5 @@
 -- What differs between a held commit's files and those of its first parent.
-use Rattle.std.proofs.Common.{◌≡◌, ◌∙◌, List, [], Option, Some, None, IsTrue, refl, sym, ap}
+use Rattle.std.proofs.Common.{◌≡◌, ◌∙◌, List, [], Option, Some, None, Bor, Result, Ok, Err, IsTrue, refl, sym, ap}
 use Rattle.std.specs.Prelude.{IfSome}
 use Rattle.std.specs.List.{slice_get}
 use Rattle.std.specs.Option.{option_map}
@@ -18,6 +18,9 @@ use Rattle.gx_model.proofs.Records.HeldValues.{all_whole, commit_stands, parent_
 use Rattle.gx_model.proofs.Records.LinkedValues.{parts_in}
 use Rattle.gx_object.specs.declared.name.Name.{Name}
 use Rattle.gx_object.specs.Parts.{bytes_if}
+use Rattle.gx_questions.specs.Answers.{IsOfTold}
+use Rattle.gx_questions.specs.Objects.{IsCommitAt}
+use Rattle.gx_questions.specs.declared.fault.AskFault.{AskFault}
 use Rattle.gx_rev.specs.Objects.{IsHeldAs, commit_at}
 use Rattle.gx_export.specs.Compared.{IsTreeIf, tree_if}
 use Rattle.gx_export.proofs.BaseFiles.{base_below, gone_told, own_told, parent_held}
@@ -91,3 +94,22 @@ module _ (name : Kind → Bytes → Bytes) (namer : IsNamer name) (parts : Commi
       own_told_found None found s b h d = tt
       own_told_found (Some r) found s b h d = λ called k.
           own_found name namer r s called k.held o base tree found (is_first r called k) b (same ∙ ap (λ v. v.tree) k.parts) h d
+
+      pub own_answered : {A : Type 0} (told : Option Records) (result : Result (Differences A) AskFault) → IfSome told (IsSound name) → IfSome told (λ r. bytes_if base ≡ tree_if name r o)
+          → IsOfTold told (λ r found. HaveFiles found.files.items r) result → IsOfTold told (AreDifferences name base (Some tree)) result → IsOfTold told (OfItsParts name parts) result
+      own_answered told (Ok found) s b h d = own_told_found told found s b h d
+      own_answered told (Err e) s b h d = tt
+
+-- the parts of a held commit that was found
+pub parts_told : (name : Kind → Bytes → Bytes) (called : Name) (told : Option Records) (found : Bor Bytes × CommitParts) → IfSome told (λ r. IsHeldAs kinds.Commit r called) → IfSome told (λ r. IsCommitAt name called r found) → IfSome told (λ r. IsCommitOf name found.1 r called)
+parts_told name called None found h k = tt
+parts_told name called (Some r) found h k = record { held = h; parts = k.parts }
+
+pub some_parts : (name : Kind → Bytes → Bytes) (called : Name) (told : Option Records) (parts : CommitParts) → IfSome told (λ r. IsCommitOf name parts r called) → IfSome told (IsPartsOf name parts)
+some_parts name called None parts h = tt
+some_parts name called (Some r) parts h = (called, h)
+
+-- the tree of a held commit that was found
+pub tree_of_found : (name : Kind → Bytes → Bytes) (called tree : Name) (told : Option Records) (found : Bor Bytes × CommitParts) → IfSome told (λ r. IsCommitAt name called r found) → tree.bytes ≡ found.1.tree → IfSome told (λ r. bytes_if (Some tree) ≡ tree_if name r (Some called))
+tree_of_found name called tree None found k e = tt
+tree_of_found name called tree (Some r) found k e = ap Some (e ∙ ap (λ v. v.tree) k.parts)

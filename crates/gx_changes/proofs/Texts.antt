@@ -37,8 +37,8 @@ use Rattle.gx_tips.specs.declared.tips.Tip.{Tip}
 use Rattle.gx_branches.specs.Branches.{FindsBranches, all_reached, branch_at}
 use Rattle.gx_branches.specs.declared.branches.Branches.{Branches}
 use Rattle.gx_changes.specs.Commits.{AddsItems}
-use Rattle.gx_changes.specs.Sending.{DeliversAll, behind_items, commits_sent}
-use Rattle.gx_changes.proofs.Refs.{refs_items}
+use Rattle.gx_changes.specs.Texts.{DeliversAll, behind_items, commits_sent}
+use Rattle.gx_changes.proofs.SentRefs.{refs_items}
 
 -- ---- the whole text
 
@@ -104,7 +104,7 @@ module _ (name : Kind → Bytes → Bytes) (closed : Bool) (sent : List Commit) 
 
 -- ---- of the repository that is told
 
-module _ {W A B : Type 0} (name : Kind → Bytes → Bytes) (closed : Bool) (commits : List Name) (refs : List Tip) (old : Written W A) where
+module _ {W A : Type 0} (name : Kind → Bytes → Bytes) (closed : Bool) (commits : List Name) (refs : List Tip) (old : Written W A) where
   abbrev pub AddsAll : Option Records → Written W A → Result (Unit {0}) SendFault → Type 0
   AddsAll told new result = IfSome told (λ r. Adds (all_changes (commits_sent r commits)) (all_items name closed (commits_sent r commits) (targets r refs)) old new result r)
 
@@ -113,7 +113,7 @@ module _ {W A B : Type 0} (name : Kind → Bytes → Bytes) (closed : Bool) (com
   all_delivered None new result z k = tt
   all_delivered (Some r) new result z k = delivers name closed (commits_sent r commits) (targets r refs) r (all_changes (commits_sent r commits)) old new result z k
 
-  module _ (branches : Branches B) (none : (r : Records) → HasWritten r [] old) (after : Sent) where
+  module _ {B : Type 0} (branches : Branches B) (none : (r : Records) → HasWritten r [] old) (after : Sent) where
     pub opening_stops : (told : Option Records) (e : ExportFault) → Writes old.output after (items_text (opening closed)) (Err e) → AddsAll told (record old { output = after }) (Err (of_export e))
     opening_stops None e k = tt
     opening_stops (Some r) e k = opening_fails name closed (commits_sent r commits) (targets r refs) r old (none r) after e k
@@ -261,11 +261,14 @@ module _ {B : Type 0} (branches : Branches B) (r : Records) (refs : List Tip) (c
   all_on_refs = f.reached ∙ sym (list_all-map (is_reached (targets r refs)) (commit_at r) commits) ∙ sym (all_reversed (is_reached (targets r refs)) (map (commit_at r) commits))
 
   pub none_reset : (was : Sent) → true ≡ all_reached branches → Writes was was (items_text (items_of (carrier_reset (targets r refs) (commits_sent r commits)))) (Ok tt)
-  none_reset was e = subst (λ b. Writes was was (items_text (items_of (cond b [] (to_nothing carrier ∷ [])))) (Ok tt)) (e ∙ all_on_refs) (writes_none was)
+  none_reset was e =
+      let none : List Command = [] in
+      subst (λ b. Writes was was (items_text (items_of (cond b none (to_nothing carrier ∷ none)))) (Ok tt)) (e ∙ all_on_refs) (writes_none was)
 
   pub reset_out : (was now : Sent) (result : Result (Unit {0}) ExportFault) → false ≡ all_reached branches → Writes was now (command_text (to_nothing carrier)) result → Writes was now (items_text (items_of (carrier_reset (targets r refs) (commits_sent r commits)))) result
   reset_out was now result e k =
-      subst (λ b. Writes was now (items_text (items_of (cond b [] (to_nothing carrier ∷ [])))) result) (e ∙ all_on_refs)
+      let none : List Command = [] in
+      subst (λ b. Writes was now (items_text (items_of (cond b none (to_nothing carrier ∷ none)))) result) (e ∙ all_on_refs)
       (subst (λ is. Writes was now (items_text is) result) (sym (append-nil (command_items (to_nothing carrier)))) k)
 
 module _ {W A B : Type 0} (name : Kind → Bytes → Bytes) (closed : Bool) (refs : List Tip) (branches : Branches B) (old : Written W A) (after : Sent) where

@@ -1,36 +1,25 @@
--- What an export of the changes that range words list answers, and what it makes of the sink.
-use Rattle.std.specs.Prelude.{◌≡◌, ◌++◌, Bool, List, [], map, reverse, ℕ, Option, None, Result, Ok, Err, IfErr, IfOk, IfSome, ⊤}
+-- What range words send, what an export of them answers, and what it makes of the sink.
+use Rattle.std.specs.Prelude.{◌≡◌, ℕ, Bool, List, reverse, Option, None, Result, Ok, Err, IfErr, IfOk, IfSome, ⊤}
 use Rattle.gx_model.specs.declared.objects.Kind.{Kind}
-use Rattle.gx_model.specs.Changes.{carrier_reset, closed_by, named_in, range_text, sending_commands, set_refs}
-use Rattle.gx_model.specs.Export.{items_text, ref_by}
-use Rattle.gx_model.specs.Histories.{History, Records, Target}
-use Rattle.gx_model.specs.Histories.Values.{Commit, Value}
+use Rattle.gx_model.specs.Changes.{range_text, set_refs}
+use Rattle.gx_model.specs.Histories.{History, Records}
 use Rattle.gx_model.specs.Records.HistoryOf.{history_of}
 use Rattle.gx_model.specs.Revisions.{RangeWord}
 use Rattle.gx_model.specs.Revisions.Ranges.{Word, listing, words_denoted}
-use Rattle.gx_model.specs.Streams.Items.{Item}
 use Rattle.gx_model.specs.Texts.{Bytes}
 use Rattle.gx_model.specs.Texts.Sinks.{Taken, TookFront}
-use Rattle.gx_object.specs.declared.name.Name.{Name}
-use Rattle.gx_rev.specs.Objects.{commit_at}
 use Rattle.gx_rev.specs.RevFaults.{fault_of}
-use Rattle.gx_export.specs.ChangedParts.{DeliversWords, closing}
-use Rattle.gx_export.specs.Outputs.{Delivers}
-use Rattle.gx_export.specs.Texts.{items_of}
-use Rattle.gx_export.specs.declared.fault.ExportFault.{ExportFault}
+use Rattle.gx_export.specs.ChangedParts.{DeliversWords}
 use Rattle.gx_export.specs.declared.fault.ExportFault.TheVariants as export
 use Rattle.gx_tips.specs.Spans.{AreNewestFirst, AreSpans}
 use Rattle.gx_tips.specs.Tips.{AreTips, targets}
 use Rattle.gx_tips.specs.declared.spans.Spans.{Spans}
+use Rattle.gx_changes.specs.Texts.{commits_sent}
 use Rattle.gx_changes.specs.declared.fault.ChangesFault.{ChangesFault}
 use Rattle.gx_changes.specs.declared.fault.ChangesFault.TheVariants.{OutOfMemory, ReadFailed, Damaged, WriteFailed, Word as Refused}
 use Rattle.gx_changes.specs.declared.finding.Sent.{Sent}
 
 -- ---- what is sent
-
--- the commits of these names, in the order in which they go out
-abbrev pub commits_sent : Records → List Name → List Commit
-commits_sent repository commits = reverse (map (commit_at repository) commits)
 
 -- these are the refs that words set, and the commits that they list
 pub record IsSent {A : Type 0} (stands : ℕ → ℕ) (words : List Word) (repository : Records) (sent : Sent A) : Type 0 where
@@ -53,34 +42,23 @@ FindsSent name stands told asked (Err (WriteFailed written)) = ⊥
 FindsSent name stands told asked (Err (Refused number kind)) =
     IfSome told (λ r. words_denoted name (history_of r) asked ≡ Err (record { word = number; fault = fault_of kind }))
 
--- ---- texts
+-- ---- what an export answers
 
-module _ (name : Kind → Bytes → Bytes) (closed : Bool) where
-  -- the items behind the commits, by the values that were written
-  abbrev pub behind_items : List Commit → List (Bytes × Target) → List Value → List Item
-  behind_items sent refs ws = items_of (carrier_reset refs sent) ++ (items_of (map (ref_by (named_in name ws)) refs) ++ closing closed)
+module _ (name : Kind → Bytes → Bytes) (closed : Bool) (h : History) (asked : List RangeWord) where
+  -- a front of the text went out, and nothing where a word is refused
+  pub record SendsFront (was now : Option Taken) : Type 0 where
+    pub front : IfOk (words_denoted name h asked) (λ words. TookFront was now (range_text name closed h words))
+    pub none : IfErr (words_denoted name h asked) (λ refusal. now ≡ was)
 
-  -- the text of these commits and of these refs goes out, or a front of it
-  abbrev pub DeliversAll : List Commit → List (Bytes × Target) → Option Taken → Option Taken → Result (Unit {0}) ExportFault → Type 0
-  DeliversAll sent refs was now result =
-      let text = items_text (items_of (closed_by closed (sending_commands name sent refs))) in
-      Delivers text text was now result
-
-  module _ (h : History) (asked : List RangeWord) where
-    -- a front of the text went out, and nothing where a word is refused
-    pub record SendsFront (was now : Option Taken) : Type 0 where
-      pub front : IfOk (words_denoted name h asked) (λ words. TookFront was now (range_text name closed h words))
-      pub none : IfErr (words_denoted name h asked) (λ refusal. now ≡ was)
-
-    -- The text of the commits that range words list goes out, as `gx_export::export_range` sends it; or a word is refused, and the
-    -- sink took nothing; or the export stops.
-    abbrev pub Sends : Option Taken → Option Taken → Result (Unit {0}) ChangesFault → Type 0
-    Sends was now (Ok _) = DeliversWords name closed h asked was now (Ok tt)
-    Sends was now (Err (WriteFailed count)) = DeliversWords name closed h asked was now (Err (export.WriteFailed count))
-    Sends was now (Err OutOfMemory) = SendsFront was now
-    Sends was now (Err ReadFailed) = SendsFront was now
-    Sends was now (Err Damaged) = ⊥
-    Sends was now (Err (Refused number kind)) = (now ≡ was) × (words_denoted name h asked ≡ Err (record { word = number; fault = fault_of kind }))
+  -- The text of the commits that range words list goes out, as `gx_export::export_range` sends it; or a word is refused, and the
+  -- sink took nothing; or the export stops.
+  abbrev pub Sends : Option Taken → Option Taken → Result (Unit {0}) ChangesFault → Type 0
+  Sends was now (Ok _) = DeliversWords name closed h asked was now (Ok tt)
+  Sends was now (Err (WriteFailed count)) = DeliversWords name closed h asked was now (Err (export.WriteFailed count))
+  Sends was now (Err OutOfMemory) = SendsFront was now
+  Sends was now (Err ReadFailed) = SendsFront was now
+  Sends was now (Err Damaged) = ⊥
+  Sends was now (Err (Refused number kind)) = (now ≡ was) × (words_denoted name h asked ≡ Err (record { word = number; fault = fault_of kind }))
 
 -- of the repository that is told
 abbrev pub SendsRange : (Kind → Bytes → Bytes) → Bool → List RangeWord → Option Taken → Option Taken → Result (Unit {0}) ChangesFault → Records → Type 0

@@ -17,7 +17,7 @@ ghost use Rattle.gx_sending.specs.Marks.{Adds, HasWritten};
 ghost use Rattle.gx_tips.specs.Spans.{AreNewestFirst};
 ghost use Rattle.gx_tips.specs.Tips.{AreTips, targets};
 ghost use Rattle.gx_changes.specs.Commits.{AddsItems};
-ghost use Rattle.gx_changes.specs.Sending.{DeliversAll, behind_items, commits_sent};
+ghost use Rattle.gx_changes.specs.Texts.{DeliversAll, behind_items, commits_sent};
 
 use crate::commit::write_commit;
 use crate::refs::write_refs;

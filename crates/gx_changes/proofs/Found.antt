@@ -26,7 +26,8 @@ use Rattle.gx_tips.specs.Spans.{AreHeld, AreListed, AreSetRefs, FindsSpans}
 use Rattle.gx_tips.specs.Tips.{targets}
 use Rattle.gx_tips.specs.declared.spans.Spans.{Spans}
 use Rattle.gx_changes.specs.Faults.{of_look, of_range, of_send}
-use Rattle.gx_changes.specs.Sending.{DeliversAll, FindsSent, IsFoundIn, IsSent, Sends, SendsFront, SendsRange, commits_sent}
+use Rattle.gx_changes.specs.Sending.{FindsSent, IsFoundIn, IsSent, SendsFront, SendsRange}
+use Rattle.gx_changes.specs.Texts.{DeliversAll, commits_sent}
 use Rattle.gx_changes.specs.declared.fault.ChangesFault.{ChangesFault}
 use Rattle.gx_changes.specs.declared.fault.ChangesFault.TheVariants.{OutOfMemory, ReadFailed, Damaged, WriteFailed, Word as Refused}
 use Rattle.gx_changes.specs.declared.finding.Sent.{Sent}

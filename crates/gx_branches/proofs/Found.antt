@@ -1,11 +1,13 @@
 -- The ref that a commit goes out on, and whether a ref reaches it, by the commit's rank among candidates.
-use Rattle.std.proofs.Common.{◌≡◌, ◌∙◌, ℕ, zero, suc, ◌<◌, ◌≤◌, Bool, true, false, cond, List, [], ◌∷◌, ◌++◌, map, length, take, Option, Some, None, refl, sym, ap, subst, arith}
+use Rattle.std.proofs.Common.{◌≡◌, ◌∙◌, ℕ, zero, suc, ◌+◌, ◌<◌, ◌≤◌, Bool, true, false, cond, List, [], ◌∷◌, ◌++◌, append-nil, get_or, map, length, take, Option, Some, None, refl, sym, ap, subst, arith}
 use Rattle.std.specs.Prelude.{nat_lt, ◌&&◌, ◌||◌, Ok}
 use Rattle.std.specs.List.{filter, list_all, list_any, slice_get, AllByRecursion}
+use Rattle.std.proofs.Math.Seq.{take-suc}
 use Rattle.std.proofs.lemmas.List.{map-append, take_all}
 use Rattle.std.proofs.lemmas.List.Elements.{filter-append}
 use Rattle.std.proofs.lemmas.List.Folds.{list_any-append}
 use Rattle.std.proofs.lemmas.Bool.{le-ltb, lt-ltb, ltb-false, ltb-true, true≢false}
+use Rattle.std.proofs.lemmas.Option.{slice_get-get_or, slice_get_within}
 use Rattle.gx_model.specs.Changes.{commit_ref, first_or_carrier, is_branch, reaching}
 use Rattle.gx_model.specs.Export.{carrier, is_reached}
 use Rattle.gx_model.specs.Histories.Values.{Commit, Value, blob_value, commit_value, tag_value, tree_value}
@@ -19,8 +21,10 @@ use Rattle.gx_object.specs.declared.name.Name.{Name}
 use Rattle.gx_rev.specs.Objects.{commit_at, value_at}
 use Rattle.gx_tips.specs.Tips.{AreTips, IsTip, targets}
 use Rattle.gx_tips.specs.declared.tips.Tip.{Tip}
-use Rattle.gx_branches.specs.Branches.{candidates, name_at_rank, name_or_carrier}
-use Rattle.gx_branches.specs.Ranks.{tips_reach}
+use Rattle.gx_branches.specs.Branches.{FindsBranches, candidates, name_at_rank, name_or_carrier}
+use Rattle.gx_branches.specs.Ranks.{AreRanks, HoldTips, Ranked, tips_reach}
+use Rattle.gx_branches.specs.declared.branches.Branches.{Branches}
+use Rattle.gx_branches.proofs.Tips.{no_tip}
 
 -- ---- candidates
 
@@ -38,6 +42,19 @@ all_of_both P (x ∷ xs) ys h k = (h.0, all_of_both P xs ys h.1 k)
 -- what holds of refs holds of candidates
 pub candidates_hold : (P : Tip → Type 0) (refs : List Tip) → AllByRecursion P refs → AllByRecursion P (candidates refs)
 candidates_hold P refs h = all_of_both P (filter (λ tip. is_branch tip.name.now) refs) refs (filtered_hold P (λ tip. is_branch tip.name.now) refs h) h
+
+-- the branches among the first refs, with one ref more
+next_taken : (refs : List Tip) (i : ℕ) → i < length refs → filter (λ tip. is_branch tip.name.now) (take (i + 1) refs) ≡ filter (λ tip. is_branch tip.name.now) (take i refs) ++ filter (λ tip. is_branch tip.name.now) (get_or refs i no_tip ∷ [])
+next_taken refs i l =
+    let step : i + 1 ≡ suc i = omega arith in
+    ap (λ n. filter (λ tip. is_branch tip.name.now) (take n refs)) step ∙ ap (filter (λ tip. is_branch tip.name.now)) (take-suc refs i no_tip l)
+    ∙ filter-append (λ tip. is_branch tip.name.now) (take i refs) (get_or refs i no_tip ∷ [])
+
+pub one_more : (refs : List Tip) (i : ℕ) → i < length refs → is_branch (get_or refs i no_tip).name.now ≡ true → filter (λ tip. is_branch tip.name.now) (take (i + 1) refs) ≡ filter (λ tip. is_branch tip.name.now) (take i refs) ++ get_or refs i no_tip ∷ []
+one_more refs i l e = next_taken refs i l ∙ ap (λ b. filter (λ tip. is_branch tip.name.now) (take i refs) ++ cond b (get_or refs i no_tip ∷ []) []) e
+
+pub one_passed : (refs : List Tip) (i : ℕ) → i < length refs → is_branch (get_or refs i no_tip).name.now ≡ false → filter (λ tip. is_branch tip.name.now) (take (i + 1) refs) ≡ filter (λ tip. is_branch tip.name.now) (take i refs)
+one_passed refs i l e = next_taken refs i l ∙ ap (λ b. filter (λ tip. is_branch tip.name.now) (take i refs) ++ cond b (get_or refs i no_tip ∷ []) []) e ∙ append-nil _
 
 -- ---- what refs reach
 
@@ -188,3 +205,26 @@ same_for_all f g [] (x ∷ xs) l h = absurd (omega (arith, l))
 same_for_all f g (n ∷ ranks) [] l h = absurd (omega (arith, l))
 same_for_all f g (n ∷ ranks) (x ∷ xs) l h =
     ap (λ b. b && list_all f ranks) (h 0 x n refl refl) ∙ ap (λ b. g x && b) (same_for_all f g ranks xs (omega (arith, l)) (λ i y rank e k. h (suc i) y rank e k))
+
+also_there : {X : Type 0} (ranks : List ℕ) (xs : List X) (i : ℕ) (x : X) → length ranks ≡ length xs → slice_get xs i ≡ Some x → slice_get ranks i ≡ Some (get_or ranks i 0)
+also_there ranks xs i x l e = let m = slice_get_within xs i x e in slice_get-get_or ranks i 0 (omega (arith, l, m))
+
+-- the ranks among candidates are those of what is found
+pub finds : {A : Type 0} (stands : ℕ → ℕ) (r : Records) (refs : List Tip) (sent : List Name) (front : List Ranked) (count : ℕ) (branches : Branches A) → branches.candidates.items ≡ candidates refs → count ≡ length (candidates refs)
+    → AreTips stands refs r → HoldTips stands (candidates refs) r front → AreRanks front count sent r branches.ranks.items → FindsBranches refs sent r branches
+finds stands r refs sent front count branches e n t h a = record {
+  found = λ i commit f.
+      let there = also_there ranks sent i commit a.long f in
+      ap (λ cs. name_at_rank cs (slice_get ranks i)) e ∙ ap (name_at_rank (candidates refs)) there
+      ∙ branch_found stands r (commit_at r commit) refs (get_or ranks i 0) t (is_first i commit (get_or ranks i 0) f there);
+  reached =
+      ap (λ cs. list_all (λ rank. nat_lt rank (length cs)) ranks) e
+      ∙ same_for_all (λ rank. nat_lt rank (length (candidates refs))) (λ commit. is_reached (targets r refs) (commit_at r commit)) ranks sent a.long
+          (λ i commit rank f g. reach_found stands r (commit_at r commit) refs rank t (is_first i commit rank f g));
+}
+  where
+    abbrev ranks : List ℕ
+    ranks = branches.ranks.items
+
+    is_first : (i : ℕ) (commit : Name) (rank : ℕ) → slice_get sent i ≡ Some commit → slice_get ranks i ≡ Some rank → IsFirst stands r (commit_at r commit) (candidates refs) rank
+    is_first i commit rank f g limit l = a.each i commit rank f g limit (omega (arith, l, n)) ∙ h.leads limit (commit_at r commit) l

@@ -37,6 +37,13 @@ held_at P [] i x e h = absurd cc
 held_at P (y ∷ xs) zero x e h = let same : y ≡ x = cc in subst P same h.0
 held_at P (y ∷ xs) (suc i) x e h = held_at P xs i x e h.1
 
+-- what a list has behind its end, for the prover
+abbrev pub no_name : Name
+no_name = record { bytes = [] }
+
+abbrev pub no_tip : Tip
+no_tip = record { name = record { ref_ptr = (0, 0); now = [] }; object = no_name; commit = no_name; place = 0 }
+
 -- ---- tips
 
 -- the first tips handed out their numbers

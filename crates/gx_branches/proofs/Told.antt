@@ -23,6 +23,9 @@ use Rattle.gx_tips.specs.Spans.{AreNewestFirst}
 use Rattle.gx_tips.specs.Tips as tips
 use Rattle.gx_tips.specs.declared.tips.Tip.{Tip}
 use Rattle.gx_branches.specs.Ranks.{AreRanked, AreRanks, HandsDown, HoldTips, Lowers, Ranked, all_unranked, rank_there, unranked}
+use Rattle.gx_branches.specs.Branches.{FindsBranches, candidates}
+use Rattle.gx_branches.specs.declared.branches.Branches.{Branches}
+use Rattle.gx_branches.proofs.Found.{candidates_hold, finds}
 use Rattle.gx_branches.proofs.Ranks.{AreHanded, all_handed, hands_further, lowered, none_handed, one_handed, rest_and_last}
 use Rattle.gx_branches.proofs.Tips.{HoldFirst, RanksFirst, held_at, hold_all, hold_next, hold_none, ranks_all, ranks_next, ranks_none}
 
@@ -154,3 +157,18 @@ module _ (name : Kind → Bytes → Bytes) (namer : IsNamer name) (stands : ℕ 
         → IfSome told (RanksFirst stands first count names number now ranks) → IfSome told (λ r. AreRanks first count names r ranks)
     all_ranks first count names number now ranks l =
         follows told (RanksFirst stands first count names number now ranks) (λ r. AreRanks first count names r ranks) (λ r s u. ranks_all stands first count names number now ranks r l) sound order
+
+    -- ---- branches
+
+    pub candidates_are_tips : (refs all : List Tip) → all ≡ candidates refs → IfSome told (tips.AreTips stands refs) → IfSome told (tips.AreTips stands all)
+    candidates_are_tips refs all e =
+        follows told (tips.AreTips stands refs) (tips.AreTips stands all) (λ r s u t. subst (λ ts. tips.AreTips stands ts r) (sym e) (candidates_hold (tips.IsTip stands r) refs t)) sound order
+
+    pub ranked_by_tips : (all : List Tip) (front : List Ranked) → IfSome told (λ r. HoldTips stands all r front) → IfSome told (AreRanked stands front)
+    ranked_by_tips all front = follows told (λ r. HoldTips stands all r front) (AreRanked stands front) (λ r s u h. h.ranked) sound order
+
+    pub are_found : {A : Type 0} (refs all : List Tip) (sent : List Name) (front : List Ranked) (count : ℕ) (branches : Branches A) → all ≡ candidates refs → branches.candidates.items ≡ candidates refs → count ≡ length (candidates refs)
+        → IfSome told (tips.AreTips stands refs) → IfSome told (λ r. HoldTips stands all r front) → IfSome told (λ r. AreRanks front count sent r branches.ranks.items) → IfSome told (λ r. FindsBranches refs sent r branches)
+    are_found refs all sent front count branches f e n t h =
+        follows_two told (λ r. tips.AreTips stands refs r × HoldTips stands all r front) (λ r. AreRanks front count sent r branches.ranks.items) (λ r. FindsBranches refs sent r branches)
+        (λ r s u p a. finds stands r refs sent front count branches e n p.0 (subst (λ ts. HoldTips stands ts r front) f p.1) a) sound order (together told (tips.AreTips stands refs) (λ r. HoldTips stands all r front) t h)

@@ -43,6 +43,7 @@ impl<'a, A: Allocator + Copy> Branches<'a, A> {
         ensures found { Tells (O.told objects.now) (FindsBranches refs.now sent.now) result }
         ensures fault { OnlyUntold (O.told objects.now) result }
     {
+        objects.sound_if_told();
         let candidates = candidates(alloc, refs)?;
         let mut front = front_of(alloc, objects, &candidates)?;
         let ranks = ranks_of(alloc, objects, &mut front, sent, candidates.len(), room)?;

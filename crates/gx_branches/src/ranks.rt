@@ -124,8 +124,8 @@ fn lower_parents<O: Objects, A: Allocator + Copy>(
     objects.sound_if_told();
     let mut parents = BTreeMap::new(alloc);
     add_parents(objects, &mut parents, place, commit, room)?;
-    while let Some((place, parent)) = parents.pop_last() {
-        lower(objects, front, place, &parent, rank)?;
+    while let Some((there, parent)) = parents.pop_last() {
+        lower(objects, front, there, &parent, rank)?;
     }
     Ok(())
 }

@@ -50,11 +50,19 @@ next_taken refs i l =
     ap (λ n. filter (λ tip. is_branch tip.name.now) (take n refs)) step ∙ ap (filter (λ tip. is_branch tip.name.now)) (take-suc refs i no_tip l)
     ∙ filter-append (λ tip. is_branch tip.name.now) (take i refs) (get_or refs i no_tip ∷ [])
 
-pub one_more : (refs : List Tip) (i : ℕ) → i < length refs → is_branch (get_or refs i no_tip).name.now ≡ true → filter (λ tip. is_branch tip.name.now) (take (i + 1) refs) ≡ filter (λ tip. is_branch tip.name.now) (take i refs) ++ get_or refs i no_tip ∷ []
-one_more refs i l e = next_taken refs i l ∙ ap (λ b. filter (λ tip. is_branch tip.name.now) (take i refs) ++ cond b (get_or refs i no_tip ∷ []) []) e
+pub one_more : (refs old new : List Tip) (i : ℕ) → i < length refs → is_branch (get_or refs i no_tip).name.now ≡ true → old ≡ filter (λ tip. is_branch tip.name.now) (take i refs) → new ≡ old ++ get_or refs i no_tip ∷ []
+    → new ≡ filter (λ tip. is_branch tip.name.now) (take (i + 1) refs)
+one_more refs old new i l b o n =
+    n ∙ ap (λ ts. ts ++ get_or refs i no_tip ∷ []) o
+    ∙ sym (next_taken refs i l ∙ ap (λ t. filter (λ tip. is_branch tip.name.now) (take i refs) ++ cond t (get_or refs i no_tip ∷ []) []) b)
 
-pub one_passed : (refs : List Tip) (i : ℕ) → i < length refs → is_branch (get_or refs i no_tip).name.now ≡ false → filter (λ tip. is_branch tip.name.now) (take (i + 1) refs) ≡ filter (λ tip. is_branch tip.name.now) (take i refs)
-one_passed refs i l e = next_taken refs i l ∙ ap (λ b. filter (λ tip. is_branch tip.name.now) (take i refs) ++ cond b (get_or refs i no_tip ∷ []) []) e ∙ append-nil _
+pub one_passed : (refs old : List Tip) (i : ℕ) → i < length refs → is_branch (get_or refs i no_tip).name.now ≡ false → old ≡ filter (λ tip. is_branch tip.name.now) (take i refs)
+    → old ≡ filter (λ tip. is_branch tip.name.now) (take (i + 1) refs)
+one_passed refs old i l b o =
+    o ∙ sym (next_taken refs i l ∙ ap (λ t. filter (λ tip. is_branch tip.name.now) (take i refs) ++ cond t (get_or refs i no_tip ∷ []) []) b ∙ append-nil (filter (λ tip. is_branch tip.name.now) (take i refs)))
+
+pub all_passed : (refs old new : List Tip) (i : ℕ) → length refs ≤ i → old ≡ filter (λ tip. is_branch tip.name.now) (take i refs) → new ≡ old ++ refs → new ≡ candidates refs
+all_passed refs old new i l o n = n ∙ ap (λ ts. ts ++ refs) (o ∙ ap (filter (λ tip. is_branch tip.name.now)) (take_all i refs l))
 
 -- ---- what refs reach
 
@@ -74,6 +82,9 @@ module _ (stands : ℕ → ℕ) (r : Records) (d : Commit) where
   abbrev name_of_tip : Tip → Bytes
   name_of_tip tip = tip.name.now
 
+  abbrev is_its_branch : Tip → Bool
+  is_its_branch tip = is_branch tip.name.now
+
   reached_by : (tip : Tip) → IsTip stands r tip → reaches_it tip ≡ reaches (peeled_at (told tip).1) d
   reached_by tip t = ap (λ c. reaches c d) (peels_to (value_at r tip.object) (commit_at r tip.commit) t.peeled)
 
@@ -92,30 +103,29 @@ module _ (stands : ℕ → ℕ) (r : Records) (d : Commit) where
       ]
 
   -- the branches among what reaches it
-  branches_are : (refs : List Tip) → map name_of_tip (filter reaches_it (filter (λ tip. is_branch tip.name.now) refs)) ≡ filter is_branch (map name_of_tip (filter reaches_it refs))
+  branches_are : (refs : List Tip) → map name_of_tip (filter reaches_it (filter is_its_branch refs)) ≡ filter is_branch (map name_of_tip (filter reaches_it refs))
   branches_are [] = refl
-  branches_are (x ∷ xs) = by (reaches_it x) refl (is_branch x.name.now) refl
+  branches_are (x ∷ xs) = by (reaches_it x) refl (is_branch x.name.now) refl (branches_are xs)
     where
-      abbrev some : Bool → Bool → List Bytes
-      some a b = map name_of_tip (filter reaches_it (cond b (x ∷ filter (λ tip. is_branch tip.name.now) xs) (filter (λ tip. is_branch tip.name.now) xs)))
+      both : Bool → List Bytes
+      both b = map name_of_tip (filter reaches_it (cond b (x ∷ filter is_its_branch xs) (filter is_its_branch xs)))
+
+      only : Bool → List Bytes
+      only a = filter is_branch (map name_of_tip (cond a (x ∷ filter reaches_it xs) (filter reaches_it xs)))
+
+      reached : Bool → List Bytes
+      reached a = map name_of_tip (cond a (x ∷ filter reaches_it (filter is_its_branch xs)) (filter reaches_it (filter is_its_branch xs)))
+
+      named : Bool → List Bytes
+      named b = cond b (name_of_tip x ∷ filter is_branch (map name_of_tip (filter reaches_it xs))) (filter is_branch (map name_of_tip (filter reaches_it xs)))
 
       by : (a : Bool) → reaches_it x ≡ a → (b : Bool) → is_branch x.name.now ≡ b
-          → map name_of_tip (filter reaches_it (cond (is_branch x.name.now) (x ∷ filter (λ tip. is_branch tip.name.now) xs) (filter (λ tip. is_branch tip.name.now) xs)))
-          ≡ filter is_branch (map name_of_tip (cond (reaches_it x) (x ∷ filter reaches_it xs) (filter reaches_it xs)))
-      by true e true f =
-          ap (λ b. some true b) f ∙ ap (λ a. map name_of_tip (cond a (x ∷ filter reaches_it (filter (λ tip. is_branch tip.name.now) xs)) (filter reaches_it (filter (λ tip. is_branch tip.name.now) xs)))) e
-          ∙ ap (λ ns. name_of_tip x ∷ ns) (branches_are xs)
-          ∙ sym (ap (λ a. filter is_branch (map name_of_tip (cond a (x ∷ filter reaches_it xs) (filter reaches_it xs)))) e
-          ∙ ap (λ b. cond b (name_of_tip x ∷ filter is_branch (map name_of_tip (filter reaches_it xs))) (filter is_branch (map name_of_tip (filter reaches_it xs)))) f)
-      by true e false f =
-          ap (λ b. some true b) f ∙ branches_are xs
-          ∙ sym (ap (λ a. filter is_branch (map name_of_tip (cond a (x ∷ filter reaches_it xs) (filter reaches_it xs)))) e
-          ∙ ap (λ b. cond b (name_of_tip x ∷ filter is_branch (map name_of_tip (filter reaches_it xs))) (filter is_branch (map name_of_tip (filter reaches_it xs)))) f)
-      by false e true f =
-          ap (λ b. some false b) f ∙ ap (λ a. map name_of_tip (cond a (x ∷ filter reaches_it (filter (λ tip. is_branch tip.name.now) xs)) (filter reaches_it (filter (λ tip. is_branch tip.name.now) xs)))) e
-          ∙ branches_are xs ∙ sym (ap (λ a. filter is_branch (map name_of_tip (cond a (x ∷ filter reaches_it xs) (filter reaches_it xs)))) e)
-      by false e false f =
-          ap (λ b. some false b) f ∙ branches_are xs ∙ sym (ap (λ a. filter is_branch (map name_of_tip (cond a (x ∷ filter reaches_it xs) (filter reaches_it xs)))) e)
+          → map name_of_tip (filter reaches_it (filter is_its_branch xs)) ≡ filter is_branch (map name_of_tip (filter reaches_it xs))
+          → both (is_branch x.name.now) ≡ only (reaches_it x)
+      by true e true f rest = ap both f ∙ ap reached e ∙ ap (λ ns. name_of_tip x ∷ ns) rest ∙ sym (ap only e ∙ ap named f)
+      by true e false f rest = ap both f ∙ rest ∙ sym (ap only e ∙ ap named f)
+      by false e true f rest = ap both f ∙ ap reached e ∙ rest ∙ sym (ap only e)
+      by false e false f rest = ap both f ∙ rest ∙ sym (ap only e)
 
   -- the ref of a commit is the first candidate's that reaches it
   candidate_is : (refs : List Tip) → AreTips stands refs r → first_or_carrier (map name_of_tip (filter reaches_it (candidates refs))) ≡ commit_ref (targets r refs) d
@@ -223,7 +233,7 @@ finds stands r refs sent front count branches e n t h a = record {
           (λ i commit rank f g. reach_found stands r (commit_at r commit) refs rank t (is_first i commit rank f g));
 }
   where
-    abbrev ranks : List ℕ
+    ranks : List ℕ
     ranks = branches.ranks.items
 
     is_first : (i : ℕ) (commit : Name) (rank : ℕ) → slice_get sent i ≡ Some commit → slice_get ranks i ≡ Some rank → IsFirst stands r (commit_at r commit) (candidates refs) rank

@@ -1,4 +1,4 @@
-pub mod Ranks
+pub mod RankedFronts
 pub mod Tips
 pub mod Found
 pub mod Told

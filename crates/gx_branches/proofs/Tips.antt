@@ -30,7 +30,7 @@ use Rattle.gx_rev.specs.Objects.{IsHeldAs, commit_at}
 use Rattle.gx_tips.specs.Spans.{AreNewestFirst}
 use Rattle.gx_tips.specs.declared.tips.Tip.{Tip}
 use Rattle.gx_branches.specs.Ranks.{AreRanked, AreRanks, HandsDown, HoldTips, IsRank, Lowers, Ranked, all_unranked, lead_below, rank_there, tips_reach}
-use Rattle.gx_branches.proofs.Ranks.{rank_is}
+use Rattle.gx_branches.proofs.RankedFronts.{rank_is}
 
 pub held_at : {X : Type 0} (P : X → Type 0) (xs : List X) (i : ℕ) (x : X) → slice_get xs i ≡ Some x → AllByRecursion P xs → P x
 held_at P [] i x e h = absurd cc
@@ -140,7 +140,7 @@ module _ (name : Kind → Bytes → Bytes) (namer : IsNamer name) (r : Records) 
       let within : own.0 < length r.records = (let w = at_within (values_of r) k.0 (commit_value (commit_at r n)) k.1 in let c = as_many name namer r sound in omega (arith, same, w, c)) in
       let up = order there.0 own.0 low within in
       let q = ap stands same in
-      let s = k.2 in (there.0, (at, omega (arith, up, q, s)))
+      let s = k.2 in (there.0, at, omega (arith, up, q, s))
 
   pub ranks_next : (first : List Ranked) (count : ℕ) (names : List Name) (number : ℕ) (commit : Name) (place : ℕ) (now new : List Ranked) (ranks more : List ℕ)
       → slice_get names number ≡ Some commit → IsTip stands r (place, commit) → AreNewestFirst names r → HandsDown stands place now new r → AreBelow (suc place) (all_unranked new)

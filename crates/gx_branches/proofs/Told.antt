@@ -1,5 +1,5 @@
 -- Steps of the code, as facts of the repository that is told.
-use Rattle.std.proofs.Common.{◌≡◌, ℕ, suc, ◌+◌, ◌<◌, ◌≤◌, min, refl, sym, ap, subst, ◌∙◌, List, [], ◌∷◌, ◌++◌, length, Option, Some, None}
+use Rattle.std.proofs.Common.{◌≡◌, ℕ, suc, ◌+◌, ◌<◌, ◌≤◌, min, Bool, refl, sym, ap, subst, ◌∙◌, List, [], ◌∷◌, ◌++◌, length, Option, Some, None}
 use Rattle.std.specs.Prelude.{IfSome}
 use Rattle.std.specs.BTreeMap.{insert_entry}
 use Rattle.std.specs.List.{slice_get, AllByRecursion}
@@ -26,7 +26,7 @@ use Rattle.gx_branches.specs.Ranks.{AreRanked, AreRanks, HandsDown, HoldTips, Lo
 use Rattle.gx_branches.specs.Branches.{FindsBranches, candidates}
 use Rattle.gx_branches.specs.declared.branches.Branches.{Branches}
 use Rattle.gx_branches.proofs.Found.{candidates_hold, finds}
-use Rattle.gx_branches.proofs.Ranks.{AreHanded, all_handed, hands_further, lowered, none_handed, one_handed, rest_and_last}
+use Rattle.gx_branches.proofs.RankedFronts.{AreHanded, all_handed, hands_further, lowered, none_handed, one_handed, rest_and_last}
 use Rattle.gx_branches.proofs.Tips.{HoldFirst, RanksFirst, held_at, hold_all, hold_next, hold_none, ranks_all, ranks_next, ranks_none}
 
 -- the order in which the objects of a repository stand

@@ -3,7 +3,7 @@ use Rattle.gx_model.specs.Revisions.Ranges.{some_reaches}
 use Rattle.gx_ranges.specs.Fronts.{AreBelow}
 use Rattle.gx_rev.specs.Objects.{parents_at}
 use Rattle.gx_branches.specs.Ranks.{all_unranked}
-use Rattle.gx_branches.proofs.Ranks.{AreHanded}
+use Rattle.gx_branches.proofs.RankedFronts.{AreHanded}
 use Rattle.gx_branches.proofs.ranks.lower_parents.Given as goal
 
 abbrev pub invariant-loop-there : goal.invariant-loop-there

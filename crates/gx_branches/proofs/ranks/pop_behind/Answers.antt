@@ -3,7 +3,7 @@ use Rattle.std.proofs.lemmas.List.Elements.{recursion_from_All}
 use Rattle.std.specs.Map.{keys_of}
 use Rattle.std.specs.Ordering.{is_lt, nat_cmp}
 use Rattle.std.specs.Prelude.{◌≡◌, false}
-use Rattle.gx_branches.proofs.Ranks.{below_last, last_popped}
+use Rattle.gx_branches.proofs.RankedFronts.{below_last, last_popped}
 use Rattle.gx_branches.proofs.ranks.pop_behind.Goals as goal
 
 pub returns-then-last-place : goal.returns-then-last-place

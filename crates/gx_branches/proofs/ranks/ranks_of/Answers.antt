@@ -17,14 +17,14 @@ place_of-requires g c =
     let s = c.sound_if_told.ensures in
     let names = c.args.commits.now in
     let i = c.loop-commit.commit-index in
-    commit_is_held (g.O.Objects.name_of o) s.namer (g.O.Objects.stands o) (g.O.Objects.told o) s.sound s.order names i (get_or names i no_name) (slice_get-get_or names i no_name c.loop-commit-test.true) c.requires.commits
+    record { held = commit_is_held (g.O.Objects.name_of o) s.namer (g.O.Objects.stands o) (g.O.Objects.told o) s.sound s.order names i (get_or names i no_name) (slice_get-get_or names i no_name c.loop-commit-test.true) c.requires.commits }
 
 pub go_down-requires : goal.go_down-requires
 go_down-requires g c =
     let o = c.args.objects.now in
     let s = c.sound_if_told.ensures in
     let l = c.loop-commit in
-    ranked_still (g.O.Objects.name_of o) s.namer (g.O.Objects.stands o) (g.O.Objects.told o) s.sound s.order c.args.front.now.entries c.args.count c.args.commits.now l.commit-index l.front.entries l.ranks.items l.invariant
+    record { ranked = ranked_still (g.O.Objects.name_of o) s.namer (g.O.Objects.stands o) (g.O.Objects.told o) s.sound s.order c.args.front.now.entries c.args.count c.args.commits.now l.commit-index l.front.entries l.ranks.items l.invariant }
 
 pub loop-commit-preserved : goal.loop-commit-preserved
 loop-commit-preserved g c =

@@ -96,7 +96,7 @@ last_popped place (x ∷ xs) new last None e l v was low = absurd (let f : false
 last_popped place (x ∷ xs) new last (Some p) e l v was low =
     let there : Some p ≡ Some last = sym (last_there new p) ∙ ap (λ ys. slice_get ys (length ys - 1)) (sym was) ∙ e in
     let same : p ≡ last = cc there in
-    (subst (λ q. place < q.0) (sym same) l, (was, below_keys p.0 new (recursion_from_All (λ q. IsLtBy nat_cmp q p.0) (keys_of new) low)))
+    (subst (λ q. place < q.0) (sym same) l, was, below_keys p.0 new (recursion_from_All (λ q. IsLtBy nat_cmp q p.0) (keys_of new) low))
 
 all_front : (P : ℕ → Type 0) (xs : List Ranked) (k : Ranked) → AllByRecursion P (keys_of (xs ++ k ∷ [])) → AllByRecursion P (keys_of xs)
 all_front P [] k h = tt
@@ -348,13 +348,11 @@ module _ (name : Kind → Bytes → Bytes) (namer : IsNamer name) (r : Records) 
       → IsRank front count r d (rank_there front place count)
   unfolding IsStrictlySortedBy
   rank_is place count [] a b i d e s limit l = le-ltb count limit l
-  rank_is place count (x ∷ xs) a b i d e s limit l = by (is_at (nat_cmp place) x.0) refl
+  rank_is place count (x ∷ xs) a b i d e s limit l = by (is_at (nat_cmp place) x.0) refl (rank_is place count xs (record { tips = a.tips.1; order = a.order.1 }) b.1 i d e s limit l)
     where
-      later : nat_lt (rank_there xs place count) limit ≡ lead_below r xs limit d
-      later = rank_is place count xs (record { tips = a.tips.1; order = a.order.1 }) b.1 i d e s limit l
-
-      by : (t : Bool) → is_at (nat_cmp place) x.0 ≡ t → nat_lt (rank_or count (cond t (Some x.1) (lookup (is_at (nat_cmp place)) xs))) limit ≡ lead_below r (x ∷ xs) limit d
-      by true f =
+      by : (t : Bool) → is_at (nat_cmp place) x.0 ≡ t → nat_lt (rank_there xs place count) limit ≡ lead_below r xs limit d
+          → nat_lt (rank_or count (cond t (Some x.1) (lookup (is_at (nat_cmp place)) xs))) limit ≡ lead_below r (x ∷ xs) limit d
+      by true f later =
           let here = at_place place x.0 f in
           let none = nothing_after place x.0 xs here a.order.0 b.1 in
           let reached = reached_there (unranked x) i d a.tips.0 e (s ∙ here) in
@@ -363,7 +361,7 @@ module _ (name : Kind → Bytes → Bytes) (namer : IsNamer name) (r : Records) 
           alone : (t : Bool) → ((t && true) || false) ≡ t
           alone true = refl
           alone false = refl
-      by false f =
+      by false f later =
           let far = not_from_before (unranked x) i d a.tips.0 e (let m = b.0 in let k = before_other place x.0 f m in omega (arith, k, s)) in
           later ∙ sym (leads_on r x xs limit d ∙ ap (λ t. (nat_lt x.1.1 limit && t) || lead_below r xs limit d) far ∙ nothing (nat_lt x.1.1 limit) (lead_below r xs limit d))
         where

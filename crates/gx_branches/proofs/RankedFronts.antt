@@ -27,7 +27,7 @@ use Rattle.gx_object.specs.declared.name.Name.{Name}
 use Rattle.gx_objects.specs.Answers.{GoesUp}
 use Rattle.gx_ranges.specs.Fronts.{Adds, AreBelow, AreTips, IsTip, lead_to}
 use Rattle.gx_ranges.proofs.Reached.{by_parents, one_commit, or_either, or_first, or_joined, or_none, or_second, reached_before, reaches_by, same_tests, true_or_false}
-use Rattle.gx_ranges.proofs.Tips.{all_last, last_leads, not_behind, number_of, one_number, one_tip, tips_inserted}
+use Rattle.gx_ranges.proofs.Tips.{all_last, below_inserted, last_leads, not_behind, number_of, one_number, one_tip, tips_inserted}
 use Rattle.gx_rev.specs.Objects.{commit_at, parents_at}
 use Rattle.gx_branches.specs.Ranks.{AreRanked, HandsDown, IsRank, Lowers, Ranked, TakesBehind, all_unranked, lead_below, rank_or, rank_there, unranked}
 
@@ -108,7 +108,7 @@ sorted_front [] k h = tt
 sorted_front (x ∷ xs) k h = (all_front (λ y. nat_cmp x.0 y ≡ Less) xs k h.0, sorted_front xs k h.1)
 
 -- without numbers it is the insertion of a commit
-pub unranked_inserted : (p : ℕ) (n : Name) (v : ℕ) (xs : List Ranked) → all_unranked (insert_entry nat_cmp xs p (n, v)) ≡ insert_entry nat_cmp (all_unranked xs) p n
+unranked_inserted : (p : ℕ) (n : Name) (v : ℕ) (xs : List Ranked) → all_unranked (insert_entry nat_cmp xs p (n, v)) ≡ insert_entry nat_cmp (all_unranked xs) p n
 unranked_inserted p n v [] = refl
 unranked_inserted p n v (x ∷ xs) =
     elim (nat_cmp p x.0) as (λ o. all_unranked (match_ordering o ((p, (n, v)) ∷ x ∷ xs) ((x.0, (n, v)) ∷ xs) (x ∷ insert_entry nat_cmp xs p (n, v)))
@@ -117,6 +117,9 @@ unranked_inserted p n v (x ∷ xs) =
       | Equal ↦ refl
       | Greater ↦ ap (λ ys. unranked x ∷ ys) (unranked_inserted p n v xs)
     ]
+
+pub below_lowered : (limit p v : ℕ) (n : Name) (xs new : List Ranked) → new ≡ insert_entry nat_cmp xs p (n, v) → p < limit → AreBelow limit (all_unranked xs) → AreBelow limit (all_unranked new)
+below_lowered limit p v n xs new e l h = subst (AreBelow limit) (sym (ap all_unranked e ∙ unranked_inserted p n v xs)) (below_inserted limit p n (all_unranked xs) l h)
 
 pub unranked_last : (xs : List Ranked) (k : Ranked) → all_unranked (xs ++ k ∷ []) ≡ all_unranked xs ++ unranked k ∷ []
 unranked_last xs k = map-append unranked xs (k ∷ [])
@@ -247,14 +250,14 @@ module _ (name : Kind → Bytes → Bytes) (namer : IsNamer name) (r : Records) 
       more = nat_lt rank limit && reaches (commit_at r n) d
 
   -- a number is handed to a commit
-  pub lowered : (p rank : ℕ) (n : Name) (xs new : List Ranked) → new ≡ insert_entry nat_cmp xs p (n, min (rank_there xs p rank) rank) → IsStrictlySortedBy nat_cmp (keys_of new)
+  pub lowered : (p rank v : ℕ) (n : Name) (xs new : List Ranked) → v ≡ min (rank_there xs p rank) rank → new ≡ insert_entry nat_cmp xs p (n, v) → IsStrictlySortedBy nat_cmp (keys_of new)
       → IsTip stands r (p, n) → AreRanked stands xs r → Lowers stands (reaches (commit_at r n)) rank xs new r
-  lowered p rank n xs new e o t a = record {
+  lowered p rank v n xs new m e o t a = record {
     ranked = record {
-      tips = subst (λ ys. AreTips stands ys r) (sym (ap all_unranked e ∙ unranked_inserted p n (min (rank_there xs p rank) rank) xs)) (tips_inserted name namer r sound stands order p n (all_unranked xs) t a.tips);
+      tips = subst (λ ys. AreTips stands ys r) (sym (ap all_unranked e ∙ unranked_inserted p n v xs)) (tips_inserted name namer r sound stands order p n (all_unranked xs) t a.tips);
       order = o;
     };
-    leads = λ limit d. ap (λ ys. lead_below r ys limit d) e ∙ leads_lowered p rank n xs limit d t a.tips;
+    leads = λ limit d. ap (λ ys. lead_below r ys limit d) (e ∙ ap (λ w. insert_entry nat_cmp xs p (n, w)) m) ∙ leads_lowered p rank n xs limit d t a.tips;
   }
 
   -- ---- parents, one after the other

@@ -52,10 +52,10 @@ module _ (name : Kind → Bytes → Bytes) (namer : IsNamer name) (stands : ℕ 
   module _ (told : Option Records) (sound : IfSome told (IsSound name)) (order : IfSome told (StandsInOrder stands)) where
     -- ---- a number is handed to a commit
 
-    pub is_lowered : (p rank : ℕ) (n : Name) (xs new : List Ranked) → new ≡ insert_entry nat_cmp xs p (n, min (rank_there xs p rank) rank) → IsStrictlySortedBy nat_cmp (keys_of new)
+    pub is_lowered : (p rank q v : ℕ) (n : Name) (xs new : List Ranked) → q ≡ rank_there xs p rank → v ≡ min q rank → new ≡ insert_entry nat_cmp xs p (n, v) → IsStrictlySortedBy nat_cmp (keys_of new)
         → IfSome told (λ r. IsTip stands r (p, n)) → IfSome told (AreRanked stands xs) → IfSome told (λ r. Lowers stands (reaches (commit_at r n)) rank xs new r)
-    is_lowered p rank n xs new e o =
-        follows_two told (λ r. IsTip stands r (p, n)) (AreRanked stands xs) (λ r. Lowers stands (reaches (commit_at r n)) rank xs new r) (λ r s u. lowered name namer r s stands u p rank n xs new e o) sound order
+    is_lowered p rank q v n xs new f m e o =
+        follows_two told (λ r. IsTip stands r (p, n)) (AreRanked stands xs) (λ r. Lowers stands (reaches (commit_at r n)) rank xs new r) (λ r s u. lowered name namer r s stands u p rank v n xs new (m ∙ ap (λ k. min k rank) f) e o) sound order
 
     -- ---- parents
 
@@ -142,14 +142,14 @@ module _ (name : Kind → Bytes → Bytes) (namer : IsNamer name) (stands : ℕ 
     commit_is_held names number commit e =
         follows told (AreNewestFirst names) (λ r. IsHeldAs kinds.Commit r commit) (λ r s u h. held_at (IsHeldAs kinds.Commit r) names number commit e h.commits) sound order
 
-    pub next_rank : (first : List Ranked) (count : ℕ) (names : List Name) (number : ℕ) (commit : Name) (place : ℕ) (now new : List Ranked) (ranks more : List ℕ)
-        → slice_get names number ≡ Some commit → AreBelow (suc place) (all_unranked new) → more ≡ ranks ++ rank_there new place count ∷ []
+    pub next_rank : (first : List Ranked) (count : ℕ) (names : List Name) (number : ℕ) (commit : Name) (place rank : ℕ) (now new : List Ranked) (ranks more : List ℕ)
+        → slice_get names number ≡ Some commit → AreBelow (suc place) (all_unranked new) → rank ≡ rank_there new place count → more ≡ ranks ++ rank ∷ []
         → IfSome told (AreNewestFirst names) → IfSome told (λ r. StandsThere stands commit.bytes r (Some place)) → IfSome told (HandsDown stands place now new)
         → IfSome told (RanksFirst stands first count names number now ranks) → IfSome told (RanksFirst stands first count names (number + 1) new more)
-    next_rank first count names number commit place now new ranks more e b m newest there down was =
+    next_rank first count names number commit place rank now new ranks more e b f m newest there down was =
         follows_two told (λ r. AreNewestFirst names r × StandsThere stands commit.bytes r (Some place)) (λ r. HandsDown stands place now new r × RanksFirst stands first count names number now ranks r)
         (RanksFirst stands first count names (number + 1) new more)
-        (λ r s u p q. ranks_next name namer r s stands u first count names number commit place now new ranks more e (held_at (IsHeldAs kinds.Commit r) names number commit e p.0.commits, p.1) p.0 q.0 b m q.1)
+        (λ r s u p q. ranks_next name namer r s stands u first count names number commit place now new ranks more e (held_at (IsHeldAs kinds.Commit r) names number commit e p.0.commits, p.1) p.0 q.0 b (m ∙ ap (λ k. ranks ++ k ∷ []) f) q.1)
         sound order (together told (AreNewestFirst names) (λ r. StandsThere stands commit.bytes r (Some place)) newest there)
         (together told (HandsDown stands place now new) (RanksFirst stands first count names number now ranks) down was)
 

@@ -33,8 +33,8 @@ loop-commit-preserved g c =
     let l = c.loop-commit in
     let names = c.args.commits.now in
     let i = l.commit-index in
-    next_rank (g.O.Objects.name_of o) s.namer (g.O.Objects.stands o) (g.O.Objects.told o) s.sound s.order c.args.front.now.entries c.args.count names i (get_or names i no_name) c.in_ok-place.place l.front.entries c.go_down.new.front.entries l.ranks.items c.push.new.self.items
-    (slice_get-get_or names i no_name c.loop-commit-test.true) c.in_ok-go_down.ensures.below (c.in_ok-push.ensures.items ∙ ap (λ rank. l.ranks.items ++ rank ∷ []) c.rank_at.ensures)
+    next_rank (g.O.Objects.name_of o) s.namer (g.O.Objects.stands o) (g.O.Objects.told o) s.sound s.order c.args.front.now.entries c.args.count names i (get_or names i no_name) c.in_ok-place.place c.rank_at.result l.front.entries c.go_down.new.front.entries l.ranks.items c.push.new.self.items
+    (slice_get-get_or names i no_name c.loop-commit-test.true) c.in_ok-go_down.ensures.below c.rank_at.ensures c.in_ok-push.ensures.items
     c.requires.commits c.in_ok-place.ensures.place c.in_ok-go_down.ensures.down l.invariant
 
 pub returns-clause-ranks : goal.returns-clause-ranks

@@ -1,5 +1,5 @@
 -- The ref that a commit goes out on, and whether a ref reaches it, by the commit's rank among candidates.
-use Rattle.std.proofs.Common.{◌≡◌, ◌∙◌, ℕ, zero, suc, ◌+◌, ◌<◌, ◌≤◌, Bool, true, false, cond, List, [], ◌∷◌, ◌++◌, append-nil, get_or, map, length, take, Option, Some, None, refl, sym, ap, subst, arith}
+use Rattle.std.proofs.Common.{◌≡◌, ◌∙◌, ℕ, zero, suc, ◌+◌, ◌<◌, ◌≤◌, Bool, true, false, cond, List, [], ◌∷◌, ◌++◌, append-nil, get_or, map, length, take, Some, refl, sym, ap, arith}
 use Rattle.std.specs.Prelude.{nat_lt, ◌&&◌, ◌||◌, Ok}
 use Rattle.std.specs.List.{filter, list_all, list_any, slice_get, AllByRecursion}
 use Rattle.std.proofs.Math.Seq.{take-suc}
@@ -9,7 +9,7 @@ use Rattle.std.proofs.lemmas.List.Folds.{list_any-append}
 use Rattle.std.proofs.lemmas.Bool.{le-ltb, lt-ltb, ltb-false, ltb-true, true≢false}
 use Rattle.std.proofs.lemmas.Option.{slice_get-get_or, slice_get_within}
 use Rattle.gx_model.specs.Changes.{commit_ref, first_or_carrier, is_branch, reaching}
-use Rattle.gx_model.specs.Export.{carrier, is_reached}
+use Rattle.gx_model.specs.Export.{is_reached}
 use Rattle.gx_model.specs.Histories.Values.{Commit, Value, blob_value, commit_value, tag_value, tree_value}
 use Rattle.gx_model.specs.Histories.{Records, Target}
 use Rattle.gx_model.specs.Records.HistoryOf.{target_in}
@@ -131,10 +131,10 @@ module _ (stands : ℕ → ℕ) (r : Records) (d : Commit) where
   candidate_is : (refs : List Tip) → AreTips stands refs r → first_or_carrier (map name_of_tip (filter reaches_it (candidates refs))) ≡ commit_ref (targets r refs) d
   candidate_is refs t =
       ap first_or_carrier (
-          ap (map name_of_tip) (filter-append reaches_it (filter (λ tip. is_branch tip.name.now) refs) refs)
-          ∙ map-append name_of_tip (filter reaches_it (filter (λ tip. is_branch tip.name.now) refs)) (filter reaches_it refs)
-          ∙ ap (λ ns. ns ++ map name_of_tip (filter reaches_it refs)) (branches_are refs)
-          ∙ ap (λ ns. filter is_branch ns ++ ns) (named_are refs t))
+      ap (map name_of_tip) (filter-append reaches_it (filter (λ tip. is_branch tip.name.now) refs) refs)
+      ∙ map-append name_of_tip (filter reaches_it (filter (λ tip. is_branch tip.name.now) refs)) (filter reaches_it refs)
+      ∙ ap (λ ns. ns ++ map name_of_tip (filter reaches_it refs)) (branches_are refs)
+      ∙ ap (λ ns. filter is_branch ns ++ ns) (named_are refs t))
 
   -- what the candidates reach is what the refs reach
   candidates_reach : (refs : List Tip) → AreTips stands refs r → list_any reaches_it (candidates refs) ≡ is_reached (targets r refs) d
@@ -230,7 +230,7 @@ finds stands r refs sent front count branches e n t h a = record {
   reached =
       ap (λ cs. list_all (λ rank. nat_lt rank (length cs)) ranks) e
       ∙ same_for_all (λ rank. nat_lt rank (length (candidates refs))) (λ commit. is_reached (targets r refs) (commit_at r commit)) ranks sent a.long
-          (λ i commit rank f g. reach_found stands r (commit_at r commit) refs rank t (is_first i commit rank f g));
+      (λ i commit rank f g. reach_found stands r (commit_at r commit) refs rank t (is_first i commit rank f g));
 }
   where
     ranks : List ℕ

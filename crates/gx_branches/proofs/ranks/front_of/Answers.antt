@@ -1,6 +1,5 @@
-use Rattle.std.proofs.Common.{[], arith, get_or, length, ◌≤◌}
+use Rattle.std.proofs.Common.{arith, get_or, length, ◌≤◌}
 use Rattle.std.proofs.lemmas.Option.{slice_get-get_or}
-use Rattle.gx_tips.specs.declared.tips.Tip.{Tip}
 use Rattle.gx_branches.proofs.Tips.{no_tip}
 use Rattle.gx_branches.proofs.Told.{all_tips, next_tip, no_tip_yet, ranked_first, tip_is_there}
 use Rattle.gx_branches.proofs.ranks.front_of.Goals as goal

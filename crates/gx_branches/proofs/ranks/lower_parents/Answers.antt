@@ -1,4 +1,4 @@
-use Rattle.std.proofs.Common.{◌≡◌, ◌<◌, ◌+◌, ℕ, [], ◌∷◌, ap, arith, false, length, length-append, subst, sym, true, ◌∙◌}
+use Rattle.std.proofs.Common.{◌≡◌, ◌<◌, ℕ, [], ◌∷◌, ap, arith, false, length, length-append, subst, sym, true, ◌∙◌}
 use Rattle.std.specs.Prelude.{IfSome}
 use Rattle.gx_model.specs.Revisions.Ranges.{some_reaches}
 use Rattle.gx_object.specs.declared.name.Name.{Name}

@@ -1,6 +1,5 @@
-use Rattle.std.proofs.Common.{[], ◌∷◌, ◌++◌, ap, arith, get_or, length, ◌≤◌, ◌∙◌}
+use Rattle.std.proofs.Common.{arith, get_or, length, ◌≤◌}
 use Rattle.std.proofs.lemmas.Option.{slice_get-get_or}
-use Rattle.gx_object.specs.declared.name.Name.{Name}
 use Rattle.gx_branches.proofs.Tips.{no_name}
 use Rattle.gx_branches.proofs.Told.{all_ranks, commit_is_held, next_rank, no_rank_yet, ranked_still}
 use Rattle.gx_branches.proofs.ranks.ranks_of.Goals as goal

@@ -1,10 +1,13 @@
 -- The blobs of files, sent one after another, each once.
-use Rattle.std.proofs.Common.{◌≡◌, ◌≢◌, ℕ, suc, ◌+◌, ◌<◌, true, false, cond, List, [], ◌∷◌, ◌++◌, length, take, drop, get_or, Option, None, Some, Result, Ok, Err, refl, sym, ap, ◌∙◌, subst, arith, append_assoc}
+use Rattle.std.proofs.Common.{◌≡◌, ◌≢◌, ℕ, suc, ◌+◌, ◌<◌, ◌≤◌, true, false, not, cond, List, [], ◌∷◌, ◌++◌, length, take, drop, get_or, Option, None, Some, Result, Ok, Err, refl, sym, ap, ◌∙◌, subst, arith, rules, append_assoc}
+use denote.Enum.Bare.{same_true, sameb}
 use Rattle.std.specs.Prelude.{IfErr, IfSome, OnOk, is_some}
 use Rattle.std.specs.List.{AllByRecursion}
-use Rattle.std.proofs.lemmas.List.{append-nil, map-append}
+use Rattle.std.proofs.lemmas.List.{append-nil, map-append, take_all}
 use Rattle.gx_model.specs.declared.objects.Kind.{Kind}
 use Rattle.gx_model.specs.declared.objects.Kind.TheVariants as kinds
+use Rattle.gx_model.specs.contracts.objects.Mode.{the_type}
+use Rattle.gx_model.specs.declared.objects.Mode.{Mode}
 use Rattle.gx_model.specs.declared.objects.Mode.TheVariants.{Gitlink}
 use Rattle.gx_model.specs.Export.{blob_commands, command_items, items_text, with_blobs}
 use Rattle.gx_model.specs.Histories.Values.{Value, blob_value}
@@ -27,19 +30,27 @@ use Rattle.gx_export.specs.FileTexts.{bytes_in}
 use Rattle.gx_export.specs.Outputs.{Sent, Writes}
 use Rattle.gx_export.specs.Texts.{blob_under, command_text, items_of}
 use Rattle.gx_export.specs.declared.fault.ExportFault.{ExportFault}
-use Rattle.gx_export.proofs.BlobLists.{blob_items_append, blobs_append, bytes_append, one_bytes}
+use Rattle.gx_export.proofs.BlobLists.{blob_items_append, blobs_append, bytes_append, denied, one_bytes}
 use Rattle.gx_export.proofs.CommitLines.{file_held}
 use Rattle.gx_export.proofs.Numbering.{blob_is}
 use Rattle.gx_differences.specs.Differences.{HaveFiles, IsHeldFile, shown_files}
 use Rattle.gx_differences.specs.declared.differences.ChangedFile.{ChangedFile}
 use Rattle.gx_sending.specs.Faults.{IsOnTheWay, of_ask, of_export, stop}
 use Rattle.gx_sending.specs.Files.{blobs_at}
-use Rattle.gx_sending.specs.Marks.{AddsBlobs, Adds, HasWritten, IsNextMark, IsWritten, WritesValue, mark_at, mark_in}
+use Rattle.gx_sending.specs.Marks.{AddsBlobs, Adds, HasWritten, IsNextMark, IsWritten, WritesValue, mark_at}
 use Rattle.gx_sending.specs.declared.fault.SendFault.{SendFault}
 use Rattle.gx_sending.specs.declared.fault.SendFault.TheVariants.{OutOfMemory, ReadFailed, Damaged}
 use Rattle.gx_sending.specs.declared.written.Written.{Written}
 use Rattle.gx_sending.proofs.Marks.{has_mark}
 use Rattle.gx_sending.proofs.Sending.{adds_later, adds_nothing, listed_parts, next_listed, sink_fails, still_written, stops_behind, stops_here, stops_sooner}
+
+-- ---- tests of modes
+
+pub not_link : (mode : Mode) → true ≡ not (sameb the_type mode Gitlink) → mode ≢ Gitlink
+not_link mode e q = let f : true ≡ false = e ∙ ap (λ m. not (sameb the_type m Gitlink)) q in cc f
+
+pub is_link : (mode : Mode) → false ≡ not (sameb the_type mode Gitlink) → mode ≡ Gitlink
+is_link mode e = same_true the_type (search rules) mode Gitlink (denied (sameb the_type mode Gitlink) e)
 
 -- ---- one blob
 
@@ -181,6 +192,10 @@ module _ {W A : Type 0} (files : List (ChangedFile A)) (first : Written W A) whe
   pub none_first : (told : Option Records) → AddsFirst told 0 first
   none_first None = tt
   none_first (Some r) = λ ws h. adds_nothing r ws first h
+
+  -- and of all of them
+  pub all_first : (told : Option Records) (i : ℕ) → length files ≤ i → (now : Written W A) → AddsFirst told i now → IfSome told (λ r. (ws : List Value) → HasWritten r ws first → AddsBlobs ws (blobs_at r files) first now (Ok tt) r)
+  all_first told i l now h = subst (λ fs. IfSome told (λ r. (ws : List Value) → HasWritten r ws first → AddsBlobs ws (blobs_at r fs) first now (Ok tt) r)) (take_all i files l) h
 
   -- what was written by then
   pub first_written : (told : Option Records) (i : ℕ) (now : Written W A) → IfSome told (IsWritten first) → AddsFirst told i now → IfSome told (IsWritten now)

@@ -1,12 +1,12 @@
 -- The lines of what differs, sent one after another.
-use Rattle.std.proofs.Common.{◌≡◌, ◌≢◌, ℕ, ◌+◌, ◌<◌, true, false, List, [], ◌∷◌, ◌++◌, length, map, take, drop, suc, get_or, Option, None, Some, Result, Ok, Err, refl, sym, ap, ◌∙◌, subst}
+use Rattle.std.proofs.Common.{◌≡◌, ◌≢◌, ℕ, ◌<◌, true, false, List, [], ◌∷◌, ◌++◌, length, map, take, drop, suc, get_or, None, Some, Result, Ok, Err, sym, ap, ◌∙◌, subst}
 use Rattle.std.specs.List.{flat_map}
 use Rattle.std.proofs.lemmas.Grind.{flat_map-append}
 use Rattle.std.proofs.lemmas.List.{map-append}
 use Rattle.gx_model.specs.declared.objects.Kind.{Kind}
 use Rattle.gx_model.specs.declared.objects.Kind.TheVariants as kinds
 use Rattle.gx_model.specs.declared.objects.Mode.TheVariants.{Gitlink}
-use Rattle.gx_model.specs.Export.{change_items, items_text, mark_text}
+use Rattle.gx_model.specs.Export.{change_items, mark_text}
 use Rattle.gx_model.specs.Histories.Values.{Value, blob_value}
 use Rattle.gx_model.specs.Histories.{Records, is_in}
 use Rattle.gx_model.specs.Objects.{hex}

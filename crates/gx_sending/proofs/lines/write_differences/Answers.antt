@@ -1,4 +1,4 @@
-use Rattle.std.proofs.Common.{◌∷◌, [], Ok, Err, sym, subst}
+use Rattle.std.proofs.Common.{Ok, Err, sym, subst}
 use Rattle.std.proofs.lemmas.Result.{err_from_is_err_and}
 use Rattle.gx_export.specs.Compared.{gone_items}
 use Rattle.gx_sending.specs.Files.{AreShown}
@@ -20,7 +20,7 @@ returns-in_err-write_files g c = λ name r ws h s.
     let mid = c.write_gone.new.written in
     let gone = subst (λ ps. Adds ws (gone_items ps) c.args.written.now mid (Ok tt) r) c.deref.ensures.value (c.in_ok-write_gone.ensures r ws h) in
     let stop = subst (λ fs. Adds ws (lines_at r ws fs) mid c.write_files.new.written (Err c.in_err-write_files.field-0.0) r) c.deref-2.ensures.value
-        (c.in_err-write_files.ensures name r ws gone.written (subst (AreShown name ws r) (sym c.deref-2.ensures.value) s)) in
+    (c.in_err-write_files.ensures name r ws gone.written (subst (AreShown name ws r) (sym c.deref-2.ensures.value) s)) in
     rw (p.1, p.2) (files_stop r ws found.gone.items found.files.items c.args.written.now mid gone c.write_files.new.written c.in_err-write_files.field-0.0 stop)
 
 pub returns-in_err-write : goal.returns-in_err-write

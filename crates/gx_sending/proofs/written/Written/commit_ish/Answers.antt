@@ -1,5 +1,4 @@
 use Rattle.std.proofs.Common.{◌∙◌, ap, sym}
-use Rattle.gx_model.specs.declared.objects.Kind.TheVariants as kinds
 use Rattle.gx_model.specs.Records.{name_of}
 use Rattle.gx_model.proofs.Records.HeldValues.{commit_held, commit_stands, held_is}
 use Rattle.gx_rev.specs.Objects.{commit_at}

@@ -1,4 +1,4 @@
-use Rattle.std.proofs.Common.{◌+◌, ◌≤◌, length, arith}
+use Rattle.std.proofs.Common.{arith}
 use Rattle.gx_sending.proofs.written.Written.next_mark.Goals as goal
 
 pub returns : goal.returns

@@ -224,6 +224,7 @@ ASKED = {
     "refs": ["refs", "STORE"],
     "absent": ["rev-parse", "STORE", "0" * 40],
     "range": ["log", "STORE", "main~2..main"],
+    "export": ["export", "--changes", "STORE", "main~2..main"],
 }
 
 

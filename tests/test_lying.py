@@ -5,6 +5,7 @@ what it shows are bodies of their names and refs that a store can have.
 from __future__ import annotations
 
 import hashlib
+import re
 from collections.abc import Callable, Iterable
 from pathlib import Path
 
@@ -254,8 +255,13 @@ QUESTIONS = [
     ["log", "--all", "STORE"],
     ["archive", "STORE", "main"],
     ["archive", "STORE", "v"],
+    ["export", "--changes", "STORE", "main~1..main"],
+    ["export", "--changes", "STORE", "main", "^v"],
+    ["export", "--changes", "STORE", "main...v~1"],
+    ["export", "--changes", "STORE", "main^!"],
     ["verify", "STORE"],
 ]
+SENT = re.compile(rb"^blob\nmark :\d+\ndata (\d+)\n", re.M)
 LINES = [b"main", b"main:", b"main:f", b"main:d", b"main:d/f", b"v", b"v^{}", b"main~1", DIGITS.encode()]
 COMMANDS = b"info main:f\ncontents v\nls -r main\nlog main\nrev-parse main~1\nrefs\narchive main\n"
 
@@ -284,6 +290,9 @@ def test_lying(gx: Program, tmp_path: Path, text: str) -> None:
             assert all(line and not NO_REF.search(line[2]) for line in lines), done.out
         if words[-1] == DIGITS and not done.status:
             assert record(b"blob", done.out).name == BLOB.name
+        if words[0] == "export":
+            bodies = [done.out[sent.end() :][: int(sent[1])] for sent in SENT.finditer(done.out)]
+            assert all(body in (BLOB.body, OTHER.body) for body in bodies), done.out
     only_named(ask(gx, store, ["batch", "STORE"], b"\n".join(LINES)).out, LINES)
     for form in ("--check", "--command"):
         ask(gx, store, ["batch", form, "STORE"], COMMANDS)

@@ -1,7 +1,10 @@
 -- What a refused run prints on standard error. Source: this project's own.
 use Rattle.std.specs.Prelude.{ℕ, List, codes}
+use Rattle.gx_changes.specs.declared.fault.ChangesFault.{ChangesFault}
+use Rattle.gx_changes.specs.declared.fault.ChangesFault.TheVariants as changes
 use Rattle.gx_cli.specs.FaultLines as command
 use Rattle.gx_cli.specs.declared.fault.CliFault.TheVariants as cli
+use Rattle.gx_export.specs.declared.fault.ExportFault.TheVariants as export
 use Rattle.gx_objects.specs.declared.fault.LookFault.{LookFault}
 use Rattle.gx_objects.specs.declared.fault.LookFault.TheVariants as look
 use Rattle.gx_told.specs.declared.fault.ToldFault.{ToldFault}
@@ -33,3 +36,11 @@ of_told told.Damaged = Damaged
 of_told told.ReadFailed = Command cli.ReadFailed
 of_told told.WriteFailed = Command cli.WriteFailed
 of_told (told.Revision number kind) = Command (cli.Revision number kind)
+
+-- why a run is refused whose export looks into its store
+abbrev pub of_changes : ChangesFault → RunFault
+of_changes changes.OutOfMemory = Command cli.OutOfMemory
+of_changes changes.ReadFailed = Command cli.ReadFailed
+of_changes changes.Damaged = Damaged
+of_changes (changes.WriteFailed written) = Command (cli.Export (export.WriteFailed written))
+of_changes (changes.Word number kind) = Command (cli.Revision number kind)

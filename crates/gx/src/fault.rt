@@ -1,9 +1,10 @@
 //! Why a run of the program is refused.
 
 ghost use Rattle.std.specs.Prelude.{◌≡◌, Some};
-ghost use Rattle.gx.specs.RunFaults.{line_of, of_look, of_told};
+ghost use Rattle.gx.specs.RunFaults.{line_of, of_changes, of_look, of_told};
 
 use gx_adapt::AdaptFault;
+use gx_changes::ChangesFault;
 use gx_cli::{BlobsKind, CliFault};
 use gx_export::ExportFault;
 use gx_objects::LookFault;
@@ -99,6 +100,25 @@ impl From<ToldFault> for RunFault {
             ToldFault::Revision { number, kind } => {
                 RunFault::Command(CliFault::Revision { number, kind })
             }
+        }
+    }
+}
+
+impl From<ChangesFault> for RunFault {
+    ghost from_gives = { λ from fault. fault ≡ of_changes from };
+
+    fn from(fault: ChangesFault) -> RunFault {
+        match fault {
+            ChangesFault::OutOfMemory => RunFault::Command(CliFault::OutOfMemory),
+            ChangesFault::ReadFailed => RunFault::Command(CliFault::ReadFailed),
+            ChangesFault::Damaged => RunFault::Damaged,
+            ChangesFault::WriteFailed { written } => {
+                RunFault::Command(CliFault::Export(ExportFault::WriteFailed { written }))
+            }
+            ChangesFault::Word { number, kind } => RunFault::Command(CliFault::Revision {
+                number: number as u64,
+                kind,
+            }),
         }
     }
 }

@@ -1,11 +1,13 @@
 //! Questions to growing store files, each of which reads what it needs.
 
+mod changes;
 mod file_at;
 
 use crate::fault::RunFault;
 use crate::run::Run;
 use crate::stores::host::Host;
 use crate::streams::devices::{Noted, flushed};
+pub(crate) use changes::export_looked;
 use file_at::FileAt;
 use gx_at::ReadAt;
 use gx_cli::{BatchForm, CliFault, Line, ending_of, read_format};

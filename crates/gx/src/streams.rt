@@ -8,7 +8,7 @@ pub(crate) mod traced;
 mod trail;
 
 use crate::fault::RunFault;
-use crate::looks::{answer_looked, growing_file};
+use crate::looks::{answer_looked, export_looked, growing_file};
 use crate::run::Run;
 use crate::stores::files::{open_text, read_store};
 use devices::{Noted, flushed};
@@ -130,13 +130,18 @@ pub(crate) fn export(
     line: &Line<'_>,
     file: &str,
     state: RandomState,
-) -> Result<(), CliFault> {
+) -> Result<(), RunFault> {
+    if let Line::ExportRange { done, ranges, .. } = line {
+        if export_looked(run, file, ranges, *done)? {
+            return Ok(());
+        }
+    }
     let store = read_store(run, file)?;
     let progress = ProgressLine::new(run);
     let output = Noted::output(run).shown_by(&progress);
     let answer = print_to(run, line, store, output, state);
     progress.clear();
-    answer
+    Ok(answer?)
 }
 
 /// What is printed goes out through a buffer.

@@ -36,7 +36,7 @@ use Rattle.gx_object.specs.declared.name.Name.{Name}
 use Rattle.gx_rev.specs.Objects.{commit_at, value_at}
 use Rattle.gx_rev.specs.Reached.{is_wanted}
 use Rattle.gx_ranges.specs.Fronts.{Adds, AreTips, lead_to}
-use Rattle.gx_ranges.specs.Refs.{IsPeeled, first_object, named_in, with_rest}
+use Rattle.gx_ranges.specs.Refs.{IsPeeled, first_ref, named_in, with_rest}
 use Rattle.gx_ranges.proofs.Reached.{or_none}
 use Rattle.gx_ranges.proofs.WordTips.{adds_both, adds_same, ref_more}
 
@@ -59,28 +59,28 @@ some_line ref rest e =
     let l = ap length (line_text (hex ref.1) ref.0 rest ∙ e) in
     let k = length-append (hex ref.1 ++ 32 ∷ ref.0) (10 ∷ rest) in omega arith
 
-pub object_first : (ref : Bytes × Bytes) (rest : Bytes) → IsTrue (is_name ref.1) → IsTrue (is_ref_name ref.0) → first_object (stored_ref ref ++ rest) ≡ Some (ref.1, rest)
-unfolding first_object
-object_first ref rest n r =
-    ap (option_and_then named_in) (line_cut ref rest r) ∙ ap (option_and_then (with_rest rest)) (digits_cut ref n) ∙ ap (option_map (λ called. (called, rest))) (digits_read ref n)
+pub ref_first : (ref : Bytes × Bytes) (rest : Bytes) → IsTrue (is_name ref.1) → IsTrue (is_ref_name ref.0) → first_ref (stored_ref ref ++ rest) ≡ Some (ref, rest)
+unfolding first_ref
+ref_first ref rest n r =
+    ap (option_and_then named_in) (line_cut ref rest r) ∙ ap (option_and_then (with_rest rest)) (digits_cut ref n) ∙ ap (option_map (λ called. ((ref.0, called), rest))) (digits_read ref n)
 
 -- what follows a line is shorter
 cut_shorter : (c : ℕ) (text : Bytes) (p : Bytes × Bytes) → cut_at c text ≡ Some p → length p.1 < length text
 cut_shorter c text p e =
     let s = ap length (cut_spelled c text p e) ∙ length-append p.0 (c ∷ p.1) in omega arith
 
-pub rest_shorter : (text : Bytes) (p : Bytes × Bytes) → first_object text ≡ Some p → length p.1 < length text
-unfolding first_object
+pub rest_shorter : (text : Bytes) (p : (Bytes × Bytes) × Bytes) → first_ref text ≡ Some p → length p.1 < length text
+unfolding first_ref
 rest_shorter text p e =
     let line = both_some named_in (cut_at 10 text) p e in
     let parts = both_some (with_rest line.0.1) (cut_at 32 line.0.0) p line.2 in
-    let same : p.1 ≡ line.0.1 = kept (lower_name_in parts.0.0) line.0.1 p parts.2 in
+    let same : p.1 ≡ line.0.1 = kept (lower_name_in parts.0.0) parts.0.1 line.0.1 p parts.2 in
     let l = cut_shorter 10 text line.0 line.1 in
     let m = ap length same in omega (arith, l, m)
   where
-    kept : (o : Option Bytes) (rest : Bytes) (p : Bytes × Bytes) → option_map (λ called. (called, rest)) o ≡ Some p → p.1 ≡ rest
-    kept None rest p e = absurd cc
-    kept (Some n) rest p e = let same : (n, rest) ≡ p = cc in sym (ap (λ (q : Bytes × Bytes). q.1) same)
+    kept : (o : Option Bytes) (called rest : Bytes) (p : (Bytes × Bytes) × Bytes) → option_map (λ n. ((called, n), rest)) o ≡ Some p → p.1 ≡ rest
+    kept None called rest p e = absurd cc
+    kept (Some n) called rest p e = let same : ((called, n), rest) ≡ p = cc in sym (ap (λ (q : (Bytes × Bytes) × Bytes). q.1) same)
 
 -- whether text is left
 
@@ -179,18 +179,18 @@ module _ (name : Kind → Bytes → Bytes) (namer : IsNamer name) (stands : ℕ 
   lines_tips (Some r) text now a = a.adds.tips
 
   module _ (text : Bytes) (now : List (ℕ × Name)) (some : text ≡ [] → ⊥) where
-    pub line_told : (told : Option Records) → None ≡ first_object text → IfSome told (IsSound name) → IfSome told (λ r. AreAdded stands r old text now) → told ≡ None
+    pub line_told : (told : Option Records) → None ≡ first_ref text → IfSome told (IsSound name) → IfSome told (λ r. AreAdded stands r old text now) → told ≡ None
     line_told None e s a = refl
     line_told (Some r) e s a =
         let n = next_added stands r old name namer s text now some a in
-        absurd (let o : None ≡ Some (n.ref.1, n.rest) = e ∙ ap first_object n.line ∙ object_first n.ref n.rest n.name n.ref_name in cc o)
+        absurd (let o : None ≡ Some (n.ref, n.rest) = e ∙ ap first_ref n.line ∙ ref_first n.ref n.rest n.name n.ref_name in cc o)
 
-    module _ (object : Name) (behind : Bytes) (cut : Some (object.bytes, behind) ≡ first_object text) where
+    module _ (object : Name) (called behind : Bytes) (cut : Some ((called, object.bytes), behind) ≡ first_ref text) where
       is_next : (r : Records) (n : IsNext stands r old text now) → (object.bytes ≡ n.ref.1) × (behind ≡ n.rest)
       is_next r n =
-          let o : Some (object.bytes, behind) ≡ Some (n.ref.1, n.rest) = cut ∙ ap first_object n.line ∙ object_first n.ref n.rest n.name n.ref_name in
-          let p : (object.bytes, behind) ≡ (n.ref.1, n.rest) = cc o in
-          (ap (λ (q : Bytes × Bytes). q.0) p, ap (λ (q : Bytes × Bytes). q.1) p)
+          let o : Some ((called, object.bytes), behind) ≡ Some (n.ref, n.rest) = cut ∙ ap first_ref n.line ∙ ref_first n.ref n.rest n.name n.ref_name in
+          let p : ((called, object.bytes), behind) ≡ (n.ref, n.rest) = cc o in
+          (ap (λ (q : (Bytes × Bytes) × Bytes). q.0.1) p, ap (λ (q : (Bytes × Bytes) × Bytes). q.1) p)
 
       pub line_peels : (told : Option Records) → IfSome told (IsSound name) → IfSome told (λ r. AreAdded stands r old text now) → IfSome told (IsPeeled object)
       line_peels None s a = tt

@@ -74,6 +74,11 @@ abbrev pub AreAllNames : {A : Type 0} → (ℕ → ℕ) → CommitWalk A → Rec
 AreAllNames stands old repository names =
     (commits : List Commit) → StillLists stands repository old commits → (commits ≡ map (commit_at repository) names) × AreCommits repository names
 
+-- these are the names of the commits that the one front reaches and the other doesn't, the newest put first
+pub record AreReached (wanted unwanted : List (ℕ × Name)) (repository : Records) (names : List Name) : Type 0 where
+  pub commits : map (commit_at repository) names ≡ passing_from repository (lead_to repository wanted) (lead_to repository unwanted) 0
+  pub held : AreCommits repository names
+
 -- a commit's body has this name
 abbrev pub HasNameOf : (Kind → Bytes → Bytes) → Name → Bor Bytes × CommitParts → Type 0
 HasNameOf name called commit = name kinds.Commit commit.0.now ≡ called.bytes

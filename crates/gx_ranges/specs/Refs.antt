@@ -13,13 +13,13 @@ use Rattle.gx_rev.specs.Objects.{IsHeld, value_at}
 abbrev pub IsPeeled : Name → Records → Type 0
 IsPeeled called repository = IsHeld repository called × ((target : Commit) × (commit_in (value_at repository called) ≡ Ok target))
 
--- the name that digits in front of a space give, with what follows the line
-abbrev pub with_rest : Bytes → Bytes × Bytes → Option (Bytes × Bytes)
-with_rest rest parts = option_map (λ called. (called, rest)) (lower_name_in parts.0)
+-- a ref's name, and that of its object by the digits in front of a space, with what follows the line
+abbrev pub with_rest : Bytes → Bytes × Bytes → Option ((Bytes × Bytes) × Bytes)
+with_rest rest parts = option_map (λ called. ((parts.1, called), rest)) (lower_name_in parts.0)
 
-abbrev pub named_in : Bytes × Bytes → Option (Bytes × Bytes)
+abbrev pub named_in : Bytes × Bytes → Option ((Bytes × Bytes) × Bytes)
 named_in line = option_and_then (with_rest line.1) (cut_at 32 line.0)
 
--- the object in the first line, that of a ref, and what follows the line
-unfoldable pub first_object : Bytes → Option (Bytes × Bytes)
-first_object text = option_and_then named_in (cut_at 10 text)
+-- the ref in the first line, and what follows the line
+unfoldable pub first_ref : Bytes → Option ((Bytes × Bytes) × Bytes)
+first_ref text = option_and_then named_in (cut_at 10 text)

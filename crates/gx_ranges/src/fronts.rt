@@ -38,8 +38,10 @@ pub(crate) fn add<O: Objects, A: Allocator + Copy>(
 
 /// Adds the parents of the commit at a place.
 ///
-/// Cost: the commit's body, and a look-up of the place of each parent.
-pub(crate) fn add_parents<O: Objects, A: Allocator + Copy>(
+/// OutOfMemory: a growth is refused. ReadFailed: a read failed. Damaged: this is no repository.
+/// Cost: the commit's body, and a look-up of the place of each parent. What is in the room before and after stands for nothing.
+/// Source: gitglossary(7), "parent".
+pub fn add_parents<O: Objects, A: Allocator + Copy>(
     objects: &O,
     front: &mut BTreeMap<u64, Name, A>,
     place: u64,
@@ -110,8 +112,11 @@ fn add_below<O: Objects, A: Allocator + Copy>(
     Ok(())
 }
 
-/// The place of a held object.
-pub(crate) fn place_of<O: Objects>(objects: &O, commit: &Name) -> Result<u64, LookFault>
+/// The place of a held commit.
+///
+/// ReadFailed: a read failed. Damaged: this is no repository. Cost: a look-up. Takes no memory.
+/// Source: gitglossary(7), "object name".
+pub fn place_of<O: Objects>(objects: &O, commit: &Name) -> Result<u64, LookFault>
     requires held { IfSome (O.told objects.now) (λ r. IsHeldAs kinds.Commit r commit.now) }
     ensures place { Tells (O.told objects.now) (λ r place.
         StandsThere (O.stands objects.now) commit.now.bytes r (Some place)) result }
@@ -151,10 +156,14 @@ pub(crate) fn commit_at<'a, O: Objects, A: Allocator + Copy>(
     }
 }
 
-/// Whether some of these commits reaches the commit at a place. Unless it is among them they go down to it for that.
+/// Whether some of these commits reaches the commit at a place. Unless it is among them they go down to it for that: those that
+/// stand behind the place become their parents.
 ///
-/// Cost: the bodies of the commits that stand behind the place and are reached.
-pub(crate) fn is_reached<O: Objects, A: Allocator + Copy>(
+/// OutOfMemory: a growth is refused. ReadFailed: a read failed. Damaged: this is no repository.
+/// Cost: the bodies of the commits that stand behind the place and are reached, and a look-up for each of their parents. What is
+/// in the room before and after stands for nothing.
+/// Source: gitglossary(7), "reachable".
+pub fn is_reached<O: Objects, A: Allocator + Copy>(
     objects: &O,
     front: &mut BTreeMap<u64, Name, A>,
     place: u64,

@@ -11,4 +11,7 @@ mod walking;
 mod words;
 
 pub use fault::RangeFault;
-pub use walking::{CommitWalk, walk};
+pub use fronts::{add_parents, is_reached, place_of};
+pub use refs::{cut_ref, peeled};
+pub use walking::{CommitWalk, listed, walk};
+pub use words::add_words;

@@ -4,15 +4,16 @@ ghost use Rattle.std.specs.Prelude.{◌≡◌, IfSome, Ok};
 ghost use Rattle.std.specs.Option.{option_map};
 ghost use Rattle.gx_model.specs.declared.objects.Kind.TheVariants as kinds;
 ghost use Rattle.gx_model.specs.Revisions.Denotation.{commit_in};
+ghost use Rattle.gx_objects.specs.Answers.{OnlyUntold, Tells};
 ghost use Rattle.gx_questions.specs.Answers.{IsOfTold, RefusesUntold};
 ghost use Rattle.gx_ranges.specs.Fronts.{Adds, AreTips};
-ghost use Rattle.gx_ranges.specs.Refs.{IsPeeled, first_object};
+ghost use Rattle.gx_ranges.specs.Refs.{IsPeeled, first_ref};
 ghost use Rattle.gx_rev.specs.Objects.{IsHeldAs, commit_at, value_at};
 ghost use Rattle.gx_rev.specs.Reached.{is_wanted};
 
 use crate::fronts::add;
 use gx_object::Name;
-use gx_objects::Objects;
+use gx_objects::{LookFault, Objects};
 use gx_questions::{AskFault, commit_of};
 use gx_text::cut;
 use std::alloc::Allocator;
@@ -36,7 +37,7 @@ pub(crate) fn add_refs<O: Objects, A: Allocator + Copy>(
     let mut lines = Vec::new(alloc);
     let mut rest = objects.ref_lines(&mut lines)?;
     while !rest.is_empty() {
-        let Some((object, behind)) = cut_ref(rest) else {
+        let Some((object, _, behind)) = cut_ref(rest) else {
             return Err(AskFault::Damaged);
         };
         let commit = peeled(objects, &object, room)?;
@@ -46,31 +47,38 @@ pub(crate) fn add_refs<O: Objects, A: Allocator + Copy>(
     Ok(())
 }
 
-/// The object in the first line, that of a ref, and what follows the line.
-#[tactic(auto, unfolding(crate::specs::Refs::first_object))]
-fn cut_ref(text: &[u8]) -> Option<(Name, &[u8])>
-    ensures { option_map (λ cut. (cut.0.bytes, cut.1.now)) result ≡ first_object text.now }
+/// The object and the name of the ref in the first line, and what follows the line.
+///
+/// Cost: the line. Takes no memory. Source: git-show-ref(1).
+#[tactic(auto, unfolding(crate::specs::Refs::first_ref))]
+pub fn cut_ref(text: &[u8]) -> Option<(Name, &[u8], &[u8])>
+    ensures { option_map (λ cut. ((cut.1.now, cut.0.bytes), cut.2.now)) result ≡ first_ref text.now }
 {
     let (line, rest) = cut(text, b'\n')?;
-    let (digits, _) = cut(line, b' ')?;
-    let name = Name::read_lower(digits)?;
-    Some((name, rest))
+    let (digits, name) = cut(line, b' ')?;
+    let object = Name::read_lower(digits)?;
+    Some((object, name, rest))
 }
 
 /// The commit that the object of a ref is, or that its tag names.
-fn peeled<O: Objects, A: Allocator + Copy>(
+///
+/// OutOfMemory: the room can't grow. ReadFailed: a read failed. Damaged: this is no repository.
+/// Cost: the object. What is in the room before and after stands for nothing. Source: gitrevisions(7), "<rev>^{}".
+pub fn peeled<O: Objects, A: Allocator + Copy>(
     objects: &O,
     name: &Name,
     room: &mut Vec<u8, A>,
-) -> Result<Name, AskFault>
+) -> Result<Name, LookFault>
     requires peels { IfSome (O.told objects.now) (IsPeeled name.now) }
-    ensures commit { IsOfTold (O.told objects.now) (λ r commit.
+    ensures commit { Tells (O.told objects.now) (λ r commit.
         commit_in (value_at r name.now) ≡ Ok (commit_at r commit)) result }
-    ensures held { IsOfTold (O.told objects.now) (IsHeldAs kinds.Commit) result }
-    ensures fault { RefusesUntold (O.told objects.now) result }
+    ensures held { Tells (O.told objects.now) (IsHeldAs kinds.Commit) result }
+    ensures fault { OnlyUntold (O.told objects.now) result }
 {
     match commit_of(objects, room, name) {
-        Err(AskFault::Revision(_)) => Err(AskFault::Damaged),
-        answer => answer,
+        Ok(commit) => Ok(commit),
+        Err(AskFault::OutOfMemory) => Err(LookFault::OutOfMemory),
+        Err(AskFault::ReadFailed) => Err(LookFault::ReadFailed),
+        Err(AskFault::Damaged | AskFault::Revision(_)) => Err(LookFault::Damaged),
     }
 }

@@ -7,7 +7,7 @@ ghost use Rattle.gx_objects.specs.Answers.{OnlyUntold, Tells};
 ghost use Rattle.gx_questions.specs.Answers.{IfTold, IsOfTold, RefusesUntold};
 ghost use Rattle.gx_ranges.specs.Answers.{AnswersLog};
 ghost use Rattle.gx_ranges.specs.Fronts.{Adds, AreTips};
-ghost use Rattle.gx_ranges.specs.Listings.{AreAllNames, AreTipsOf, BeginsList, ListsNext, GoesOn, HasNameOf, is_done};
+ghost use Rattle.gx_ranges.specs.Listings.{AreAllNames, AreReached, AreTipsOf, BeginsList, ListsNext, GoesOn, HasNameOf, is_done};
 ghost use Rattle.gx_rev.specs.Reached.{is_wanted};
 ghost use Rattle.gx_rev.specs.Views.{shown_range};
 
@@ -141,6 +141,33 @@ pub fn walk<O: Objects, A: Allocator + Copy>(
     let mut walk = CommitWalk::begin(alloc, objects, words, refs, most, &mut room)?;
     let names = all_names(alloc, objects, &mut walk, &mut room)?;
     Ok(names)
+}
+
+/// The names of the commits that the one front reaches and the other doesn't, the newest put first.
+///
+/// OutOfMemory: a growth is refused. ReadFailed: a read failed. Damaged: this is no repository.
+/// Cost: the bodies of the commits that are listed, and of those that the other front reaches and that stand behind the last of
+/// these; a look-up for each of their parents. Memory: the names, and the places that are still to be visited.
+/// Source: git-rev-list(1).
+pub fn listed<O: Objects, A: Allocator + Copy>(
+    alloc: A,
+    objects: &O,
+    wanted: BTreeMap<u64, Name, A>,
+    unwanted: BTreeMap<u64, Name, A>,
+    room: &mut Vec<u8, A>,
+) -> Result<Vec<Name, A>, LookFault>
+    requires wanted { IfSome (O.told objects.now) (AreTips (O.stands objects.now) wanted.entries) }
+    requires unwanted { IfSome (O.told objects.now) (AreTips (O.stands objects.now) unwanted.entries) }
+    ensures names { Tells (O.told objects.now) (λ r names.
+        AreReached wanted.entries unwanted.entries r names.items) result }
+    ensures fault { OnlyUntold (O.told objects.now) result }
+{
+    let mut walk = CommitWalk {
+        wanted,
+        unwanted,
+        left: None,
+    };
+    all_names(alloc, objects, &mut walk, room)
 }
 
 /// The names of all commits that a walk still lists.

@@ -22,8 +22,14 @@ use gx_rev::{Range, RevFault, Revision};
 use std::alloc::Allocator;
 use std::collections::BTreeMap;
 
-/// Adds what words include and what they exclude. The first word that is refused is answered.
-pub(crate) fn add_words<O: Objects, A: Allocator + Copy>(
+/// Adds what words include and what they exclude to two fronts, in which nothing is yet.
+///
+/// The first word that is refused is answered with its number and the fault of its revisions, or NoParent of `r^-n`.
+/// OutOfMemory: a growth is refused. ReadFailed: a read failed. Damaged: this is no repository.
+/// Cost: what the revisions cost; for `a...b` besides the bodies of the commits that only one of them reaches. What is in the
+/// room before and after stands for nothing.
+/// Source: gitrevisions(7), "Specifying Ranges".
+pub fn add_words<O: Objects, A: Allocator + Copy>(
     alloc: A,
     objects: &O,
     room: &mut Vec<u8, A>,

@@ -164,7 +164,7 @@ fn answer(run: &Run<'_>, line: &Line<'_>, state: RandomState) -> Result<(), RunF
         Line::Verify { file } => Ok(verify(run, file, state)?),
         Line::Batch { file, .. } => batch(run, line, file, state),
         Line::Export { file, .. } | Line::ExportRange { file, .. } => {
-            Ok(export(run, line, file, state)?)
+            export(run, line, file, state)
         }
         _ => match file_of(line) {
             Some(file) => print(run, line, file, state),

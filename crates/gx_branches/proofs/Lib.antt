@@ -1,0 +1,4 @@
+pub mod RankedFronts
+pub mod Tips
+pub mod Found
+pub mod Told

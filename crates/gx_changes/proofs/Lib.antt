@@ -1,0 +1,7 @@
+mod Told
+mod OwnFiles
+mod Commits
+mod Parents
+mod SentRefs
+mod Texts
+mod Found

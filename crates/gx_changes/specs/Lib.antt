@@ -1,0 +1,4 @@
+pub mod Commits
+pub mod Faults
+pub mod Sending
+pub mod Texts

@@ -1,0 +1,4 @@
+mod Told
+mod PassedPairs
+mod Chosen
+mod Roots

@@ -1,0 +1,7 @@
+//! What differs between the files of two trees, asked of whatever holds objects.
+//! Only directories that differ are read.
+#![tactic(auto)]
+
+mod differences;
+
+pub use differences::{ChangedFile, Differences, compare};

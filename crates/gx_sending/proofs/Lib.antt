@@ -1,0 +1,4 @@
+pub mod Sending
+mod Marks
+mod SentBlobs
+mod SentLines

@@ -143,6 +143,7 @@ def test_left_out(left: Session, gx_path: Path, tmp_path: Path) -> None:
     wrong = GrownRunner(gx_path, tmp_path).first_wrong(left)
     assert wrong, "it runs over growing stores"
     is_shown = command_of(wrong[0].text)[0] == ["cat", "store"]
+    assert not is_shown or (tmp_path / "store").read_bytes().startswith(b"gxstore 3\n")
     assert is_shown or f"expected:\n{A_STORE}" in wrong[1], wrong[1]
     assert LEFT_OUT[key_of(left)][0] == ("shown" if is_shown else "refused")
 

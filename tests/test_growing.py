@@ -17,11 +17,14 @@ import pytest
 from growing_reading import verdict
 from growing_texts import GrowingText, Record, slot
 from programs import TOP, Program, counted
-from sessions import Runner, Session, Step, command_of, sessions_of
+from sessions import Runner, Session, Step, Wrong, command_of, sessions_of, shown
 from store_files import NEW, OLD, STREAM, branch_stream, named
 
 EMPTY = 262
 SLOTS = {b"a": 12, b"b": 119}
+A_STORE = "a store that grows\n"
+# tags, trees without entries, and those of directories
+UNKNOWN_KIND = re.compile(rb"^(?:tag \d|tree 0 |40000 )", re.M)
 
 
 def grown(gx: Program, folder: Path, text: bytes) -> Path:
@@ -38,19 +41,37 @@ def exported(gx: Program, store: Path) -> bytes:
 
 # ---- sessions
 
-OF_TEXTS = ("cat", "cmp")
-# what speaks of a store's bytes, and not of its repository
-OF_BYTES = ("put", "grow", "verify")
+DATA = TOP / "crates/gx_sessions/data"
+OWN = TOP / "tests/growing"
 
 
-class GrownRunner(Runner):
-    """Runs a session over growing stores: each store file grows before a command has it."""
+def key_of(session: Session) -> tuple[str, str]:
+    """A session's file and title."""
+    return session.file.name, session.title
 
-    def grow(self, words: list[str]) -> None:
-        for name in set(words) & set(os.listdir(self.folder)):
-            store = self.folder / name
-            if store.read_bytes().startswith((b"gxstore 1\n", b"gxstore 2\n")):
-                self.run_gx(Step(0, ""), ["grow", name], None)
+
+def sessions_in(folder: Path) -> list[Session]:
+    """Those that the program can follow."""
+    files = sorted(folder.glob("*.session"))
+    return [session for file in files for session in sessions_of(file) if not session.short]
+
+
+def left_out() -> dict[tuple[str, str], tuple[str, str, str]]:
+    """The sessions that can't run over growing stores, by file and title: why that is, and the file
+    and the title of the one that stands for it."""
+    lines = (OWN / "left-out.tsv").read_text().splitlines()[1:]
+    rows = [line.split("\t") for line in lines]
+    assert rows == sorted(rows), "left-out.tsv is sorted"
+    found = {(file, title): (why, own, its_title) for file, title, why, own, its_title in rows}
+    assert len(found) == len(rows), "left-out.tsv has each session once"
+    return found
+
+
+LEFT_OUT = left_out()
+
+
+class GrowingRunner(Runner):
+    """Runs a session whose stores are growing ones."""
 
     def held(self, store: Path) -> str:
         """What a store holds, as gx verify tells it."""
@@ -60,32 +81,53 @@ class GrownRunner(Runner):
         counts = dict(line.split(" ") for line in told.decode().splitlines())
         return f"objects: {counts['objects']}, refs: {counts['refs']}"
 
+
+class GrownRunner(GrowingRunner):
+    """Runs a session over growing stores: each store file grows before a command has it."""
+
+    def grow(self, words: list[str]) -> None:
+        """Has those of the words grow that are stores of another version, as each of them has to."""
+        for name in set(words) & set(os.listdir(self.folder)):
+            if (self.folder / name).read_bytes().startswith((b"gxstore 1\n", b"gxstore 2\n")):
+                status, _, told = self.run_gx(Step(0, ""), ["grow", name], None)
+                if status:
+                    raise Wrong(A_STORE, shown(told))
+
     def do(self, step: Step) -> None:
-        words, _, _ = command_of(step.text)
-        if words[0] == "gx":
-            self.grow(words[2:])
+        self.grow(command_of(step.text)[0][1:])
         super().do(step)
 
 
-def speaks_of_bytes(session: Session) -> bool:
-    """Whether a session tells of a store's bytes, or of a store that isn't one."""
-    for step in session.opening + session.steps:
-        words, source, target = command_of(step.text)
-        if words[0] in OF_TEXTS or words[1:2] and words[1] in OF_BYTES:
-            return True
-    return False
+class ReadRunner(GrowingRunner):
+    """Runs a session of growing stores, and holds what gx verify is to say to another reader."""
+
+    def do(self, step: Step) -> None:
+        words, _, _ = command_of(step.text)
+        if words[:2] == ["gx", "verify"]:
+            text = (self.folder / words[2]).read_bytes()
+            said = step.printed + step.told
+            if is_known(text) and verdict(text).encode() != said:
+                raise Wrong(shown(said), f"of the other reader: {verdict(text)}")
+            counted["texts of sessions that another reader reads"] += is_known(text)
+        super().do(step)
+
+
+def is_known(text: bytes) -> bool:
+    """Whether the other reader knows the kinds of objects that a growing text has, but for trees of
+    more than a file."""
+    return text.startswith(b"gxstore 3\n") and not UNKNOWN_KIND.search(text)
 
 
 def pytest_generate_tests(metafunc: pytest.Metafunc) -> None:
-    if "session" in metafunc.fixturenames:
-        files = sorted((TOP / "crates/gx_sessions/data").glob("*.session"))
-        found = [
-            session
-            for file in files
-            for session in sessions_of(file)
-            if not session.short and not speaks_of_bytes(session)
-        ]
-        metafunc.parametrize("session", found, ids=[f"{it.file.name}:{it.number}" for it in found])
+    shared = sessions_in(DATA)
+    for name, found in {
+        "session": [session for session in shared if key_of(session) not in LEFT_OUT],
+        "left": [session for session in shared if key_of(session) in LEFT_OUT],
+        "own": sessions_in(OWN),
+    }.items():
+        if name in metafunc.fixturenames:
+            ids = [f"{it.file.name}:{it.number}" for it in found]
+            metafunc.parametrize(name, found, ids=ids)
 
 
 def test_session(session: Session, gx_path: Path, tmp_path: Path) -> None:
@@ -94,6 +136,31 @@ def test_session(session: Session, gx_path: Path, tmp_path: Path) -> None:
     wrong = GrownRunner(gx_path, tmp_path).first_wrong(session)
     if wrong:
         pytest.fail(f"{session.title}\n{wrong[1]}", pytrace=False)
+
+
+def test_left_out(left: Session, gx_path: Path, tmp_path: Path) -> None:
+    """A session is left out only where it shows a store's text, or gives one that is no store's."""
+    wrong = GrownRunner(gx_path, tmp_path).first_wrong(left)
+    assert wrong, "it runs over growing stores"
+    is_shown = command_of(wrong[0].text)[0] == ["cat", "store"]
+    assert not is_shown or (tmp_path / "store").read_bytes().startswith(b"gxstore 3\n")
+    assert is_shown or f"expected:\n{A_STORE}" in wrong[1], wrong[1]
+    assert LEFT_OUT[key_of(left)][0] == ("shown" if is_shown else "refused")
+
+
+def test_own_stand_for() -> None:
+    """Each session that is left out is there, and so is the one that stands for it."""
+    own = {key_of(session) for session in sessions_in(OWN)}
+    assert set(LEFT_OUT) <= {key_of(session) for session in sessions_in(DATA)}
+    assert {row[1:] for row in LEFT_OUT.values()} <= own
+
+
+def test_own(own: Session, gx_path: Path, tmp_path: Path) -> None:
+    """The sessions of growing stores, in which another reader says what gx verify does."""
+    counted["commands of sessions"] += len(own.steps)
+    wrong = ReadRunner(gx_path, tmp_path).first_wrong(own)
+    if wrong:
+        pytest.fail(f"{own.title}\n{wrong[1]}", pytrace=False)
 
 
 # ---- the commands of growing stores

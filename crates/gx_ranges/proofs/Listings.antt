@@ -1,7 +1,8 @@
 -- What a walk still lists, as it goes on commit by commit.
-use Rattle.std.proofs.Common.{◌≡◌, ℕ, zero, suc, ◌-◌, ◌<◌, ◌≤◌, Bool, true, false, cond, refl, sym, ap, subst, ◌∙◌, arith, List, [], ◌∷◌, ◌++◌, map, take, drop, length, Option, Some, None, Ok, inl, inr, append_assoc, append-nil}
+use Rattle.std.proofs.Common.{◌≡◌, ℕ, zero, suc, ◌-◌, ◌<◌, ◌≤◌, Bool, true, false, cond, refl, sym, ap, subst, ◌∙◌, arith, List, [], ◌∷◌, ◌++◌, map, take, drop, length, Option, Some, None, Result, Ok, Err, inl, inr, append_assoc, append-nil}
 use Rattle.std.specs.Prelude.{IsTrue, IfSome, ◌&&◌, nat_eq, not}
 use Rattle.std.specs.List.{slice_get}
+use Rattle.std.specs.declared.vec.Vec.{Vec}
 use Rattle.std.specs.Option.{option_map}
 use Rattle.std.proofs.lemmas.Bool.Decides.{nat_tests}
 use Rattle.std.proofs.lemmas.List.{drop_all, map-append}
@@ -17,12 +18,14 @@ use Rattle.gx_model.specs.Revisions.{RangeWord}
 use Rattle.gx_model.specs.Revisions.Ranges.{some_reaches}
 use Rattle.gx_model.specs.Texts.{Bytes}
 use Rattle.gx_object.specs.declared.name.Name.{Name}
+use Rattle.gx_objects.specs.Answers.{Tells}
+use Rattle.gx_objects.specs.declared.fault.LookFault.{LookFault}
 use Rattle.gx_questions.specs.Objects.{IsCommitAt}
 use Rattle.gx_rev.specs.Objects.{IsHeldAs, commit_at, parents_at}
 use Rattle.gx_print.specs.Logs.{AreCommits, commits_logged, limited}
 use Rattle.gx_ranges.specs.Answers.{AreLogged}
 use Rattle.gx_ranges.specs.Fronts.{Adds, AreBelow, AreTips, IsTip, lead_to}
-use Rattle.gx_ranges.specs.Listings.{AreAllNames, AreTipsOf, Listed, ListsNext, StillLists, is_done}
+use Rattle.gx_ranges.specs.Listings.{AreAllNames, AreReached, AreTipsOf, Listed, ListsNext, StillLists, is_done}
 use Rattle.gx_ranges.specs.Walks.{FindsNext, IsWalk, passing_from}
 use Rattle.gx_ranges.specs.declared.walking.CommitWalk.{CommitWalk}
 use Rattle.gx_ranges.proofs.Reached.{true_or_false}
@@ -228,7 +231,24 @@ module _ {A : Type 0} (stands : ℕ → ℕ) (old : CommitWalk A) where
       let n = h.1 commits l in
       (n.first ∙ ap (λ cs. map (commit_at r) names ++ cs) (f n.rest n.still) ∙ append-nil (map (commit_at r) names), n.held)
 
--- the names of what is logged
+-- ---- two fronts
+
+pub fronts_tips : {A : Type 0} (stands : ℕ → ℕ) (told : Option Records) (walk : CommitWalk A) → IfSome told (AreTips stands walk.wanted.entries) → IfSome told (AreTips stands walk.unwanted.entries) → IfSome told (λ r. AreTipsOf stands r walk)
+fronts_tips stands None walk t u = tt
+fronts_tips stands (Some r) walk t u = record { wanted = t; unwanted = u }
+
+-- what a walk from them lists, without a limit
+pub fronts_listed : {A : Type 0} (stands : ℕ → ℕ) (told : Option Records) (walk : CommitWalk A) (result : Result (Vec Name A) LookFault) → walk.left ≡ None → IfSome told (λ r. AreTipsOf stands r walk)
+    → Tells told (λ r names. AreAllNames stands walk r names.items) result → Tells told (λ r names. AreReached walk.wanted.entries walk.unwanted.entries r names.items) result
+fronts_listed stands None walk result e t h = tt
+fronts_listed stands (Some r) walk (Err f) e t h = tt
+fronts_listed stands (Some r) walk (Ok names) e t h =
+    let n = h (still_listed r walk) (lists_some stands r walk t) in
+    record { commits = sym n.0 ∙ ap (λ left. limited left (passing_from r (lead_to r walk.wanted.entries) (lead_to r walk.unwanted.entries) 0)) e; held = n.1 }
+
+-- ---- what is logged
+
+-- its names
 pub names_logged : {A : Type 0} (name : Kind → Bytes → Bytes) (stands : ℕ → ℕ) (told : Option Records) (asked : List RangeWord) (refs : Bool) (most : Option ℕ) (walk : CommitWalk A) (names : List Name)
     → IfSome told (λ r. (commits : List Commit) × (commits_logged name (history_of r) refs asked ≡ Ok commits) × StillLists stands r walk (limited most commits)) → IfSome told (λ r. AreAllNames stands walk r names)
     → IfSome told (λ r. AreLogged most r (commits_logged name (history_of r) refs asked) names)

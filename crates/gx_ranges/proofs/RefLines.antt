@@ -59,6 +59,11 @@ some_line ref rest e =
     let l = ap length (line_text (hex ref.1) ref.0 rest ∙ e) in
     let k = length-append (hex ref.1 ++ 32 ∷ ref.0) (10 ∷ rest) in omega arith
 
+-- no lines are of no refs
+pub none_behind : (left : List (Bytes × Bytes)) → flat_map stored_ref left ≡ [] → left ≡ []
+none_behind [] e = refl
+none_behind (ref ∷ left) e = absurd (some_line ref (flat_map stored_ref left) e)
+
 pub ref_first : (ref : Bytes × Bytes) (rest : Bytes) → IsTrue (is_name ref.1) → IsTrue (is_ref_name ref.0) → first_ref (stored_ref ref ++ rest) ≡ Some (ref, rest)
 unfolding first_ref
 ref_first ref rest n r =
@@ -94,7 +99,14 @@ pub none_left : (text : Bytes) {b : Bool} → b ≡ (length text == 0) → b ≡
 none_left [] e f = refl
 none_left (x ∷ xs) e f = absurd (let l = zero_is (length (x ∷ xs)) (sym e ∙ f) in omega (arith, l))
 
--- ---- what refs reach
+-- ---- the refs of a repository
+
+-- a ref whose line is read, and whose object peels to a commit
+pub record IsPeeling (r : Records) (ref : Bytes × Bytes) : Type 0 where
+  pub name : IsTrue (is_name ref.1)
+  pub ref_name : IsTrue (is_ref_name ref.0)
+  pub held : IsTrue (is_some (record_named r.records ref.1))
+  pub peels : commit_in (value_of_name r.records ref.1) ≡ Ok (peeled_at (target_in (value_of_name r.records ref.1)))
 
 all_parts : (P : Bytes × Bytes → Type 0) (xs : List (Bytes × Bytes)) (y : Bytes × Bytes) (zs : List (Bytes × Bytes)) → AllByRecursion P (xs ++ y ∷ zs) → P y
 all_parts P [] y zs h = h.0
@@ -103,6 +115,32 @@ all_parts P (x ∷ xs) y zs h = all_parts P xs y zs h.1
 test_part : (p : Bytes × Bytes → Bool) (xs : List (Bytes × Bytes)) (y : Bytes × Bytes) (zs : List (Bytes × Bytes)) → IsTrue (list_all p (xs ++ y ∷ zs)) → IsTrue (p y)
 test_part p [] y zs h = is_true _ (first (p y) (list_all p zs) (passes _ h))
 test_part p (x ∷ xs) y zs h = test_part p xs y zs (is_true _ (second (p x) (list_all p (xs ++ y ∷ zs)) (passes _ h)))
+
+-- each ref of a sound repository is so
+pub peeling : (name : Kind → Bytes → Bytes) → IsNamer name → (r : Records) → IsSound name r → (done left : List (Bytes × Bytes)) (ref : Bytes × Bytes) → r.refs ≡ done ++ ref ∷ left → IsPeeling r ref
+peeling name namer r sound done left ref e =
+    let target = all_parts (λ q. IsTarget r.records q.0 q.1) done ref left (subst (AllByRecursion (λ q. IsTarget r.records q.0 q.1)) e sound.held) in
+    let peel = target_peels name namer r sound ref.0 ref.1 target in
+    let value = held_is name namer r sound ref.1 peel.held in
+    record {
+      name = subst (λ n. IsTrue (is_name n)) value.named (is_true _ (name_is_name name namer (kind_of name (value_of_name r.records ref.1)) (body_of name (value_of_name r.records ref.1))));
+      ref_name = test_part (λ q. is_ref_name q.0) done ref left (subst (λ qs. IsTrue (list_all (λ q. is_ref_name q.0) qs)) e sound.ref_names);
+      held = peel.held;
+      peels = peel.to;
+    }
+
+-- the line that is cut off is its own
+pub cut_first : (r : Records) (ref : Bytes × Bytes) (rest text : Bytes) (cut : Option ((Bytes × Bytes) × Bytes)) → IsPeeling r ref → text ≡ stored_ref ref ++ rest → cut ≡ first_ref text → cut ≡ Some (ref, rest)
+cut_first r ref rest text cut is line e = e ∙ ap first_ref line ∙ ref_first ref rest is.name is.ref_name
+
+-- so is its object
+pub object_peels : (r : Records) (ref : Bytes × Bytes) (object : Name) → IsPeeling r ref → ref.1 ≡ object.bytes → IsPeeled object r
+object_peels r ref object is e = (
+  subst (λ b. IsTrue (is_some (record_named r.records b))) e is.held,
+  (peeled_at (target_in (value_of_name r.records ref.1)), subst (λ b. commit_in (value_of_name r.records b) ≡ Ok (peeled_at (target_in (value_of_name r.records ref.1)))) e is.peels),
+)
+
+-- ---- what refs reach
 
 module _ (stands : ℕ → ℕ) (r : Records) (old : List (ℕ × Name)) where
   -- The commits of the first refs were added, and the others' lines are to be read.
@@ -117,21 +155,16 @@ module _ (stands : ℕ → ℕ) (r : Records) (old : List (ℕ × Name)) where
   none_added text e t = record { done = []; left = r.refs; refs = refl; lines = e; adds = record { tips = t; reach = λ c. sym (or_none (lead_to r old c)) } }
 
   pub all_added : (text : Bytes) (now : List (ℕ × Name)) → text ≡ [] → AreAdded text now → Adds stands (is_wanted r) old now r
-  all_added text now e a = by a.left a.refs (sym a.lines ∙ e)
-    where
-      by : (left : List (Bytes × Bytes)) → r.refs ≡ a.done ++ left → flat_map stored_ref left ≡ [] → Adds stands (is_wanted r) old now r
-      by [] f g = subst (λ refs. Adds stands (is_reached (map (told r) refs)) old now r) (sym (f ∙ append-nil a.done)) a.adds
-      by (ref ∷ left) f g = absurd (some_line ref (flat_map stored_ref left) g)
+  all_added text now e a =
+      let all = a.refs ∙ ap (λ left. a.done ++ left) (none_behind a.left (sym a.lines ∙ e)) ∙ append-nil a.done in
+      subst (λ refs. Adds stands (is_reached (map (told r) refs)) old now r) (sym all) a.adds
 
   -- the next line is that of a ref, whose object peels to a commit
   pub record IsNext (text : Bytes) (now : List (ℕ × Name)) : Type 0 where
     pub ref : Bytes × Bytes
     pub rest : Bytes
     pub line : text ≡ stored_ref ref ++ rest
-    pub name : IsTrue (is_name ref.1)
-    pub ref_name : IsTrue (is_ref_name ref.0)
-    pub held : IsTrue (is_some (record_named r.records ref.1))
-    pub peels : commit_in (value_of_name r.records ref.1) ≡ Ok (peeled_at (target_in (value_of_name r.records ref.1)))
+    pub is : IsPeeling r ref
     pub then_added : (new : List (ℕ × Name)) → Adds stands (reaches (peeled_at (target_in (value_of_name r.records ref.1)))) now new r → AreAdded rest new
 
   module _ (name : Kind → Bytes → Bytes) (namer : IsNamer name) (sound : IsSound name r) where
@@ -140,28 +173,21 @@ module _ (stands : ℕ → ℕ) (r : Records) (old : List (ℕ × Name)) where
       where
         by : (left : List (Bytes × Bytes)) → r.refs ≡ a.done ++ left → text ≡ flat_map stored_ref left → IsNext text now
         by [] f g = absurd (some g)
-        by (ref ∷ left) f g =
-            let target = (all_parts (λ q. IsTarget r.records q.0 q.1) a.done ref left (subst (AllByRecursion (λ q. IsTarget r.records q.0 q.1)) f sound.held)) in
-            let peel = target_peels name namer r sound ref.0 ref.1 target in
-            let value = held_is name namer r sound ref.1 peel.held in
-            record {
-              ref = ref;
-              rest = flat_map stored_ref left;
-              line = g;
-              name = subst (λ n. IsTrue (is_name n)) value.named (is_true _ (name_is_name name namer (kind_of name (value_of_name r.records ref.1)) (body_of name (value_of_name r.records ref.1))));
-              ref_name = test_part (λ q. is_ref_name q.0) a.done ref left (subst (λ qs. IsTrue (list_all (λ q. is_ref_name q.0) qs)) f sound.ref_names);
-              held = peel.held;
-              peels = peel.to;
-              then_added = λ new adds. record {
-                done = a.done ++ ref ∷ [];
-                left = left;
-                refs = f ∙ sym (append_assoc a.done (ref ∷ []) left);
-                lines = refl;
-                adds = adds_same stands r (λ c. is_reached (map (told r) a.done) c || reaches (peeled_at (told r ref).1) c) (is_reached (map (told r) (a.done ++ ref ∷ []))) old new
-                    (λ c. ref_more (map (told r) a.done) (told r ref) c ∙ ap (λ refs. is_reached refs c) (sym (map-append (told r) a.done (ref ∷ []))))
-                    (adds_both stands r (is_reached (map (told r) a.done)) (reaches (peeled_at (told r ref).1)) old now new a.adds adds);
-              };
-            }
+        by (ref ∷ left) f g = record {
+          ref = ref;
+          rest = flat_map stored_ref left;
+          line = g;
+          is = peeling name namer r sound a.done left ref f;
+          then_added = λ new adds. record {
+            done = a.done ++ ref ∷ [];
+            left = left;
+            refs = f ∙ sym (append_assoc a.done (ref ∷ []) left);
+            lines = refl;
+            adds = adds_same stands r (λ c. is_reached (map (told r) a.done) c || reaches (peeled_at (told r ref).1) c) (is_reached (map (told r) (a.done ++ ref ∷ []))) old new
+                (λ c. ref_more (map (told r) a.done) (told r ref) c ∙ ap (λ refs. is_reached refs c) (sym (map-append (told r) a.done (ref ∷ []))))
+                (adds_both stands r (is_reached (map (told r) a.done)) (reaches (peeled_at (told r ref).1)) old now new a.adds adds);
+          };
+        }
 
 -- ---- the same of the repository that is told
 
@@ -183,12 +209,12 @@ module _ (name : Kind → Bytes → Bytes) (namer : IsNamer name) (stands : ℕ 
     line_told None e s a = refl
     line_told (Some r) e s a =
         let n = next_added stands r old name namer s text now some a in
-        absurd (let o : None ≡ Some (n.ref, n.rest) = e ∙ ap first_ref n.line ∙ ref_first n.ref n.rest n.name n.ref_name in cc o)
+        absurd (let o = cut_first r n.ref n.rest text None n.is n.line e in cc o)
 
     module _ (object : Name) (called behind : Bytes) (cut : Some ((called, object.bytes), behind) ≡ first_ref text) where
       is_next : (r : Records) (n : IsNext stands r old text now) → (object.bytes ≡ n.ref.1) × (behind ≡ n.rest)
       is_next r n =
-          let o : Some ((called, object.bytes), behind) ≡ Some (n.ref, n.rest) = cut ∙ ap first_ref n.line ∙ ref_first n.ref n.rest n.name n.ref_name in
+          let o = cut_first r n.ref n.rest text (Some ((called, object.bytes), behind)) n.is n.line cut in
           let p : ((called, object.bytes), behind) ≡ (n.ref, n.rest) = cc o in
           (ap (λ (q : (Bytes × Bytes) × Bytes). q.0.1) p, ap (λ (q : (Bytes × Bytes) × Bytes). q.1) p)
 
@@ -196,10 +222,7 @@ module _ (name : Kind → Bytes → Bytes) (namer : IsNamer name) (stands : ℕ 
       line_peels None s a = tt
       line_peels (Some r) s a =
           let n = next_added stands r old name namer s text now some a in
-          let e = sym (is_next r n).0 in (
-            subst (λ b. IsTrue (is_some (record_named r.records b))) e n.held,
-            (peeled_at (target_in (value_of_name r.records n.ref.1)), subst (λ b. commit_in (value_of_name r.records b) ≡ Ok (peeled_at (target_in (value_of_name r.records n.ref.1)))) e n.peels),
-          )
+          object_peels r n.ref object n.is (sym (is_next r n).0)
 
       pub line_added : (told : Option Records) (commit : Name) (new : List (ℕ × Name)) → IfSome told (IsSound name) → IfSome told (λ r. AreAdded stands r old text now) → IfSome told (λ r. commit_in (value_at r object) ≡ Ok (commit_at r commit))
           → IfSome told (λ r. Adds stands (reaches (commit_at r commit)) now new r) → IfSome told (λ r. AreAdded stands r old behind new)
@@ -207,6 +230,6 @@ module _ (name : Kind → Bytes → Bytes) (namer : IsNamer name) (stands : ℕ 
       line_added (Some r) commit new s a e adds =
           let n = next_added stands r old name namer s text now some a in
           let i = is_next r n in
-          let both = sym e ∙ ap (λ b. commit_in (value_of_name r.records b)) i.0 ∙ n.peels in
+          let both = sym e ∙ ap (λ b. commit_in (value_of_name r.records b)) i.0 ∙ n.is.peels in
           let same : commit_at r commit ≡ peeled_at (target_in (value_of_name r.records n.ref.1)) = cc both in
           subst (λ t. AreAdded stands r old t new) (sym i.1) (n.then_added new (subst (λ c. Adds stands (reaches c) now new r) same adds))

@@ -52,7 +52,8 @@ pub(crate) fn ranks_of<O: Objects, A: Allocator + Copy>(
     count: usize,
     room: &mut Vec<u8, A>,
 ) -> Result<Vec<usize, A>, LookFault>
-    requires ranked { IfSome (O.told objects.now) (AreRanked (O.stands objects.now) front.old.entries) }
+    requires ranked { IfSome (O.told objects.now)
+        (AreRanked (O.stands objects.now) front.old.entries) }
     requires commits { IfSome (O.told objects.now) (AreNewestFirst commits.now) }
     ensures ranks { Tells (O.told objects.now)
         (λ r ranks. AreRanks front.old.entries count commits.now r ranks.items) result }
@@ -76,7 +77,8 @@ fn go_down<O: Objects, A: Allocator + Copy>(
     place: u64,
     room: &mut Vec<u8, A>,
 ) -> Result<(), LookFault>
-    requires ranked { IfSome (O.told objects.now) (AreRanked (O.stands objects.now) front.old.entries) }
+    requires ranked { IfSome (O.told objects.now)
+        (AreRanked (O.stands objects.now) front.old.entries) }
     ensures down { Tells (O.told objects.now) (λ r _. HandsDown (O.stands objects.now) place
         front.old.entries front.new.entries r) result }
     ensures below { OnOk result (AreBelow (suc place) (all_unranked front.new.entries)) }
@@ -113,12 +115,15 @@ fn lower_parents<O: Objects, A: Allocator + Copy>(
     rank: usize,
     room: &mut Vec<u8, A>,
 ) -> Result<(), LookFault>
-    requires ranked { IfSome (O.told objects.now) (AreRanked (O.stands objects.now) front.old.entries) }
-    requires tip { IfSome (O.told objects.now) (λ r. IsTip (O.stands objects.now) r (place, commit.now)) }
+    requires ranked { IfSome (O.told objects.now)
+        (AreRanked (O.stands objects.now) front.old.entries) }
+    requires tip { IfSome (O.told objects.now)
+        (λ r. IsTip (O.stands objects.now) r (place, commit.now)) }
     ensures below { OnOk result (AreBelow place (all_unranked front.old.entries)
         → AreBelow place (all_unranked front.new.entries)) }
     ensures lowers { Tells (O.told objects.now) (λ r _. Lowers (O.stands objects.now)
-        (some_reaches (parents_at r commit.now)) rank front.old.entries front.new.entries r) result }
+        (some_reaches (parents_at r commit.now)) rank
+        front.old.entries front.new.entries r) result }
     ensures fault { OnlyUntold (O.told objects.now) result }
 {
     objects.sound_if_told();
@@ -138,8 +143,10 @@ fn lower<O: Objects, A: Allocator + Copy>(
     commit: &Name,
     rank: usize,
 ) -> Result<(), LookFault>
-    requires ranked { IfSome (O.told objects.now) (AreRanked (O.stands objects.now) front.old.entries) }
-    requires tip { IfSome (O.told objects.now) (λ r. IsTip (O.stands objects.now) r (place, commit.now)) }
+    requires ranked { IfSome (O.told objects.now)
+        (AreRanked (O.stands objects.now) front.old.entries) }
+    requires tip { IfSome (O.told objects.now)
+        (λ r. IsTip (O.stands objects.now) r (place, commit.now)) }
     ensures below { OnOk result ((limit : ℕ) → place < limit
         → AreBelow limit (all_unranked front.old.entries)
         → AreBelow limit (all_unranked front.new.entries)) }

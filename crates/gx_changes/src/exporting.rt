@@ -5,7 +5,7 @@ ghost use Rattle.gx_rev.specs.Views.{shown_range};
 ghost use Rattle.gx_changes.specs.Sending.{SendsRange};
 
 use crate::ChangesFault;
-use crate::finding::find_sent;
+use crate::finding::{Sent, find_sent};
 use crate::sending::write_sent;
 use gx_objects::Objects;
 use gx_rev::Range;
@@ -35,15 +35,7 @@ pub fn export_range<O: Objects, A: Allocator + Copy, W: Sink>(
 {
     let mut room = Vec::new(alloc);
     let mut lines = Vec::new(alloc);
-    let sent = find_sent(alloc, objects, &mut room, &mut lines, words)?;
-    write_sent(
-        alloc,
-        objects,
-        &mut room,
-        sink,
-        &sent.refs,
-        &sent.commits,
-        closed,
-    )?;
+    let Sent { refs, commits } = find_sent(alloc, objects, &mut room, &mut lines, words)?;
+    write_sent(alloc, objects, &mut room, sink, &refs, &commits, closed)?;
     Ok(())
 }

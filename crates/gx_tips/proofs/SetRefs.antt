@@ -33,7 +33,7 @@ use Rattle.gx_ranges.proofs.Steps.{StandsInOrder}
 use Rattle.gx_ranges.proofs.Tips.{inserted, last_leads, number_of}
 use Rattle.gx_ranges.proofs.WordTips.{adds_both, adds_nothing, adds_same, listed_so}
 use Rattle.gx_tips.specs.Spans.{AreHeld, AreListed, AreSetRefs, AreSpans, FindsReached, FindsSpans}
-use Rattle.gx_tips.specs.Tips.{AreAllRefs, AreTips, IsTip, shown_tip, targets}
+use Rattle.gx_tips.specs.Tips.{AreAllRefs, IsTip, shown_tip, targets}
 use Rattle.gx_tips.specs.declared.spans.Spans.{Spans}
 use Rattle.gx_tips.specs.declared.tips.Tip.{Tip}
 use Rattle.gx_tips.proofs.Lists.{any_either, filtered_seen, holds_behind, holds_both, holds_filtered, holds_for, mapped_twice}

@@ -1,3 +1,5 @@
+mod Digests
+mod Growths
 mod OldTexts
 mod OtherRefs
 mod Spelled

@@ -1,5 +1,5 @@
 -- Segments that bring no objects, by the lines of their tails. Source: this project's own format.
-use Rattle.std.specs.Prelude.{◌≡◌, ◌^◌, ℕ, ◌+◌, ◌<◌, List, [], ◌∷◌, ◌++◌, length, drop, codes}
+use Rattle.std.specs.Prelude.{◌≡◌, ◌⊎◌, ◌^◌, ℕ, ◌+◌, ◌<◌, List, [], ◌∷◌, ◌++◌, length, drop, codes, Bool, Option, Some}
 use Rattle.std.specs.List.{flat_map}
 use Rattle.sha2.specs.Sha256.{sha256}
 use Rattle.gx_model.specs.declared.objects.Kind.{Kind}
@@ -9,9 +9,9 @@ use Rattle.gx_model.specs.Records.Sound.{IsSound}
 use Rattle.gx_model.specs.Texts.Numbers.{number_text}
 use Rattle.gx_model.specs.Objects.{line}
 use Rattle.gx_model.specs.Stores.StoreText.{stored_ref}
-use Rattle.gx_growing.specs.GrowingText.{IsGrowingText, Run, Segment, Slot, run_text, segment_text}
+use Rattle.gx_growing.specs.GrowingText.{IsGrowingText, Run, Segment, Slot, run_text, segment_text, picks_first}
 use Rattle.gx_growing.specs.GrowingLaws.{ForEachDigester}
-use Rattle.gx_append.specs.Appending.{Takes}
+use Rattle.gx_append.specs.Appending.{IsReadAs, IsTold, Takes}
 
 -- a segment that brings no records and no rows: these are the live runs still
 abbrev pub refs_alone : List Run → List (Bytes × Bytes) → Segment
@@ -38,3 +38,26 @@ tail_with runs count refs = runs ++ (line (codes "refs") (number_text count) ++ 
 -- the slot of a segment behind a place, of which 18 bytes stand before its tail
 abbrev pub slot_of : ℕ → Bytes → Slot
 slot_of ends segment = record { ends = (ends + 18) + length (drop 18 segment); tail = ends + 18; digest = sha256 (drop 18 segment) }
+
+-- ---- appending them
+
+-- a repository with other refs
+abbrev pub with_refs : Records → List (Bytes × Bytes) → Records
+with_refs repository refs = record { records = repository.records; refs = refs }
+
+-- A file is told that is a growing text of a repository, with these lines of live runs, and the lines are given of refs that the
+-- repository may have.
+pub record GivesRefs (name : Kind → Bytes → Bytes) (told : Option Bytes) (is_first : Bool) (ends : ℕ) (runs : Bytes) (count : ℕ) (refs : Bytes)
+    (repository : Records) (named : List (Bytes × Bytes)) : Type 0 where
+  pub file : Bytes
+  pub is : told ≡ Some file
+  pub old : IsGrowingText name sha256 file repository
+  pub picks : picks_first old.pick ≡ is_first
+  pub ends_are : ends ≡ old.slot.ends
+  pub lines : AreLines old.last.runs named runs count refs
+  pub sound : IsSound name (with_refs repository named)
+  pub short : length file < 2 ^ 63
+
+-- nothing is written, or the file is read as the repository, and ends where its text does
+abbrev pub IsCutBack : (Kind → Bytes → Bytes) → Option Bytes → Option Bytes → ℕ → Records → Type 0
+IsCutBack name told new ends repository = (new ≡ told) ⊎ IsTold new (λ file. IsReadAs name sha256 repository file × (length file ≡ ends))

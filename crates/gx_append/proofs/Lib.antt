@@ -1,6 +1,6 @@
-mod Moments
-mod Pieces
-mod Readings
+pub mod Moments
+pub mod Pieces
+pub mod Readings
 mod Shown
 mod Staging
 mod Steps

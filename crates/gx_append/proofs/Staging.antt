@@ -1,10 +1,10 @@
 -- What stands on a device while a segment and its slot are written, and where they are cut off again.
-use Rattle.std.proofs.Common.{◌≡◌, inr, ℕ, ◌+◌, ◌≤◌, Bool, not, ◌++◌, length, take, refl, sym, ◌∙◌, subst, arith, Some, Ok, Err}
+use Rattle.std.proofs.Common.{◌≡◌, inr, ℕ, ◌+◌, ◌≤◌, ◌<◌, Bool, not, ◌++◌, length, take, refl, sym, ◌∙◌, subst, arith, Some, Ok, Err}
 use Rattle.std.specs.Prelude.{Option}
 use Rattle.std.proofs.lemmas.List.{length-take-le, take-take}
 use Rattle.gx_model.specs.Texts.{Bytes}
 use Rattle.gx_growing.specs.GrowingText.{head_length}
-use Rattle.gx_append.specs.Devices.{Answer, CountsFaults, Cut, Cuts, CutsTo, FailsFor, Follows, OnlyText, Torn, Writes, written_at}
+use Rattle.gx_append.specs.Devices.{Answer, CountsFaults, Cut, Cuts, CutsTo, FailsFor, Follows, OnlyText, Torn, Writes, most_faults, written_at}
 use Rattle.gx_append.specs.Appending.{IsAsked, IsCutBack, IsTold, Shows, Staged, slot_place}
 use Rattle.gx_append.proofs.Moments.{Known, Time}
 use Rattle.gx_append.proofs.Shown.{segment_cut, segment_held, segment_torn, shows_long, slot_fits, slot_held, slot_torn}
@@ -61,8 +61,8 @@ module _ {D : Type 0} (k : Known D) (begun : D) (is_first : Bool) (ends : ℕ) (
 
 -- a cut that doesn't fail
 pub cut_back : (is_first : Bool) (ends : ℕ) (was segments : Bytes) (before told new : Option Bytes) (result : Answer) (a b : ℕ) → ends ≡ head_length + length segments → IsTold told (Shows is_first was segments)
-    → Cuts ends result told new → FailsFor told a b result → b ≤ a → IsCutBack before new is_first was segments
-cut_back is_first ends was segments before told new result a b e t cuts fails few =
+    → Cuts ends result told new → FailsFor told a b result → b < most_faults → b ≤ a → IsCutBack before new is_first was segments
+cut_back is_first ends was segments before told new result a b e t cuts fails counted few =
     let file = t.0 in
     let fit = shows_long is_first was segments file ends t.2 e in
     by result (subst (λ o. Cuts ends result o new) t.1 cuts fit) (subst (λ o. FailsFor o a b result) t.1 fails)
@@ -71,4 +71,4 @@ cut_back is_first ends was segments before told new result a b e t cuts fails fe
     by (Ok done) w counts =
         let fit = shows_long is_first was segments t.0 ends t.2 e in
         inr (take ends t.0, w, (segment_cut is_first was segments ends e t.0 (take ends t.0) t.2 (λ le. take-take ends ends t.0 (omega arith)), length-take-le ends t.0 fit ∙ e))
-    by (Err error) w counts = let more = counts.failed refl in absurd (omega arith)
+    by (Err error) w counts = let more = counts.failed refl counted in absurd (omega arith)

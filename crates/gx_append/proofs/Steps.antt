@@ -37,7 +37,7 @@ fails_counted told P before now result t fails = subst (λ o. FailsFor o before 
 pub counts_more : (a b c : ℕ) (first result : Answer) → CountsFaults a b first → CountsFaults b c result → CountsFaults a c result
 counts_more a b c first result so_far more = record {
   later = omega (arith, so_far.later, more.later);
-  failed = λ e. let f = more.failed e in omega (arith, so_far.later);
+  failed = λ e few. let f = more.failed e few in omega (arith, so_far.later);
 }
 
 module _ {D : Type 0} (k : Known D) where

@@ -1,5 +1,5 @@
 -- What the calls of a device do to its text, and what a stop of the machine may leave of it between two syncs.
-use Rattle.std.specs.Prelude.{◌≡◌, ◌⊎◌, ℕ, ◌+◌, ◌≤◌, ◌<◌, ◌++◌, length, take, drop, Option, Some, None, Result, Ok, Err, IsErr, ⊤}
+use Rattle.std.specs.Prelude.{◌≡◌, ◌⊎◌, ◌^◌, ℕ, ◌+◌, ◌-◌, ◌≤◌, ◌<◌, ◌++◌, length, take, drop, Option, Some, None, Result, Ok, Err, IsErr, ⊤}
 use Rattle.std.specs.declared.io.Error.{Error}
 use Rattle.gx_model.specs.Texts.{Bytes}
 
@@ -43,10 +43,14 @@ abbrev pub Cuts : ℕ → Answer → Option Bytes → Option Bytes → Type 0
 Cuts at result None new = ⊤
 Cuts at result (Some old) new = at ≤ length old → CutsTo at result old new
 
--- a call fails only where the device has failed since
+-- a device counts its failures up to this number
+abbrev pub most_faults : ℕ
+most_faults = 2 ^ 64 - 1
+
+-- a call fails only where the device has failed since, as long as it counts
 pub record CountsFaults (before now : ℕ) (result : Answer) : Type 0 where
   pub later : before ≤ now
-  pub failed : IsErr result → before < now
+  pub failed : IsErr result → now < most_faults → before < now
 
 -- of a device that tells no text nothing is claimed
 abbrev pub FailsFor : Option Bytes → ℕ → ℕ → Answer → Type 0

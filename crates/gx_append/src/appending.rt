@@ -8,7 +8,7 @@ ghost use Rattle.gx_growing.specs.GrowingLaws.{ForEachDigester};
 ghost use Rattle.gx_growing.specs.GrowingText.{picks_first};
 ghost use Rattle.gx_append.specs.Appending as appends;
 ghost use Rattle.gx_append.specs.Appending.{slot_place};
-ghost use Rattle.gx_append.specs.Devices.{CountsFaults, LeavesOnly, OnlyText};
+ghost use Rattle.gx_append.specs.Devices.{CountsFaults, LeavesOnly, OnlyText, most_faults};
 
 use crate::device::Device;
 use crate::fault::AppendFault;
@@ -44,11 +44,12 @@ pub fn append<D: Device>(
         (appends.Shows is_first was segments)) }
     ensures cut { IfErr result (λ fault. appends.IsUnwritten fault → (was segments : Bytes)
         → appends.IsAsked (D.text device.old) is_first end slot.now was segments
-        → D.faults device.new ≤ D.faults device.old + 1
+        → D.faults device.new ≤ D.faults device.old + 1 → D.faults device.new < most_faults
         → appends.IsCutBack (D.text device.old) (D.text device.new) is_first was segments) }
     ensures cause { (was segments : Bytes)
         → appends.IsAsked (D.text device.old) is_first end slot.now was segments
-        → IsErr result → D.faults device.old < D.faults device.new }
+        → IsErr result → D.faults device.new < most_faults
+        → D.faults device.old < D.faults device.new }
     ensures reads { ForEachNamer (λ name. ForEachDigester (λ digest. (repository new : Records)
         → appends.IsGrowth name digest (D.text device.old) is_first end segment.now slot.now
         repository new

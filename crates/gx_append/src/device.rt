@@ -20,7 +20,7 @@ pub trait Device: ReadAt {
     /// What a stop at some moment from that one on might have left, during a call or between two.
     ghost left_since: { Self → ℕ → Bytes → Type 0 };
 
-    /// How often a call has failed.
+    /// How often a call has failed, for want of memory, too. The count may end at 2^64 - 1.
     ghost faults: { Self → ℕ };
 
     /// Writes bytes from a place on, over what is there and behind the end.

@@ -38,24 +38,25 @@ returns-in-Err-stage-clause-unwritten g c unwritten was segments asked =
     all.leaves
 
 pub returns-in-Err-stage-clause-cut : goal.returns-in-Err-stage-clause-cut
-returns-in-Err-stage-clause-cut g c unwritten was segments asked few =
-    let k : Known g.row.D.Denot = record { text = g.D.ReadAt.text; moment = g.D.Device.moment; left_since = g.D.Device.left_since; may_leave = g.D.Device.may_leave; counts_now = g.met.D.Device.counts_now; only_now = g.met.D.Device.only_now } in
-    let asks = asked_still (g.D.ReadAt.text c.args.device.now) (g.D.ReadAt.text c.sync.new.self) c.args.is_first c.args.end c.args.slot.now was segments c.sync.ensures.same asked in
-    let first = fails_counted (g.D.ReadAt.text c.args.device.now) (Shows c.args.is_first was segments) (g.D.Device.faults c.args.device.now) (g.D.Device.faults c.sync.new.self) c.sync.result (asked.file, asked.is, asked.shows) c.sync.ensures.cause in
-    let second = c.stage.ensures.cause was segments asks in
-    let more = c.in-Err-stage.ensures.cause was segments asks in
-    let failed = more.failed refl in
-    (cut_back c.args.is_first c.args.end was segments (g.D.ReadAt.text c.args.device.now) (g.D.ReadAt.text c.stage.new.device) (g.D.ReadAt.text c.cut.new.self) c.cut.result (g.D.Device.faults c.stage.new.device) (g.D.Device.faults c.cut.new.self) asked.ends_are (c.stage.ensures.kept was segments asks) c.cut.ensures.kept c.cut.ensures.cause (omega (arith, first.later, failed, few)))
-
-pub returns-in-Err-stage-clause-cause : goal.returns-in-Err-stage-clause-cause
-returns-in-Err-stage-clause-cause g c was segments asked failed =
+returns-in-Err-stage-clause-cut g c unwritten was segments asked few counted =
     let k : Known g.row.D.Denot = record { text = g.D.ReadAt.text; moment = g.D.Device.moment; left_since = g.D.Device.left_since; may_leave = g.D.Device.may_leave; counts_now = g.met.D.Device.counts_now; only_now = g.met.D.Device.only_now } in
     let asks = asked_still (g.D.ReadAt.text c.args.device.now) (g.D.ReadAt.text c.sync.new.self) c.args.is_first c.args.end c.args.slot.now was segments c.sync.ensures.same asked in
     let first = fails_counted (g.D.ReadAt.text c.args.device.now) (Shows c.args.is_first was segments) (g.D.Device.faults c.args.device.now) (g.D.Device.faults c.sync.new.self) c.sync.result (asked.file, asked.is, asked.shows) c.sync.ensures.cause in
     let second = c.stage.ensures.cause was segments asks in
     let more = c.in-Err-stage.ensures.cause was segments asks in
     let third = fails_counted (g.D.ReadAt.text c.stage.new.device) (Shows c.args.is_first was segments) (g.D.Device.faults c.stage.new.device) (g.D.Device.faults c.cut.new.self) c.cut.result (c.stage.ensures.kept was segments asks) c.cut.ensures.cause in
-    omega (arith, first.later, more.failed refl, third.later)
+    let failed = more.failed refl (omega (arith, third.later, counted)) in
+    (cut_back c.args.is_first c.args.end was segments (g.D.ReadAt.text c.args.device.now) (g.D.ReadAt.text c.stage.new.device) (g.D.ReadAt.text c.cut.new.self) c.cut.result (g.D.Device.faults c.stage.new.device) (g.D.Device.faults c.cut.new.self) asked.ends_are (c.stage.ensures.kept was segments asks) c.cut.ensures.kept c.cut.ensures.cause counted (omega (arith, first.later, failed, few)))
+
+pub returns-in-Err-stage-clause-cause : goal.returns-in-Err-stage-clause-cause
+returns-in-Err-stage-clause-cause g c was segments asked failed counted =
+    let k : Known g.row.D.Denot = record { text = g.D.ReadAt.text; moment = g.D.Device.moment; left_since = g.D.Device.left_since; may_leave = g.D.Device.may_leave; counts_now = g.met.D.Device.counts_now; only_now = g.met.D.Device.only_now } in
+    let asks = asked_still (g.D.ReadAt.text c.args.device.now) (g.D.ReadAt.text c.sync.new.self) c.args.is_first c.args.end c.args.slot.now was segments c.sync.ensures.same asked in
+    let first = fails_counted (g.D.ReadAt.text c.args.device.now) (Shows c.args.is_first was segments) (g.D.Device.faults c.args.device.now) (g.D.Device.faults c.sync.new.self) c.sync.result (asked.file, asked.is, asked.shows) c.sync.ensures.cause in
+    let second = c.stage.ensures.cause was segments asks in
+    let more = c.in-Err-stage.ensures.cause was segments asks in
+    let third = fails_counted (g.D.ReadAt.text c.stage.new.device) (Shows c.args.is_first was segments) (g.D.Device.faults c.stage.new.device) (g.D.Device.faults c.cut.new.self) c.cut.result (c.stage.ensures.kept was segments asks) c.cut.ensures.cause in
+    omega (arith, first.later, more.failed refl (omega (arith, third.later, counted)), third.later)
 
 pub pick-requires : goal.pick-requires
 pick-requires g c = record { durable = c.in_default-stage.ensures.durable }
@@ -91,14 +92,14 @@ returns-in-Err-pick-clause-any_moment g c was segments asked =
     go_on k c.args.device.now c.sync.new.self c.pick.new.device (IsBeforeOrAfter c.args.is_first was segments c.args.slot.now c.args.segment.now) begun (go_on k c.sync.new.self c.stage.new.device c.pick.new.device (IsBeforeOrAfter c.args.is_first was segments c.args.slot.now c.args.segment.now) before picked)
 
 pub returns-in-Err-pick-clause-cause : goal.returns-in-Err-pick-clause-cause
-returns-in-Err-pick-clause-cause g c was segments asked failed =
+returns-in-Err-pick-clause-cause g c was segments asked failed counted =
     let asks = asked_still (g.D.ReadAt.text c.args.device.now) (g.D.ReadAt.text c.sync.new.self) c.args.is_first c.args.end c.args.slot.now was segments c.sync.ensures.same asked in
     let staged = c.in_default-stage.ensures.staged was segments asks in
     let stood : IsTold (g.D.ReadAt.text c.stage.new.device) (Staged c.args.is_first was segments c.args.slot.now c.args.segment.now) = (staged.0, staged.1, staged.2.1) in
     let first = fails_counted (g.D.ReadAt.text c.args.device.now) (Shows c.args.is_first was segments) (g.D.Device.faults c.args.device.now) (g.D.Device.faults c.sync.new.self) c.sync.result (asked.file, asked.is, asked.shows) c.sync.ensures.cause in
     let second = c.stage.ensures.cause was segments asks in
     let more = c.in-Err-pick.ensures.cause was segments c.args.slot.now c.args.segment.now stood in
-    omega (arith, first.later, second.later, more.failed refl)
+    omega (arith, first.later, second.later, more.failed refl counted)
 
 pub returns-in-Err-clause-reads : goal.returns-in-Err-clause-reads
 returns-in-Err-clause-reads g c name namer digest digester repository new growth =

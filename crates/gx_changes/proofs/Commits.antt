@@ -139,6 +139,10 @@ module _ {W A B : Type 0} (name : Kind → Bytes → Bytes) (namer : IsNamer nam
     own_is : (r : Records) → IsCommitOf name view r called → OfItsParts name view r found → AreOwn r (commit_at r called) found
     own_is r is o = o called is
 
+    pub files_told : (told : Option Records) → IfSome told (λ r. IsCommitOf name view r called) → IfSome told (λ r. OfItsParts name view r found) → IfSome told (HaveFiles found.files.items)
+    files_told None is o = tt
+    files_told (Some r) is o = (own_is r is o).held
+
     pub blobs_stop_told : (told : Option Records) (new : Written W A) (e : SendFault) → IfSome told (IsSound name) → IfSome told (λ r. IsCommitOf name view r called) → IfSome told (λ r. OfItsParts name view r found)
         → IfSome told (λ r. (ws : List Value) → HasWritten r ws old → AddsBlobs ws (blobs_at r found.files.items) old new (Err e) r) → AddsCommit told new (Err e)
     blobs_stop_told None new e s is o k = tt

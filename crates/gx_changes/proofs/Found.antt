@@ -10,22 +10,16 @@ use Rattle.gx_model.specs.Revisions.Ranges.{Word, WordFault, listing, words_deno
 use Rattle.gx_model.specs.Texts.{Bytes}
 use Rattle.gx_model.specs.Texts.Sinks.{Taken, TookFront}
 use Rattle.gx_object.specs.declared.name.Name.{Name}
-use Rattle.gx_objects.specs.Answers.{OnlyUntold}
-use Rattle.gx_objects.specs.declared.fault.LookFault.{LookFault}
-use Rattle.gx_objects.specs.declared.fault.LookFault.TheVariants as look
-use Rattle.gx_questions.specs.declared.fault.AskFault.{AskFault}
-use Rattle.gx_questions.specs.declared.fault.AskFault.TheVariants as ask
-use Rattle.gx_ranges.specs.Answers.{RefusesWord}
 use Rattle.gx_rev.specs.Objects.{commit_at}
 use Rattle.gx_export.specs.ChangedParts.{DeliversRange}
 use Rattle.gx_export.proofs.Writing.{nothing_yet}
 use Rattle.gx_sending.specs.Faults.{IsOnTheWay, stopped}
 use Rattle.gx_sending.specs.declared.fault.SendFault.{SendFault}
 use Rattle.gx_sending.specs.declared.fault.SendFault.TheVariants as send
-use Rattle.gx_tips.specs.Spans.{AreHeld, AreListed, AreSetRefs, FindsSpans}
-use Rattle.gx_tips.specs.Tips.{targets}
+use Rattle.gx_tips.specs.Spans.{AreHeld, AreListed, AreNewestFirst, AreSetRefs, FindsSpans}
+use Rattle.gx_tips.specs.Tips.{AreTips, targets}
 use Rattle.gx_tips.specs.declared.spans.Spans.{Spans}
-use Rattle.gx_changes.specs.Faults.{of_look, of_range, of_send}
+use Rattle.gx_changes.specs.Faults.{of_send}
 use Rattle.gx_changes.specs.Sending.{FindsSent, IsFoundIn, IsSent, SendsFront, SendsRange}
 use Rattle.gx_changes.specs.Texts.{DeliversAll, commits_sent}
 use Rattle.gx_changes.specs.declared.fault.ChangesFault.{ChangesFault}
@@ -33,6 +27,11 @@ use Rattle.gx_changes.specs.declared.fault.ChangesFault.TheVariants.{OutOfMemory
 use Rattle.gx_changes.specs.declared.finding.Sent.{Sent}
 
 -- ---- finding
+
+-- the refs and the commits of spans
+pub both_found : {A : Type 0} (stands : ℕ → ℕ) (told : Option Records) (spans : Spans A) (sent : Sent A) → IfSome told (λ r. AreSetRefs stands spans r sent.refs.items) → IfSome told (λ r. AreListed stands spans r sent.commits.items) → IfSome told (λ r. IsFoundIn stands spans r sent)
+both_found stands None spans sent h k = tt
+both_found stands (Some r) spans sent h k = record { words = λ words s. record { refs = h.set words s; commits = ap reverse (k.listed words s); each = h.each; order = k.order } }
 
 module _ {A : Type 0} (name : Kind → Bytes → Bytes) (stands : ℕ → ℕ) (asked : List RangeWord) where
   pub spans_held : (told : Option Records) (spans : Spans A) → FindsSpans name stands told asked (Ok spans) → IfSome told (AreHeld stands spans)
@@ -43,16 +42,13 @@ module _ {A : Type 0} (name : Kind → Bytes → Bytes) (stands : ℕ → ℕ) (
   sent_found None spans sent h k = tt
   sent_found (Some r) spans sent h k = (h.0, h.1, k.words h.0 h.2)
 
-  pub look_stops : {X : Type 0} (told : Option Records) (e : LookFault) → OnlyUntold {T = X} told (Err e) → FindsSent {A = A} name stands told asked (Err (of_look e))
-  look_stops told look.OutOfMemory h = tt
-  look_stops told look.ReadFailed h = tt
-  look_stops told look.Damaged h = h refl
+  pub tips_found : (told : Option Records) (sent : Sent A) → FindsSent name stands told asked (Ok sent) → IfSome told (λ r. AreTips stands sent.refs.items r)
+  tips_found None sent h = tt
+  tips_found (Some r) sent h = h.2.each
 
-  pub word_refused : (told : Option Records) (word : ℕ) (e : AskFault) → RefusesWord told (λ r. words_denoted name (history_of r) asked) word e → FindsSent {A = A} name stands told asked (Err (of_range word e))
-  word_refused told word ask.OutOfMemory h = tt
-  word_refused told word ask.ReadFailed h = tt
-  word_refused told word ask.Damaged h = h.1
-  word_refused told word (ask.Revision fault) h = h
+  pub order_found : (told : Option Records) (sent : Sent A) → FindsSent name stands told asked (Ok sent) → IfSome told (λ r. AreNewestFirst sent.commits.items r)
+  order_found None sent h = tt
+  order_found (Some r) sent h = h.2.order
 
 -- ---- what an export answers
 
@@ -71,13 +67,13 @@ module _ (name : Kind → Bytes → Bytes) (closed : Bool) (asked : List RangeWo
         none = subst (λ g. IfErr g (λ refusal. was ≡ was)) (sym e) refl;
       }
 
-  pub not_found : {A : Type 0} (stands : ℕ → ℕ) (told : Option Records) (e : ChangesFault) (was : Option Taken) → FindsSent {A = A} name stands told asked (Err e) → IfSome told (SendsRange name closed asked was was (Err e))
-  not_found stands None e was h = tt
-  not_found stands (Some r) OutOfMemory was h = none_out r was
-  not_found stands (Some r) ReadFailed was h = none_out r was
-  not_found stands (Some r) Damaged was h = absurd (cc h)
-  not_found stands (Some r) (WriteFailed n) was h = absurd h
-  not_found stands (Some r) (Refused number kind) was h = (refl, h)
+  pub not_found : (A : Type 0) (stands : ℕ → ℕ) (told : Option Records) (e : ChangesFault) (was : Option Taken) → FindsSent {A = A} name stands told asked (Err e) → IfSome told (SendsRange name closed asked was was (Err e))
+  not_found A stands None e was h = tt
+  not_found A stands (Some r) OutOfMemory was h = none_out r was
+  not_found A stands (Some r) ReadFailed was h = none_out r was
+  not_found A stands (Some r) Damaged was h = absurd (cc h)
+  not_found A stands (Some r) (WriteFailed n) was h = absurd h
+  not_found A stands (Some r) (Refused number kind) was h = (refl, h)
 
   module _ {A : Type 0} (stands : ℕ → ℕ) (sent : Sent A) (was now : Option Taken) where
     -- what goes out is the text of the words

@@ -1,6 +1,7 @@
 mod Told
 mod OwnFiles
 mod Commits
+mod CommitLines
 mod Parents
 mod SentRefs
 mod Texts

@@ -1,9 +1,9 @@
 -- What goes out of refs: resets to commits, and tags.
-use Rattle.std.proofs.Common.{◌≡◌, ◌≢◌, ◌∙◌, ℕ, ◌+◌, ◌<◌, List, [], ◌∷◌, ◌++◌, map, suc, length, take, drop, get_or, Option, Some, None, Result, Ok, Err, refl, sym, ap, subst}
+use Rattle.std.proofs.Common.{◌≡◌, ◌≢◌, ◌∙◌, ℕ, ◌+◌, ◌<◌, List, [], ◌∷◌, ◌++◌, map, suc, length, take, drop, get_or, Option, Some, None, Result, Ok, Err, true, false, ◌≤◌, refl, sym, ap, subst}
 use Rattle.std.specs.Prelude.{IfSome}
 use Rattle.std.specs.List.{AllByRecursion}
 use Rattle.std.proofs.lemmas.Grind.{flat_map-append}
-use Rattle.std.proofs.lemmas.List.{append-nil, map-append}
+use Rattle.std.proofs.lemmas.List.{append-nil, map-append, take_all}
 use Rattle.gx_model.specs.declared.objects.Kind.{Kind}
 use Rattle.gx_model.specs.declared.objects.Kind.TheVariants as kinds
 use Rattle.gx_model.specs.Changes.{named_in}
@@ -17,7 +17,7 @@ use Rattle.gx_model.specs.Records.Sound.{IsSound}
 use Rattle.gx_model.specs.Revisions.Denotation.{commit_in}
 use Rattle.gx_model.specs.Streams.Commands.{CommitIsh}
 use Rattle.gx_model.specs.Streams.Items.{Item}
-use Rattle.gx_model.specs.Texts.{Bytes}
+use Rattle.gx_model.specs.Texts.{Bytes, same_bytes}
 use Rattle.gx_model.proofs.ObjectTexts.BodiesReadBack.{tag_read}
 use Rattle.gx_model.proofs.ObjectTexts.OneTree.{all_right}
 use Rattle.gx_model.proofs.Records.HeldValues.{commit_stands, held_is, kind_held}
@@ -26,6 +26,7 @@ use Rattle.gx_objects.specs.declared.objects.Object.{Object}
 use Rattle.gx_questions.specs.Objects.{IsObjectAt}
 use Rattle.gx_rev.specs.Objects.{IsHeld, IsHeldAs, commit_at, value_at}
 use Rattle.gx_rev.proofs.Bodies.{tag_text_held}
+use Rattle.gx_tree.proofs.Texts.{bytes_are, same_itself}
 use Rattle.gx_export.specs.Naming.{shown_commit}
 use Rattle.gx_export.specs.Outputs.{Sent, Writes}
 use Rattle.gx_export.specs.Texts.{command_text, items_of, tag_command, to_commit}
@@ -40,6 +41,14 @@ use Rattle.gx_sending.proofs.Sending.{adds_bytes, adds_nothing, listed_parts, ne
 use Rattle.gx_tips.specs.Tips.{AreTips, IsTip, targets}
 use Rattle.gx_tips.specs.declared.tips.Tip.{Tip}
 use Rattle.gx_changes.specs.Commits.{AddsItems}
+
+-- ---- names
+
+pub same_names : (n m : Name) → same_bytes n.bytes m.bytes ≡ true → n ≡ m
+same_names n m e = ap (λ bytes. record { bytes = bytes }) (bytes_are n.bytes m.bytes e)
+
+pub other_names : (n m : Name) → same_bytes n.bytes m.bytes ≡ false → n.bytes ≡ m.bytes → ⊥
+other_names n m e q = let f : true ≡ false = sym (same_itself m.bytes) ∙ ap (λ b. same_bytes b m.bytes) (sym q) ∙ e in cc f
 
 -- ---- one ref
 
@@ -150,6 +159,9 @@ module _ {W A : Type 0} (name : Kind → Bytes → Bytes) (tips : List Tip) (fir
   pub refs_written : (told : Option Records) (i : ℕ) (now : Written W A) → IfSome told (IsWritten first) → FirstRefs told i now → IfSome told (IsWritten now)
   refs_written None i now w h = tt
   refs_written (Some r) i now w h = (w.0, (h w.0 w.1).written)
+
+  pub all_refs : (told : Option Records) (i : ℕ) (now : Written W A) → length tips ≤ i → FirstRefs told i now → IfSome told (AddsItems (refs_items name tips) first now (Ok tt))
+  all_refs told i now l h = subst (λ ts. IfSome told (AddsItems (refs_items name ts) first now (Ok tt))) (take_all i tips l) h
 
   module _ (i : ℕ) (tip : Tip) (l : i < length tips) (e : tip ≡ get_or tips i tip) (now : Written W A) where
     pub next_ref : (told : Option Records) (new : Written W A) → FirstRefs told i now → IfSome told (AddsItems (ref_items name tip) now new (Ok tt)) → FirstRefs told (i + 1) new

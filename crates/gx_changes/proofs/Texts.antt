@@ -16,7 +16,11 @@ use Rattle.gx_model.specs.Histories.Values.{Commit, Value}
 use Rattle.gx_model.specs.Streams.Commands.{Command, Done}
 use Rattle.gx_model.specs.Streams.Items.{Item}
 use Rattle.gx_model.specs.Texts.{Bytes}
+use Rattle.gx_model.specs.Texts.Sinks.{Taken}
 use Rattle.gx_object.specs.declared.name.Name.{Name}
+use Rattle.gx_objects.specs.Answers.{OnlyUntold}
+use Rattle.gx_objects.specs.declared.fault.LookFault.{LookFault}
+use Rattle.gx_objects.specs.declared.fault.LookFault.TheVariants as look
 use Rattle.gx_rev.specs.Objects.{IsHeldAs, commit_at}
 use Rattle.gx_export.specs.ChangedParts.{closing, one_on, opening}
 use Rattle.gx_export.specs.Outputs.{Delivers, Sent, StopsAt, Writes, most}
@@ -24,9 +28,9 @@ use Rattle.gx_export.specs.Texts.{command_text, items_of}
 use Rattle.gx_export.specs.declared.fault.ExportFault.{ExportFault}
 use Rattle.gx_export.specs.declared.fault.ExportFault.TheVariants.{OutOfMemory, WriteFailed}
 use Rattle.gx_export.proofs.CommitLines.{passes_at}
-use Rattle.gx_export.proofs.Writing.{writes_none}
+use Rattle.gx_export.proofs.Writing.{nothing_yet, writes_none}
 use Rattle.gx_export.proofs.ChangedLists.{changed_first, changed_items, changed_last, changed_parted, changes_append, one_items}
-use Rattle.gx_sending.specs.Faults.{of_export, stopped}
+use Rattle.gx_sending.specs.Faults.{of_export, of_look, stopped}
 use Rattle.gx_sending.specs.Marks.{Adds, HasWritten, IsWritten}
 use Rattle.gx_sending.specs.declared.fault.SendFault.{SendFault}
 use Rattle.gx_sending.specs.declared.written.Written.{Written}
@@ -312,3 +316,11 @@ module _ {W A B : Type 0} (name : Kind → Bytes → Bytes) (closed : Bool) (ref
       pub closed_out : (told : Option Records) → IfSome told (AddsItems (refs_items name refs) (record old { output = after }) last (Ok tt)) → Writes last.output end (items_text (closing closed)) (Ok tt) → BehindOut told (record last { output = end }) (Ok tt)
       closed_out None g c = tt
       closed_out (Some r) g c = λ commits f. closing_with r commits f g (Ok tt) (λ ws h. adds_bytes r ws (closing closed) last end h c)
+
+-- where the branches aren't found nothing goes out
+module _ (name : Kind → Bytes → Bytes) (closed : Bool) (commits : List Name) (refs : List Tip) where
+  pub not_begun : (X : Type 0) (told : Option Records) (e : LookFault) (was : Option Taken) → OnlyUntold {T = X} told (Err e) → IfSome told (λ r. DeliversAll name closed (commits_sent r commits) (targets r refs) was was (stopped (Err (of_look e))))
+  not_begun X None e was h = tt
+  not_begun X (Some r) look.OutOfMemory was h = nothing_yet was _
+  not_begun X (Some r) look.ReadFailed was h = nothing_yet was _
+  not_begun X (Some r) look.Damaged was h = absurd (let q : Some r ≡ None = h refl in cc q)

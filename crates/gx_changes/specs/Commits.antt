@@ -25,9 +25,9 @@ abbrev pub HoldsParents : Records → CommitParts → Type 0
 HoldsParents repository parts = AllByRecursion (Holds repository.records kinds.Commit) parts.parents
 
 -- these are the parts of the held commit of a name
-pub record IsCommitOf (name : Kind → Bytes → Bytes) (parts : CommitParts) (repository : Records) (called : Name) : Type 0 where
+pub record IsCommitOf (name : Kind → Bytes → Bytes) (view : CommitParts) (repository : Records) (called : Name) : Type 0 where
   pub held : IsHeldAs kinds.Commit repository called
-  pub parts : parts ≡ parts_of_commit name (commit_at repository called)
+  pub parts : view ≡ parts_of_commit name (commit_at repository called)
 
 -- these are the parts of a held commit
 abbrev pub IsPartsOf : (Kind → Bytes → Bytes) → CommitParts → Records → Type 0

@@ -1,4 +1,4 @@
-use Rattle.std.proofs.Common.{◌≡◌, ◌∙◌, map, ap, sym, subst, Ok, Err}
+use Rattle.std.proofs.Common.{map, sym, subst, Ok, Err}
 use Rattle.std.specs.Prelude.{IfSome}
 use Rattle.std.proofs.lemmas.Result.{err_from_is_err_and}
 use Rattle.gx_rev.specs.Views.{shown_range}
@@ -13,7 +13,7 @@ pub returns-in_err-refs : goal.returns-in_err-refs
 returns-in_err-refs g c =
     let o = c.args.objects.now in
     let p = err_from_is_err_and c.from_residual.result c.from_residual.ensures.1 in
-    rw (p.1, p.2) (record { range = not_found (g.O.Objects.name_of o) c.args.closed (map shown_range c.args.words.now) _ (g.O.Objects.stands o) (g.O.Objects.told o) c.in_err-refs.field-0.0 (g.W.Sink.taken c.args.sink.now) c.in_err-refs.ensures })
+    rw (p.1, p.2) (record { range = not_found (g.O.Objects.name_of o) c.args.closed (map shown_range c.args.words.now) g.row.A.Denot (g.O.Objects.stands o) (g.O.Objects.told o) c.in_err-refs.field-0.0 (g.W.Sink.taken c.args.sink.now) c.in_err-refs.ensures })
 
 pub write_sent-requires-clause-refs : goal.write_sent-requires-clause-refs
 write_sent-requires-clause-refs g c =
@@ -21,7 +21,7 @@ write_sent-requires-clause-refs g c =
     let told = g.O.Objects.told o in
     let stands = g.O.Objects.stands o in
     let sent = c.in_ok-refs.field-0 in
-    let refs = c.deref.ensures.value ∙ sym (ap (λ v. v.items) c.in_ok-refs.refs-is) in
+    let refs = c.deref.ensures.value in
     subst (λ tips. IfSome told (AreTips stands tips)) (sym refs) (tips_found (g.O.Objects.name_of o) stands (map shown_range c.args.words.now) told sent c.in_ok-refs.ensures)
 
 pub write_sent-requires-clause-commits : goal.write_sent-requires-clause-commits
@@ -29,7 +29,7 @@ write_sent-requires-clause-commits g c =
     let o = c.args.objects.now in
     let told = g.O.Objects.told o in
     let sent = c.in_ok-refs.field-0 in
-    let commits = c.deref-2.ensures.value ∙ sym (ap (λ v. v.items) c.in_ok-refs.commits-is) in
+    let commits = c.deref-2.ensures.value in
     subst (λ names. IfSome told (AreNewestFirst names)) (sym commits) (order_found (g.O.Objects.name_of o) (g.O.Objects.stands o) (map shown_range c.args.words.now) told sent c.in_ok-refs.ensures)
 
 pub returns-in_err-write_sent : goal.returns-in_err-write_sent
@@ -41,8 +41,8 @@ returns-in_err-write_sent g c =
     let was = g.W.Sink.taken c.args.sink.now in
     let now = g.W.Sink.taken c.write_sent.new.sink in
     let sent = c.in_ok-refs.field-0 in
-    let refs = c.deref.ensures.value ∙ sym (ap (λ v. v.items) c.in_ok-refs.refs-is) in
-    let commits = c.deref-2.ensures.value ∙ sym (ap (λ v. v.items) c.in_ok-refs.commits-is) in
+    let refs = c.deref.ensures.value in
+    let commits = c.deref-2.ensures.value in
     let fault = c.in_err-write_sent.field-0.0 in
     let text = subst (λ names. IfSome told (λ r. DeliversAll name closed (commits_sent r names) (targets r c.deref.result.now) was now (stopped (Err fault)))) commits c.in_err-write_sent.ensures.text in
     let all = subst (λ tips. IfSome told (λ r. DeliversAll name closed (commits_sent r sent.commits.items) (targets r tips) was now (stopped (Err fault)))) refs text in
@@ -58,8 +58,8 @@ returns g c =
     let was = g.W.Sink.taken c.args.sink.now in
     let now = g.W.Sink.taken c.write_sent.new.sink in
     let sent = c.in_ok-refs.field-0 in
-    let refs = c.deref.ensures.value ∙ sym (ap (λ v. v.items) c.in_ok-refs.refs-is) in
-    let commits = c.deref-2.ensures.value ∙ sym (ap (λ v. v.items) c.in_ok-refs.commits-is) in
+    let refs = c.deref.ensures.value in
+    let commits = c.deref-2.ensures.value in
     let text = subst (λ names. IfSome told (λ r. DeliversAll name closed (commits_sent r names) (targets r c.deref.result.now) was now (Ok tt))) commits c.in_ok-write_sent.ensures.text in
     let all = subst (λ tips. IfSome told (λ r. DeliversAll name closed (commits_sent r sent.commits.items) (targets r tips) was now (Ok tt))) refs text in
     record { range = sent_out name closed (map shown_range c.args.words.now) (g.O.Objects.stands o) sent was now told c.in_ok-refs.ensures all }

@@ -131,11 +131,11 @@ module _ {W A B : Type 0} (name : Kind → Bytes → Bytes) (namer : IsNamer nam
 
 -- ---- of the repository that is told
 
-module _ {W A B : Type 0} (name : Kind → Bytes → Bytes) (namer : IsNamer name) (branch : Bytes) (called : Name) (view : CommitParts) (old : Written W A) where
+module _ {W A : Type 0} (name : Kind → Bytes → Bytes) (namer : IsNamer name) (branch : Bytes) (called : Name) (view : CommitParts) (old : Written W A) where
   abbrev AddsCommit : Option Records → Written W A → Result (Unit {0}) SendFault → Type 0
   AddsCommit told new result = IfSome told (λ r. (ws : List Value) → HasWritten r ws old → Adds (with_changes ws (commit_at r called)) (items_of (one_on name branch ws (commit_at r called))) old new result r)
 
-  module _ (found : Differences B) where
+  module _ {B : Type 0} (found : Differences B) where
     own_is : (r : Records) → IsCommitOf name view r called → OfItsParts name view r found → AreOwn r (commit_at r called) found
     own_is r is o = o called is
 

@@ -18,7 +18,6 @@ use Rattle.gx_model.specs.Streams.Items.{Item}
 use Rattle.gx_model.specs.Texts.{Bytes}
 use Rattle.gx_model.specs.Texts.Sinks.{Taken}
 use Rattle.gx_object.specs.declared.name.Name.{Name}
-use Rattle.gx_objects.specs.Answers.{OnlyUntold}
 use Rattle.gx_objects.specs.declared.fault.LookFault.{LookFault}
 use Rattle.gx_objects.specs.declared.fault.LookFault.TheVariants as look
 use Rattle.gx_rev.specs.Objects.{IsHeldAs, commit_at}
@@ -319,8 +318,8 @@ module _ {W A B : Type 0} (name : Kind → Bytes → Bytes) (closed : Bool) (ref
 
 -- where the branches aren't found nothing goes out
 module _ (name : Kind → Bytes → Bytes) (closed : Bool) (commits : List Name) (refs : List Tip) where
-  pub not_begun : (X : Type 0) (told : Option Records) (e : LookFault) (was : Option Taken) → OnlyUntold {T = X} told (Err e) → IfSome told (λ r. DeliversAll name closed (commits_sent r commits) (targets r refs) was was (stopped (Err (of_look e))))
-  not_begun X None e was h = tt
-  not_begun X (Some r) look.OutOfMemory was h = nothing_yet was _
-  not_begun X (Some r) look.ReadFailed was h = nothing_yet was _
-  not_begun X (Some r) look.Damaged was h = absurd (let q : Some r ≡ None = h refl in cc q)
+  pub not_begun : (told : Option Records) (e : LookFault) (was : Option Taken) → (e ≡ look.Damaged → told ≡ None) → IfSome told (λ r. DeliversAll name closed (commits_sent r commits) (targets r refs) was was (stopped (Err (of_look e))))
+  not_begun None e was h = tt
+  not_begun (Some r) look.OutOfMemory was h = nothing_yet was _
+  not_begun (Some r) look.ReadFailed was h = nothing_yet was _
+  not_begun (Some r) look.Damaged was h = absurd (let q : Some r ≡ None = h refl in cc q)

@@ -1,7 +1,7 @@
 use Rattle.gx_changes.proofs.OwnFiles.{base_told, own_answered, parent_told, tree_told}
 use Rattle.gx_changes.proofs.commit.own_changes.Goals as goal
 
-pub tree_of-requires : goal.tree_of-base-requires
+pub tree_of-requires : goal.tree_of-requires
 tree_of-requires g c =
     let o = c.args.objects.now in
     let s = c.sound_if_told.ensures in

@@ -7,6 +7,7 @@ use Rattle.gx_rev.specs.Objects.{commit_at}
 use Rattle.gx_export.specs.ChangedParts.{one_on}
 use Rattle.gx_export.specs.Texts.{items_of}
 use Rattle.gx_differences.specs.Differences.{HaveFiles}
+use Rattle.gx_differences.specs.declared.differences.Differences.{Differences}
 use Rattle.gx_sending.specs.Files.{blobs_at}
 use Rattle.gx_sending.specs.Marks.{AddsBlobs, HasWritten}
 use Rattle.gx_changes.proofs.Commits.{blobs_stop_told, files_told, lines_stop_told, marked_told}
@@ -19,7 +20,7 @@ returns-in_err-found-clause-adds g c =
     let o = c.args.objects.now in
     let commit = c.args.commit.now in
     let p = err_from_is_err_and c.from_residual-in_err-found.result c.from_residual-in_err-found.ensures.1 in
-    rw (p.1, p.2) (asked_stops _ (g.O.Objects.told o) c.in_err-found.field-0.0 (λ r ws. with_changes ws (commit_at r commit)) (λ r ws. items_of (one_on (g.O.Objects.name_of o) c.args.branch.now ws (commit_at r commit))) c.args.written.now c.in_err-found.ensures.fault)
+    rw (p.1, p.2) (asked_stops (Differences g.row.A.Denot) (g.O.Objects.told o) c.in_err-found.field-0.0 (λ r ws. with_changes ws (commit_at r commit)) (λ r ws. items_of (one_on (g.O.Objects.name_of o) c.args.branch.now ws (commit_at r commit))) c.args.written.now c.in_err-found.ensures.fault)
 
 pub write_blobs-requires-clause-held : goal.write_blobs-requires-clause-held
 write_blobs-requires-clause-held g c =

@@ -11,7 +11,7 @@ pub returns-in_err-branches-clause-text : goal.returns-in_err-branches-clause-te
 returns-in_err-branches-clause-text g c =
     let o = c.args.objects.now in
     let p = err_from_is_err_and c.from_residual.result c.from_residual.ensures.1 in
-    rw (p.1, p.2) (not_begun (g.O.Objects.name_of o) c.args.closed c.args.commits.now c.args.refs.now _ (g.O.Objects.told o) c.in_err-branches.field-0.0 (g.W.Sink.taken c.args.sink.now) c.in_err-branches.ensures.fault)
+    rw (p.1, p.2) (not_begun (g.O.Objects.name_of o) c.args.closed c.args.commits.now c.args.refs.now (g.O.Objects.told o) c.in_err-branches.field-0.0 (g.W.Sink.taken c.args.sink.now) c.in_err-branches.ensures.fault)
 
 pub returns-clause-text : goal.returns-clause-text
 returns-clause-text g c =

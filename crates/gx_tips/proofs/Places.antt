@@ -19,7 +19,6 @@ use Rattle.gx_tips.proofs.Lists.{holds_for, with_one_more}
 
 -- ---- sets of places
 
-
 same_place : (k q : ℕ) → is_at (nat_cmp k) q ≡ true → k ≡ q
 same_place k q e = grind (arith, nat_tests)
 

@@ -20,8 +20,10 @@ peeled-requires g c =
     let o = c.args.objects.now in
     let s = c.sound_if_told.ensures in
     let text = c.loop-rest.rest.now in
-    record { peels = line_peels (g.O.Objects.stands o) (g.O.Objects.name_of o) s.namer text c.loop-rest.tips.items (some_left text c.is_empty.ensures c.loop-rest-test.true) c.in-Some.object c.in-Some.name.now c.in-Some.behind.now c.in-Some.ensures
-        (g.O.Objects.told o) s.sound c.loop-rest.invariant }
+    record {
+      peels = line_peels (g.O.Objects.stands o) (g.O.Objects.name_of o) s.namer text c.loop-rest.tips.items (some_left text c.is_empty.ensures c.loop-rest-test.true) c.in-Some.object c.in-Some.name.now c.in-Some.behind.now c.in-Some.ensures
+          (g.O.Objects.told o) s.sound c.loop-rest.invariant;
+    }
 
 pub loop-rest-smaller : goal.loop-rest-smaller
 loop-rest-smaller g c = rest_shorter c.loop-rest.rest.now ((c.in-Some.name.now, c.in-Some.object.bytes), c.in-Some.behind.now) (sym c.in-Some.ensures)

@@ -1,7 +1,10 @@
-//! Segments that are appended to a growing text on a disk in memory, and calls that fail. There are tests alone here.
+//! Segments that are appended to a growing text on a disk in memory, calls that fail, and stops of the machine. There are tests alone
+//! here.
 #![tactic(auto)]
 
 #[cfg(test)]
 mod appended;
+#[cfg(test)]
+mod stopped;
 #[cfg(test)]
 mod texts;

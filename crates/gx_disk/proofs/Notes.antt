@@ -1,6 +1,6 @@
 -- What the calls of a disk do, by the calls that it notes.
-use Rattle.std.proofs.Common.{◌≡◌, ◌⊎◌, inl, inr, ℕ, ◌≤◌, List, [], ◌∷◌, ◌++◌, length, take, refl, sym, ap, subst, ◌∙◌, arith, Ok, Err, Some, length-take}
-use Rattle.std.specs.Prelude.{Option, OnErr, OnOk}
+use Rattle.std.proofs.Common.{◌≡◌, ◌⊎◌, inl, inr, ℕ, List, length, take, refl, sym, ap, subst, ◌∙◌, arith, Ok, Err, Some, length-take}
+use Rattle.std.specs.Prelude.{OnErr, OnOk}
 use Rattle.std.proofs.Math.Seq.{take-length}
 use Rattle.gx_model.specs.Texts.{Bytes}
 use Rattle.gx_append.specs.Devices.{Answer, Cut, CutsTo, Elapses, Follows, Only, Torn, WritesTo, written_at}

@@ -1,13 +1,13 @@
 -- What a stop leaves of a disk, from call to call.
-use Rattle.std.proofs.Common.{◌≡◌, ◌⊎◌, inl, inr, ℕ, ◌+◌, ◌-◌, ◌≤◌, ◌<◌, Bool, true, false, cond, List, [], ◌∷◌, ◌++◌, length, take, drop, refl, sym, ap, subst, ◌∙◌, arith, length-append}
-use Rattle.std.proofs.lemmas.List.{drop-drop, drop_all, take-append-le, take-take, take_all}
+use Rattle.std.proofs.Common.{◌≡◌, ◌⊎◌, inl, inr, ℕ, ◌+◌, ◌-◌, ◌≤◌, ◌<◌, Bool, true, false, cond, List, [], ◌∷◌, ◌++◌, length, take, drop, get_or, min, refl, sym, ap, subst, ◌∙◌, arith, length-append, Result, Ok, Err, IfOk}
+use Rattle.std.proofs.lemmas.List.{drop-drop, drop_all, get_or_read, take-append-le, take-take, take_all, take_more}
 use Rattle.std.proofs.lemmas.Bool.{cases_lt}
 use Rattle.gx_model.specs.Texts.{Bytes}
 use Rattle.gx_append.specs.Devices.{Elapses, Follows, Torn, written_at}
 use Rattle.gx_append.proofs.Pieces.{held_torn}
 use Rattle.gx_disk.specs.declared.call.Call.{Call}
 use Rattle.gx_disk.specs.declared.call.Call.TheVariants.{Wrote, CutOff, Synced}
-use Rattle.gx_disk.specs.Disks.{Does, LeftSince, MayLeave, State, after, begun, replayed}
+use Rattle.gx_disk.specs.Disks.{Comes, Does, LeftSince, MayLeave, State, Turns, after, begun, replayed}
 
 -- ---- torn writes
 
@@ -49,6 +49,16 @@ write_torn text bytes at = by (cases_lt (length text) at)
     by : (length text < at) ⊎ (at ≤ length text) → Torn at (length bytes) text (written_at at bytes text)
     by (inl past) = past_torn text bytes at past
     by (inr within) = held_torn text bytes at within
+
+-- a write of as many bytes or fewer is torn
+pub part_torn : (at : ℕ) (bytes part slice left now : Bytes) → length part ≤ length bytes → slice ≡ left → now ≡ written_at at part slice → Torn at (length bytes) left now
+part_torn at bytes part slice left now short same is =
+    subst (Torn at (length bytes) left) (sym (is ∙ ap (written_at at part) same)) (torn_more at (length part) (length bytes) left (written_at at part left) short (write_torn left part at))
+
+-- what holds of what is there where nothing fails
+pub where_ok : {T E : Type 0} (P Q : T → Type 0) (result : Result T E) → ((x : T) → P x → Q x) → IfOk result P → IfOk result Q
+where_ok P Q (Ok x) gives p = gives x p
+where_ok P Q (Err e) gives p = tt
 
 module _ {A : Type 0} where
   -- ---- one call more
@@ -130,6 +140,45 @@ module _ {A : Type 0} where
     no_call old = record { later = omega arith; nothing_else = λ t c le left. inl left; keeps = λ t c le left. left }
 
     -- a sync that is noted or not changes nothing that is read
-    pub still_read : (noted : Bool) (old new : List (Call A)) → new ≡ cond noted (old ++ Synced ∷ []) old → (S new).text ≡ (S old).text
-    still_read true old new e = ap (λ l. (S l).text) e ∙ text_is old Synced
-    still_read false old new e = ap (λ l. (S l).text) e
+    pub still_read : (noted : Bool) (old now : List (Call A)) → now ≡ cond noted (old ++ Synced ∷ []) old → (S now).text ≡ (S old).text
+    still_read true old now e = ap (λ l. (S l).text) e ∙ text_is old Synced
+    still_read false old now e = ap (λ l. (S l).text) e
+
+-- ---- what a stop leaves, call by call
+
+module _ {A : Type 0} where
+  -- what is read turns by a call
+  pub turns : (s : State A) (call : Call A) (text now : Bytes) → text ≡ s.text → Turns call text now → now ≡ (after s call).text
+  turns s (Wrote at bytes) text now e is = is ∙ ap (written_at at bytes.items) e
+  turns s (CutOff at) text now e is = is ∙ ap (take at) e
+  turns s Synced text now e is = is ∙ e
+
+  -- what a stop leaves comes of what it left before
+  pub comes : (s : State A) (call : Call A) (text left now : Bytes) → text ≡ (after s call).text → MayLeave s left → Comes call text left now → MayLeave (after s call) now
+  comes s (Wrote at bytes) text left now e was torn = (left, was, torn)
+  comes s (CutOff at) text left now e was cut = (left, was, cut)
+  comes s Synced text left now e was is = is ∙ e
+
+  -- the next call
+  next_is : (first : Bytes) (calls : List (Call A)) (n : ℕ) (call : Call A) → n < length calls → call ≡ get_or calls n call
+      → replayed (begun first) (take (n + 1) calls) ≡ after (replayed (begun first) (take n calls)) call
+  next_is first calls n call within is =
+      ap (replayed (begun first)) (take_more calls n call within ∙ ap (λ x. take n calls ++ x ∷ []) (sym is)) ∙ replayed_more (begun first) (take n calls) call
+
+  pub stop_goes_on : (first : Bytes) (calls : List (Call A)) (n : ℕ) (call again : Call A) (text turned slice left come : Bytes) → n < length calls → call ≡ get_or calls n call → again ≡ get_or calls n again
+      → text ≡ (replayed (begun first) (take n calls)).text → MayLeave (replayed (begun first) (take n calls)) left → Turns call text turned → slice ≡ turned → Comes again slice left come
+      → (turned ≡ (replayed (begun first) (take (n + 1) calls)).text) × MayLeave (replayed (begun first) (take (n + 1) calls)) come
+  stop_goes_on first calls n call again text turned slice left come within is same read was turn on goes =
+      let s = replayed (begun first) (take n calls) in
+      let next = next_is first calls n call within is in
+      let one : again ≡ call = get_or_read calls n again within same call ∙ sym is in
+      let now = turns s call text turned read turn in
+      (now ∙ ap (λ t. t.text) (sym next), subst (λ t. MayLeave t come) (sym next) (comes s call slice left come (on ∙ now) was (subst (λ c. Comes c slice left come) one goes)))
+
+-- the calls up to the number of fates, or all
+pub all_taken : {X : Type 0} (count asked : ℕ) (l : List X) → count ≡ min asked (length l) → take count l ≡ take asked l
+all_taken count asked l e = by (cases_lt (length l) asked)
+  where
+    by : (length l < asked) ⊎ (asked ≤ length l) → take count l ≡ take asked l
+    by (inl more) = take_all count l (omega (arith, e, more)) ∙ sym (take_all asked l (omega (arith, more)))
+    by (inr few) = let same : count ≡ asked = omega (arith, e, few) in ap (λ n. take n l) same

@@ -1,6 +1,6 @@
 -- A disk by the calls that were done: what is read, and what a stop of the machine may leave.
-use Rattle.std.specs.Prelude.{◌≡◌, ◌⊎◌, ℕ, ◌≤◌, List, [], ◌∷◌, ◌++◌, length, take, ⊤}
-use Rattle.std.proofs.Common.{sym, ap, subst, arith}
+use Rattle.std.specs.Prelude.{◌≡◌, ℕ, ◌≤◌, List, [], ◌∷◌, ◌++◌, length, take, ⊤}
+use Rattle.std.proofs.Common.{sym, subst, arith}
 use Rattle.std.proofs.Math.Seq.{take-length}
 use Rattle.std.proofs.lemmas.List.{take_all}
 use Rattle.gx_model.specs.Texts.{Bytes}
@@ -81,3 +81,15 @@ module _ {A : Type 0} where
   abbrev pub IsSync : Call A → Type 0
   IsSync Synced = ⊤
   IsSync _ = ⊥
+
+  -- a text that is read turns into another by a call
+  abbrev pub Turns : Call A → Bytes → Bytes → Type 0
+  Turns (Wrote at bytes) text new = new ≡ written_at at bytes.items text
+  Turns (CutOff at) text new = new ≡ take at text
+  Turns Synced text new = new ≡ text
+
+  -- what a stop may leave comes of what it might have left before, or of a text that is synced
+  abbrev pub Comes : Call A → Bytes → Bytes → Bytes → Type 0
+  Comes (Wrote at bytes) text left new = Torn at (length bytes.items) left new
+  Comes (CutOff at) text left new = Cut at left new
+  Comes Synced text left new = new ≡ text

@@ -1,4 +1,4 @@
-use Rattle.std.proofs.Common.{◌≡◌, ◌^◌, ◌+◌, ◌<◌, length, refl, sym, subst, ◌∙◌}
+use Rattle.std.proofs.Common.{◌^◌, ◌+◌, ◌<◌, length, refl, sym, subst, ◌∙◌}
 use Rattle.sha2.specs.Sha256.{sha256}
 use Rattle.gx_append.specs.Appending.{IsReadAs, Shows}
 use Rattle.gx_append.proofs.Moments.{Known, so_too}

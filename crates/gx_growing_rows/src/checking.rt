@@ -133,7 +133,7 @@ fn is_above(last: Option<[u8; 20]>, name: &[u8; 20]) -> bool
 }
 
 /// The first row, whose place has its most significant byte first, and those behind it.
-fn first_row(rows: &[u8]) -> Option<(Row, &[u8])>
+pub(crate) fn first_row(rows: &[u8]) -> Option<(Row, &[u8])>
     ensures { MatchOption result (length rows.now < 28) (λ parts. (28 ≤ length rows.now)
         × (parts.0 ≡ (take 20 rows.now, from_be_bytes w64 (part rows.now 20 8)))
         × (parts.1.now ≡ drop 28 rows.now)) }

@@ -1,14 +1,15 @@
-//! The table of rows that a writer lays out for all objects of a store. Source: this project's own format.
-ghost use Rattle.std.specs.Prelude.{◌≡◌, ◌+◌, ◌≤◌, length, IfOk, IfSome};
+//! The table of rows that a writer lays out for the objects of a store. Source: this project's own format.
+ghost use Rattle.std.specs.Prelude.{◌≡◌, ℕ, ◌+◌, ◌*◌, ◌≤◌, ◌++◌, drop, length, IfOk, IfSome};
 ghost use Rattle.std.specs.List.{flat_map};
 ghost use Rattle.sha2.specs.Sha256.{sha256};
 ghost use Rattle.gx_model.specs.Objects.{line};
 ghost use Rattle.gx_model.specs.Texts.Numbers.{number_text};
 ghost use Rattle.gx_model.specs.declared.store_versions.Version.TheVariants.{Two};
 ghost use Rattle.gx_model.specs.Stores.StoreText.{stored_record};
-ghost use Rattle.gx_growing.specs.GrowingText.{first_rows, page_digests, placed, row_text, rows_place};
+ghost use Rattle.gx_growing.specs.GrowingText.{first_rows, page_digests, placed, row_text, rows_in, rows_place};
+ghost use Rattle.gx_growing_rows.specs.NextTable.{next_place, next_rows};
 
-use crate::checking::Row;
+use crate::checking::{Row, first_row};
 use gx_growing_parts::{HEAD, digest_of, first_page};
 use gx_object::{Kind, Name, Namer};
 use gx_store::Store;
@@ -36,8 +37,36 @@ pub fn first_table<N: Namer, A: Allocator + Copy>(
     ensures digests { IfOk result (λ table.
         table.digests.items ≡ page_digests sha256 table.rows.items) }
 {
-    let count = store.len();
-    let (mut rows, behind) = placed(alloc, store, HEAD as u64 + line_length(b"objects", count))?;
+    next_table(alloc, store, 0, HEAD as u64, &[])
+}
+
+/// The rows of a segment that stands behind a place of a growing text, and whose records are the objects of a store from a
+/// number on: the rows of these, and those of live runs that it takes in.
+///
+/// `AllocError`: a growth was refused, or the segment ends behind 2^64 bytes. Cost: the rows are sorted and hashed. Memory: two
+/// rows for each row. Source: this project's own format.
+pub fn next_table<N: Namer, A: Allocator + Copy>(
+    alloc: A,
+    store: &Store<N, A>,
+    held: usize,
+    ends: u64,
+    taken_in: &[u8],
+) -> Result<Table<A>, AllocError>
+    ensures place { (taken : ℕ) → length taken_in.now ≡ 28 * taken
+        → IfOk result (λ table. table.place ≡ next_place ends (drop held store.now.1) taken) }
+    ensures rows { (taken : ℕ) → length taken_in.now ≡ 28 * taken
+        → IfOk result (λ table. table.rows.items ≡ flat_map row_text
+        (next_rows ends (drop held store.now.1) (rows_in taken taken_in.now))) }
+    ensures digests { IfOk result (λ table.
+        table.digests.items ≡ page_digests sha256 table.rows.items) }
+{
+    let mut rows = read_rows(alloc, taken_in)?;
+    let new = store.len().saturating_sub(held);
+    let Some(first) = ends.checked_add(line_length(b"objects", new)) else {
+        return Err(AllocError);
+    };
+    let behind = push_placed(&mut rows, store, held, first)?;
+    let count = rows.len();
     rows.sort_unstable();
     let Some(place) = behind.checked_add(line_length(b"rows", count)) else {
         return Err(AllocError);
@@ -51,19 +80,35 @@ pub fn first_table<N: Namer, A: Allocator + Copy>(
     })
 }
 
-/// The names of all objects of a store with the places of their lines, of which this is the first, and where the last one ends.
-fn placed<N: Namer, A: Allocator + Copy>(
-    alloc: A,
-    store: &Store<N, A>,
-    first: u64,
-) -> Result<(Vec<Row, A>, u64), AllocError>
-    ensures rows { IfOk result (λ laid. laid.0.items ≡ placed first store.now.1) }
-    ensures behind { IfOk result (λ laid.
-        laid.1 ≡ first + length (flat_map (stored_record Two) store.now.1)) }
+/// The rows that bytes are.
+fn read_rows<A: Allocator + Copy>(alloc: A, bytes: &[u8]) -> Result<Vec<Row, A>, AllocError>
+    ensures { (count : ℕ) → length bytes.now ≡ 28 * count
+        → IfOk result (λ rows. rows.items ≡ rows_in count bytes.now) }
 {
     let mut rows = Vec::new(alloc);
+    let mut rest = bytes;
+    while let Some((row, behind)) = first_row(rest) {
+        rows.push(row)?;
+        rest = behind;
+    }
+    Ok(rows)
+}
+
+/// Pushes the names of a store's objects from a number on, with the places of their lines, of which this is the first, and
+/// answers where the last one ends.
+fn push_placed<N: Namer, A: Allocator + Copy>(
+    rows: &mut Vec<Row, A>,
+    store: &Store<N, A>,
+    held: usize,
+    first: u64,
+) -> Result<u64, AllocError>
+    ensures rows { IfOk result (λ behind.
+        rows.new.items ≡ rows.old.items ++ placed first (drop held store.now.1)) }
+    ensures behind { IfOk result (λ behind.
+        behind ≡ first + length (flat_map (stored_record Two) (drop held store.now.1))) }
+{
     let mut place = first;
-    for at in 0..store.len() {
+    for at in held..store.len() {
         let Some((name, kind, body)) = store.record(at) else {
             unreachable!();
         };
@@ -74,7 +119,7 @@ fn placed<N: Namer, A: Allocator + Copy>(
         rows.push((bytes, place))?;
         place = behind;
     }
-    Ok((rows, place))
+    Ok(place)
 }
 
 /// Where the text of a record ends that begins at a place, if that is below 2^64.

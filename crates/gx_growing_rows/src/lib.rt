@@ -7,4 +7,4 @@ mod laying;
 
 pub use checking::{Row, check_rows};
 pub use gx_growing_parts::Run;
-pub use laying::{Table, first_table};
+pub use laying::{Table, first_table, next_table};

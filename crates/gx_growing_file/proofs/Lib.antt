@@ -1,4 +1,3 @@
-pub mod Digests
 pub mod SentGrowing
 pub mod SentParts
 pub mod Whole

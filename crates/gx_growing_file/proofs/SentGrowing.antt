@@ -17,7 +17,7 @@ use Rattle.gx_growing.specs.GrowingText.{Slot, first_rows, first_runs, first_seg
 use Rattle.gx_growing.proofs.Fields.{AreFields}
 use Rattle.gx_growing.proofs.ReadFronts.{head_long}
 use Rattle.gx_growing.proofs.WrittenTexts.{slot_long}
-use Rattle.gx_growing_file.proofs.Digests.{digester}
+use Rattle.gx_growing_parts.proofs.Digesters.{digester}
 use Rattle.gx_growing_file.specs.Sending.{runs_from}
 
 -- The run of all records is the one that a writer makes.

@@ -1,5 +1,5 @@
 -- The parts of heads, tails and tables, as they go out one after the other.
-use Rattle.std.proofs.Common.{◌≡◌, ℕ, zero, suc, ◌-◌, ◌<◌, ◌^◌, arith, drop, refl, sym, ap, subst, ◌∙◌, codes, List, [], ◌∷◌, ◌++◌, length, append_assoc, append-nil, Option, Result}
+use Rattle.std.proofs.Common.{◌≡◌, ℕ, ◌-◌, ◌<◌, ◌^◌, refl, sym, ap, subst, ◌∙◌, codes, List, [], ◌∷◌, ◌++◌, length, append_assoc, append-nil, Option, Result}
 use Rattle.std.specs.Prelude.{replicate}
 use Rattle.std.specs.Fmt.{decimal}
 use Rattle.std.specs.List.{flat_map}
@@ -13,21 +13,6 @@ use Rattle.gx_model.proofs.Texts.SentTexts.{IsLeft, all_left}
 use Rattle.gx_text.specs.declared.device.Failed.{Failed}
 use Rattle.gx_file.specs.Sending.{Sent}
 use Rattle.gx_growing.specs.GrowingText.{Run, Slot, head_text, no_slot, rows_text, run_text, slot_text, tail_text}
-
--- ---- zeros
-
--- twenty zeros
-abbrev pub zeros : Bytes
-zeros = replicate 20 48
-
-drop_zeros : (k n : ℕ) → drop {A = ℕ} k (replicate n 48) ≡ replicate (n - k) 48
-drop_zeros zero n = let all : n - 0 ≡ n = omega arith in ap (λ m. replicate m 48) (sym all)
-drop_zeros (suc k) zero = let none : 0 - suc k ≡ 0 = omega arith in ap (λ m. replicate m 48) (sym none)
-drop_zeros (suc k) (suc n) = let less : suc n - suc k ≡ n - k = omega arith in drop_zeros k n ∙ ap (λ m. replicate m 48) (sym less)
-
--- Those behind so many of them, or behind all.
-pub zeros_left : (k m : ℕ) → 20 - m ≡ 20 - k → drop m zeros ≡ replicate (20 - k) 48
-zeros_left k m e = drop_zeros m 20 ∙ ap (λ n. replicate n 48) e
 
 -- ---- tails
 

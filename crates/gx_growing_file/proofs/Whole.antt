@@ -23,7 +23,7 @@ use Rattle.gx_growing.specs.GrowingText.{IsGrowingText, Slot, head_length, head_
 use Rattle.sha2.specs.Sha256.{sha256}
 use Rattle.gx_growing.proofs.ReadFronts.{head_long, head_of_text}
 use Rattle.gx_growing.specs.GrowingLaws.{GrowingIsRead}
-use Rattle.gx_growing_file.proofs.Digests.{digester}
+use Rattle.gx_growing_parts.proofs.Digesters.{digester}
 use Rattle.gx_growing_file.specs.Grown.{IsGrownFault, begun_at, grown_behind, rows_told}
 
 module _ (name : Kind → Bytes → Bytes) (digest : Bytes → Bytes) (slot : Slot) (text : Bytes) where

@@ -1,8 +1,8 @@
 //! Writing a growing text anew, as one segment. Source: this project's own format.
-ghost use Rattle.std.specs.Prelude.{◌≡◌, ◌++◌, ◌∷◌, ◌-◌, ◌<◌, ◌^◌, [], codes, length, replicate, IfOk, IfSome};
+ghost use Rattle.std.specs.Prelude.{◌≡◌, ◌++◌, ◌∷◌, ◌<◌, ◌^◌, [], codes, length, IfOk, IfSome};
 ghost use Rattle.std.specs.List.{flat_map};
 ghost use Rattle.sha2.specs.Sha256.{sha256};
-ghost use Rattle.gx_model.specs.Objects.{hex, line};
+ghost use Rattle.gx_model.specs.Objects.{line};
 ghost use Rattle.gx_model.specs.Texts.Numbers.{number_text};
 ghost use Rattle.gx_growing.specs.GrowingText.{first_runs, growing_text, head_text, no_slot, rows_text, run_text, slot_text, tail_text};
 ghost use Rattle.gx_growing_parts.specs.Shown.{shown_slot};
@@ -12,7 +12,7 @@ ghost use Rattle.gx_growing_file.specs.Sending.{LaysOut, SentGrown, ends_of, run
 
 use gx_file::{send_all, send_records, send_refs, send_text};
 use gx_growing::growing_laws::growing_is_read;
-use gx_growing_parts::{Run, Slot, digest_of};
+use gx_growing_parts::{Run, Slot, digest_digits, digest_of, zeros_before};
 use gx_growing_rows::{Table, first_table};
 use gx_object::Namer;
 use gx_repo::Repo;
@@ -243,13 +243,6 @@ fn send_head<W: Sink>(sink: &mut W, ends: u64, tail: u64, digest: &[u8; 32]) -> 
     )
 }
 
-/// The zeros that stand in front of a number where it has twenty digits.
-fn zeros_before(digits: &[u8]) -> &[u8]
-    ensures { result.now ≡ replicate (20 - length digits.now) 48 }
-{
-    b"00000000000000000000".split_at(digits.len().min(20)).1
-}
-
 /// Sends a table of so many rows with its line, and what follows it.
 fn send_table<A: Allocator, W: Sink>(
     sink: &mut W,
@@ -273,16 +266,4 @@ fn send_table<A: Allocator, W: Sink>(
             tail,
         ],
     )
-}
-
-/// The digits of a digest, in lower case.
-fn digest_digits(digest: &[u8]) -> [u8; 64]
-    requires { length digest.now ≡ 32 }
-    ensures { result ≡ hex digest.now }
-{
-    let mut digits = [0; 64];
-    match hex::encode_to_slice(digest, &mut digits) {
-        Ok(()) => digits,
-        Err(_) => unreachable!(),
-    }
 }

@@ -1,3 +1,5 @@
-pub mod DigitPairs
-pub mod PageDigests
 pub mod CutTables
+pub mod DigitPairs
+pub mod Digesters
+pub mod PageDigests
+mod Zeros

@@ -1,3 +1,4 @@
+pub mod Endings
 pub mod Placing
 pub mod Shown
 pub mod Tables

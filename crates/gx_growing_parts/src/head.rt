@@ -83,8 +83,8 @@ fn picked<'a>(pick: &[u8], first: &'a [u8], second: &'a [u8]) -> &'a [u8]
     }
 }
 
-/// What the text of a slot says.
-fn read_slot(text: &[u8]) -> Option<Slot>
+/// What the text of a slot says. Cost: constant. Takes no memory. Source: this project's own format.
+pub fn read_slot(text: &[u8]) -> Option<Slot>
     ensures { option_map shown_slot result ≡ slot_in text.now }
 {
     let (ends, rest) = cut(text, b' ')?;

@@ -3,7 +3,7 @@
 ghost use Rattle.std.specs.Prelude.{◌≡◌, length, IfErr, IfOk};
 ghost use Rattle.std.specs.Option.{option_map};
 ghost use Rattle.gx_growing.specs.GrowingReading.{long_number_in, slot_in};
-ghost use Rattle.gx_growing.specs.GrowingText.{picked};
+ghost use Rattle.gx_growing.specs.GrowingText.{picks_first};
 ghost use Rattle.gx_growing_parts.specs.Shown.{shown_slot};
 ghost use Rattle.gx_look.specs.Heads.{TellsSlot, PicksSlot};
 
@@ -16,38 +16,49 @@ use gx_text::{cut, decimal};
 /// The first line of a growing text.
 const MAGIC: [u8; 10] = *b"gxstore 3\n";
 
-/// The slot that is picked. `Damaged` where the text has no head of a growing one.
-pub(crate) fn read_head<S: ReadAt>(source: &S) -> Result<Slot, LookFault>
+/// The slot that is picked, and whether it is the first.
+#[derive(Clone, Copy)]
+pub(crate) struct Picked {
+    pub(crate) is_first: bool,
+    pub(crate) slot: Slot,
+}
+
+/// The slot that is picked. `Damaged` where the text hasn't the first line of a growing one, ends in the head, or that slot isn't
+/// as written. The other slot isn't looked at, nor are the line feeds behind the slots and the byte that picks.
+pub(crate) fn read_head<S: ReadAt>(source: &S) -> Result<Picked, LookFault>
     ensures { TellsSlot (S.text source.now) result }
 {
     let mut head = [0; HEAD];
     fill(source, 0, &mut head)?;
     match slot_of_head(&head) {
-        Some(slot) => Ok(slot),
+        Some(picked) => Ok(picked),
         None => Err(LookFault::Damaged),
     }
 }
 
 /// The slot that a head picks.
-fn slot_of_head(head: &[u8]) -> Option<Slot>
+fn slot_of_head(head: &[u8]) -> Option<Picked>
     requires { length head.now ≡ 226 }
     ensures { PicksSlot head.now result }
 {
     if !head.starts_with(&MAGIC) {
         return None;
     }
-    read_slot(picked(&head[10..11], &head[12..118], &head[119..225]))
+    let is_first = picks_first(&head[10..11]);
+    let text = if is_first {
+        &head[12..118]
+    } else {
+        &head[119..225]
+    };
+    let slot = read_slot(text)?;
+    Some(Picked { is_first, slot })
 }
 
-/// The first of two slots, which an `a` picks, and otherwise the second.
-fn picked<'a>(pick: &[u8], first: &'a [u8], second: &'a [u8]) -> &'a [u8]
-    ensures { result.now ≡ picked pick.now first.now second.now }
+/// Whether this byte picks the first slot.
+fn picks_first(pick: &[u8]) -> bool
+    ensures { result ≡ picks_first pick.now }
 {
-    if pick == b"a".as_slice() {
-        first
-    } else {
-        second
-    }
+    pick == b"a".as_slice()
 }
 
 /// What the text of a slot says.

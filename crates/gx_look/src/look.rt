@@ -1,6 +1,12 @@
 //! Looks into growing texts.
 
-ghost use Rattle.std.specs.Prelude.{◌≡◌, IfOk};
+ghost use Rattle.std.specs.Prelude.{◌≡◌, IfOk, Ok, Some};
+ghost use Rattle.sha2.specs.Sha256.{sha256};
+ghost use Rattle.gx_model.specs.Histories.{Records};
+ghost use Rattle.gx_model.specs.Texts.{Bytes};
+ghost use Rattle.gx_growing.specs.GrowingReading.{grown_of};
+ghost use Rattle.gx_growing.specs.GrowingText.{IsGrowingText};
+ghost use Rattle.gx_growing_parts.specs.Endings.{IsEnding};
 ghost use Rattle.gx_objects.specs.Answers.{FindsRef, Holds, IsNamed, OnlyUntold, Tells};
 ghost use Rattle.gx_look.specs.Looking.{place_at, told_by, told_rows};
 
@@ -10,6 +16,7 @@ use crate::refs::{find_by_names, without_end};
 use crate::rows::{find_begun, find_place};
 use crate::tail::{Tail, read_tail};
 use gx_at::ReadAt;
+use gx_growing_parts::Ending;
 use gx_object::{Name, Namer};
 use gx_objects::{LookFault, Object, Objects};
 use gx_store::{Prefix, names_begun_by};
@@ -23,6 +30,7 @@ use std::marker::Model;
 pub struct Look<S: ReadAt, N: Namer, A: Allocator> {
     source: S,
     namer: N,
+    is_first: bool,
     ends: u64,
     tail: Tail<A>,
 }
@@ -37,7 +45,8 @@ impl<S: ReadAt, N: Namer, A: Allocator> Model for Look<S, N, A> {
 
     ghost view = { λ s. (s.namer, S.text s.source) };
 
-    ghost invariant = { λ s. IsOpened (N.name_of s.namer) (S.text s.source) s.ends s.tail };
+    ghost invariant = { λ s.
+        IsOpened (N.name_of s.namer) (S.text s.source) s.is_first s.ends s.tail };
 }
 
 impl<S: ReadAt, N: Namer, A: Allocator + Copy> Look<S, N, A> {
@@ -52,14 +61,29 @@ impl<S: ReadAt, N: Namer, A: Allocator + Copy> Look<S, N, A> {
         ensures look { IfOk result (λ look. look ≡ (namer, S.text source)) }
         ensures fault { OnlyUntold (told_by (N.name_of namer) (S.text source)) result }
     {
-        let slot = read_head(&source)?;
-        let tail = read_tail(alloc, &source, &slot)?;
+        let picked = read_head(&source)?;
+        let tail = read_tail(alloc, &source, &picked.slot)?;
         Ok(Look {
             source,
             namer,
-            ends: slot.ends,
+            is_first: picked.is_first,
+            ends: picked.slot.ends,
             tail,
         })
+    }
+
+    /// How the text ends, for who appends to it. Cost: constant. Takes no memory. Source: this project's own format.
+    pub fn ending(&self) -> Ending<'_>
+        ensures { (text : Bytes) (repository : Records) → self.now.1 ≡ Some text
+            → grown_of (N.name_of self.now.0) sha256 text ≡ Ok repository
+            → (old : IsGrowingText (N.name_of self.now.0) sha256 text repository)
+            × IsEnding old result }
+    {
+        Ending {
+            is_first: self.is_first,
+            ends: self.ends,
+            runs: self.tail.runs.as_slice(),
+        }
     }
 }
 

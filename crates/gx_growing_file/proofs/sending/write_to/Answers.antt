@@ -1,7 +1,7 @@
 use Rattle.std.proofs.Common.{◌<◌, ◌^◌, subst}
 use Rattle.sha2.specs.Sha256.{sha256}
 use Rattle.gx_growing.specs.GrowingText.{Slot}
-use Rattle.gx_growing_file.proofs.Digests.{digester}
+use Rattle.gx_growing_parts.proofs.Digesters.{digester}
 use Rattle.gx_growing_file.proofs.SentGrowing.{growing_short}
 use Rattle.gx_growing_file.proofs.sending.write_to.Goals as goal
 

@@ -1,6 +1,6 @@
 use Rattle.std.proofs.Common.{◌∙◌, arith, length}
-use Rattle.gx_growing_file.proofs.SentParts.{zeros_left}
-use Rattle.gx_growing_file.proofs.sending.zeros_before.Goals as goal
+use Rattle.gx_growing_parts.proofs.Zeros.{zeros_left}
+use Rattle.gx_growing_parts.proofs.written.zeros_before.Goals as goal
 
 pub returns : goal.returns
 returns c =

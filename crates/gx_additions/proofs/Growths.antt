@@ -11,7 +11,7 @@ use Rattle.gx_append.specs.Appending as appends
 use Rattle.gx_append.specs.Appending.{IsAsked, IsGrowth, IsReadAs, Shows}
 use Rattle.gx_append.proofs.Readings.{before_read, growth_asked, segments_of}
 use Rattle.gx_additions.specs.Additions.{GivesRefs, IsCutBack, refs_alone, with_refs}
-use Rattle.gx_additions.proofs.Digests.{digester}
+use Rattle.gx_growing_parts.proofs.Digesters.{digester}
 use Rattle.gx_additions.proofs.OtherRefs.{refs_taken}
 
 pub growth : (name : Kind → Bytes → Bytes) (told : Option Bytes) (is_first : Bool) (ends : ℕ) (runs : Bytes) (count : ℕ) (refs bytes slot : Bytes) (repository : Records) (named : List (Bytes × Bytes))

@@ -1,5 +1,5 @@
-mod Digests
 mod Growths
 mod OldTexts
 mod OtherRefs
+mod RowLists
 mod Spelled

@@ -1,5 +1,5 @@
 -- Segments that bring no objects, by the lines of their tails. Source: this project's own format.
-use Rattle.std.specs.Prelude.{◌≡◌, ◌⊎◌, ◌^◌, ℕ, ◌+◌, ◌<◌, List, [], ◌∷◌, ◌++◌, length, drop, codes, Bool, Option, Some}
+use Rattle.std.specs.Prelude.{◌≡◌, ◌⊎◌, ◌^◌, ℕ, ◌+◌, ◌<◌, List, [], ◌∷◌, ◌++◌, length, codes, Option, Some}
 use Rattle.std.specs.List.{flat_map}
 use Rattle.sha2.specs.Sha256.{sha256}
 use Rattle.gx_model.specs.declared.objects.Kind.{Kind}
@@ -9,8 +9,10 @@ use Rattle.gx_model.specs.Records.Sound.{IsSound}
 use Rattle.gx_model.specs.Texts.Numbers.{number_text}
 use Rattle.gx_model.specs.Objects.{line}
 use Rattle.gx_model.specs.Stores.StoreText.{stored_ref}
-use Rattle.gx_growing.specs.GrowingText.{IsGrowingText, Run, Segment, Slot, run_text, segment_text, picks_first}
+use Rattle.gx_growing.specs.GrowingText.{IsGrowingText, Run, Segment, run_text, segment_text}
 use Rattle.gx_growing.specs.GrowingLaws.{ForEachDigester}
+use Rattle.gx_growing_parts.specs.Endings.{IsEnding}
+use Rattle.gx_growing_parts.specs.declared.ending.Ending.{Ending}
 use Rattle.gx_append.specs.Appending.{IsReadAs, IsTold, Takes}
 
 -- a segment that brings no records and no rows: these are the live runs still
@@ -25,19 +27,15 @@ pub record RefsAreTaken (name : Kind → Bytes → Bytes) : Type 0 where
       → old.slot.ends + length (segment_text (refs_alone old.last.runs refs)) < 2 ^ 63
       → Takes name digest text repository (record { records = repository.records; refs = refs }) old (refs_alone old.last.runs refs))
 
--- the lines of these runs, with that of their number, and those of so many refs
-pub record AreLines (live : List Run) (named : List (Bytes × Bytes)) (runs : Bytes) (count : ℕ) (refs : Bytes) : Type 0 where
-  pub of_runs : runs ≡ line (codes "runs") (number_text (length live)) ++ flat_map run_text live
+-- the lines of so many refs
+pub record AreLines (named : List (Bytes × Bytes)) (count : ℕ) (refs : Bytes) : Type 0 where
   pub counted : count ≡ length named
   pub of_refs : refs ≡ flat_map stored_ref named
 
--- the tail of these lines
-abbrev pub tail_with : Bytes → ℕ → Bytes → Bytes
-tail_with runs count refs = runs ++ (line (codes "refs") (number_text count) ++ (refs ++ (codes "end" ++ 10 ∷ [])))
-
--- the slot of a segment behind a place, of which 18 bytes stand before its tail
-abbrev pub slot_of : ℕ → Bytes → Slot
-slot_of ends segment = record { ends = (ends + 18) + length (drop 18 segment); tail = ends + 18; digest = sha256 (drop 18 segment) }
+-- the tail of these runs and lines
+abbrev pub tail_with : List Run → ℕ → Bytes → Bytes
+tail_with runs count refs =
+    line (codes "runs") (number_text (length runs)) ++ (flat_map run_text runs ++ (line (codes "refs") (number_text count) ++ (refs ++ (codes "end" ++ 10 ∷ []))))
 
 -- ---- appending them
 
@@ -45,16 +43,15 @@ slot_of ends segment = record { ends = (ends + 18) + length (drop 18 segment); t
 abbrev pub with_refs : Records → List (Bytes × Bytes) → Records
 with_refs repository refs = record { records = repository.records; refs = refs }
 
--- A file is told that is a growing text of a repository, with these lines of live runs, and the lines are given of refs that the
--- repository may have.
-pub record GivesRefs (name : Kind → Bytes → Bytes) (told : Option Bytes) (is_first : Bool) (ends : ℕ) (runs : Bytes) (count : ℕ) (refs : Bytes)
-    (repository : Records) (named : List (Bytes × Bytes)) : Type 0 where
+-- A file is told that is a growing text of a repository, with this ending, and the lines are given of refs that the repository may
+-- have.
+pub record GivesRefs (name : Kind → Bytes → Bytes) (told : Option Bytes) (ending : Ending) (count : ℕ) (refs : Bytes) (repository : Records)
+    (named : List (Bytes × Bytes)) : Type 0 where
   pub file : Bytes
   pub is : told ≡ Some file
   pub old : IsGrowingText name sha256 file repository
-  pub picks : picks_first old.pick ≡ is_first
-  pub ends_are : ends ≡ old.slot.ends
-  pub lines : AreLines old.last.runs named runs count refs
+  pub ends : IsEnding old ending
+  pub lines : AreLines named count refs
   pub sound : IsSound name (with_refs repository named)
   pub short : length file < 2 ^ 63
 

@@ -1,2 +1,5 @@
 pub mod Additions
 pub mod Faults
+pub mod Merging
+pub mod NewObjects
+pub mod Parts

@@ -4,9 +4,13 @@
 mod appending;
 mod fault;
 pub mod laws;
+mod merging;
+mod objects;
+mod parts;
 mod refs;
 mod slot;
 
-pub use appending::append_refs;
-pub use fault::RefsFault;
-pub use refs::{Addition, refs_alone};
+pub use appending::{append_objects, append_refs};
+pub use fault::AdditionFault;
+pub use refs::refs_alone;
+pub use slot::Addition;

@@ -1,6 +1,6 @@
 //! What is appended, and what stands in the text where a call fails.
 
-use crate::texts::{EMPTY, TWICE, appended};
+use crate::texts::{EMPTY, ENDING, TWICE, appended};
 use gx_additions::append_refs;
 use gx_append::AppendFault;
 use gx_disk::{Disk, Plan};
@@ -79,7 +79,7 @@ fn failed_last_calls_are_told_apart(rt: HostRuntime) {
 /// The text once it is given no refs.
 fn given_none(alloc: Global) -> Option<Disk<Global>> {
     let mut disk = Disk::new(alloc, EMPTY, Plan::NONE).ok()?;
-    append_refs(alloc, &mut disk, true, 262, b"runs 0\n", 0, b"").ok()?;
+    append_refs(alloc, &mut disk, ENDING, 0, b"").ok()?;
     Some(disk)
 }
 

@@ -3,6 +3,7 @@
 use gx_additions::{Addition, refs_alone};
 use gx_append::{AppendFault, append};
 use gx_disk::{Disk, Plan};
+use gx_growing_parts::Ending;
 use std::alloc::Global;
 
 /// The growing text with no object and no ref. Source: this project's own format.
@@ -22,9 +23,16 @@ adb75895df009d6af652e3e2686b8d561b10c7e4b0c7c84e20c13de012fb0597\n\
 objects 0\nrows 0\n\nruns 0\nrefs 0\nend\n\
 objects 0\nrows 0\n\nruns 0\nrefs 0\nend\n";
 
+/// How the empty text ends.
+pub(crate) const ENDING: Ending<'static> = Ending {
+    is_first: true,
+    ends: 262,
+    runs: &[],
+};
+
 /// What a segment of no objects and no refs gives behind the empty text.
 fn nothing(alloc: Global) -> Option<Addition<Global>> {
-    refs_alone(alloc, 262, b"runs 0\n", 0, b"").ok()
+    refs_alone(alloc, ENDING, 0, b"").ok()
 }
 
 /// The disk once the segment is appended as a plan says, and the answer.

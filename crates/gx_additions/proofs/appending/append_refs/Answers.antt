@@ -3,7 +3,7 @@ use Rattle.sha2.specs.Sha256.{sha256}
 use Rattle.gx_append.specs.Appending.{IsReadAs, Shows}
 use Rattle.gx_append.proofs.Moments.{Known, so_too}
 use Rattle.gx_additions.specs.Additions.{with_refs}
-use Rattle.gx_additions.proofs.Digests.{digester}
+use Rattle.gx_growing_parts.proofs.Digesters.{digester}
 use Rattle.gx_additions.proofs.Growths.{all_was, cut_read, growth, is_asked, slot_was, still_read}
 use Rattle.gx_additions.proofs.appending.append_refs.Goals as goal
 

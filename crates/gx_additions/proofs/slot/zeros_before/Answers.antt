@@ -1,8 +1,0 @@
-use Rattle.std.proofs.Common.{◌∙◌, arith, length}
-use Rattle.gx_additions.proofs.Spelled.{zeros_left}
-use Rattle.gx_additions.proofs.slot.zeros_before.Goals as goal
-
-pub returns : goal.returns
-returns c =
-    let k = length c.args.digits.now in
-    c.split_at.ensures.back ∙ zeros_left k c.min.result (omega (arith, c.min.ensures))

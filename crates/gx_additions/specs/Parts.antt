@@ -1,0 +1,31 @@
+-- The parts of a segment, and the slot that leads to it. Source: this project's own format.
+use Rattle.std.specs.Prelude.{ℕ, ◌+◌, List, [], ◌∷◌, ◌++◌, codes, drop, length}
+use Rattle.std.specs.List.{flat_map}
+use Rattle.sha2.specs.Sha256.{sha256}
+use Rattle.gx_model.specs.declared.objects.Kind.{Kind}
+use Rattle.gx_model.specs.declared.store_versions.Version.TheVariants.{Two}
+use Rattle.gx_model.specs.Histories.{Record}
+use Rattle.gx_model.specs.Texts.{Bytes}
+use Rattle.gx_model.specs.Stores.StoreText.{stored_record}
+use Rattle.gx_object.specs.declared.name.Name.{Name}
+use Rattle.gx_growing.specs.GrowingText.{Slot, records_text, rows_text}
+
+-- a record of this name
+abbrev pub record_called : Name → Kind → Bytes → Bytes
+record_called name kind body = stored_record Two (record { name = name.bytes; kind = kind; body = body })
+
+-- the number of records, and these
+abbrev pub records_front : List Record → Bytes
+records_front records = records_text records []
+
+-- the number of rows, these with the digests of their pages, and an LF
+abbrev pub table_front : ℕ → Bytes → Bytes → Bytes
+table_front count rows digests = rows_text count (rows ++ digests) []
+
+-- what stands before the tail of a segment
+abbrev pub front_text : List Record → ℕ → Bytes → Bytes → Bytes
+front_text records count rows digests = records_front records ++ table_front count rows digests
+
+-- the slot of a segment behind a place, of which so many bytes stand before its tail
+abbrev pub slot_of : ℕ → Bytes → ℕ → Slot
+slot_of ends segment front = record { ends = (ends + front) + length (drop front segment); tail = ends + front; digest = sha256 (drop front segment) }

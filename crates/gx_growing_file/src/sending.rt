@@ -180,7 +180,7 @@ fn send_run<W: Sink>(sink: &mut W, place: u64, count: u64, digest: &[u8; 32]) ->
 {
     let mut place_digits = Buffer::new();
     let mut count_digits = Buffer::new();
-    let digits = digest_digits(digest.as_slice());
+    let digits = digest_digits(digest);
     send_all(
         sink,
         &[
@@ -225,7 +225,7 @@ fn send_head<W: Sink>(sink: &mut W, ends: u64, tail: u64, digest: &[u8; 32]) -> 
     let ends_text = ends_digits.format(ends).as_bytes();
     let mut tail_digits = Buffer::new();
     let tail_text = tail_digits.format(tail).as_bytes();
-    let digits = digest_digits(digest.as_slice());
+    let digits = digest_digits(digest);
     send_all(
         sink,
         &[

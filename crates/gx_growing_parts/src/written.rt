@@ -11,12 +11,11 @@ pub fn zeros_before(digits: &[u8]) -> &[u8]
 }
 
 /// The digits of a digest, in lower case. Cost: constant. Takes no memory. Source: this project's own format.
-pub fn digest_digits(digest: &[u8]) -> [u8; 64]
-    requires { length digest.now ≡ 32 }
+pub fn digest_digits(digest: &[u8; 32]) -> [u8; 64]
     ensures { result ≡ hex digest.now }
 {
     let mut digits = [0; 64];
-    match hex::encode_to_slice(digest, &mut digits) {
+    match hex::encode_to_slice(digest.as_slice(), &mut digits) {
         Ok(()) => digits,
         Err(_) => unreachable!(),
     }

@@ -11,8 +11,10 @@ use Rattle.gx_model.specs.Texts.{Bytes}
 use Rattle.gx_model.specs.Texts.Numbers.{number_text}
 use Rattle.gx_model.proofs.Records.ReadRecords.{hex_long}
 use Rattle.gx_model.specs.Stores.StoreText.{stored_record}
-use Rattle.gx_growing.specs.GrowingText.{Row, placed}
+use Rattle.gx_growing.specs.GrowingText.{Row, placed, rows_in}
+use Rattle.gx_growing.proofs.SortedRows.{placed_long}
 use Rattle.gx_growing_parts.specs.Placing.{rows_of}
+use Rattle.gx_growing_rows.proofs.RisingRows.{rows_long}
 
 -- The element at a place, and those behind it.
 pub from_place : {X : Type 0} (xs : List X) (i : ℕ) (x : X) → Some x ≡ slice_get xs i → drop i xs ≡ x ∷ drop (i + 1) xs
@@ -26,14 +28,14 @@ is_within [] i e h = omega (arith, h)
 is_within (x ∷ xs) zero e h = cc
 is_within (x ∷ xs) (suc i) e h = is_within xs i e (omega (arith, h))
 
-module _ (first : ℕ) (rs : List Record) where
-  -- of these records, those in front of one have their rows, and that one stands at this place
+module _ (old : List Row) (held first : ℕ) (rs : List Record) where
+  -- of these records from a number on, those in front of one have their rows behind the old ones, and that one stands at this place
   pub record AreLaidOut (rows : List Row) (place at : ℕ) : Type 0 where
-    pub told : rows ++ placed place (drop at rs) ≡ placed first rs
-    pub behind : place + length (flat_map (stored_record Two) (drop at rs)) ≡ first + length (flat_map (stored_record Two) rs)
+    pub told : rows ++ placed place (drop at rs) ≡ old ++ placed first (drop held rs)
+    pub behind : place + length (flat_map (stored_record Two) (drop at rs)) ≡ first + length (flat_map (stored_record Two) (drop held rs))
 
   -- Before the first, none has.
-  pub none_laid : AreLaidOut [] first 0
+  pub none_laid : AreLaidOut old first held
   none_laid = record { told = refl; behind = refl }
 
   module _ (rows : List Row) (place at : ℕ) (a : AreLaidOut rows place at) where
@@ -41,7 +43,7 @@ module _ (first : ℕ) (rs : List Record) where
     pub one_laid : (r : Record) (behind : ℕ) → drop at rs ≡ r ∷ drop (at + 1) rs → behind ≡ place + length (stored_record Two r) → AreLaidOut (rows ++ (r.name, place) ∷ []) behind (at + 1)
     one_laid r behind here ends =
         let more = flat_map (stored_record Two) (drop (at + 1) rs) in
-        let all = flat_map (stored_record Two) rs in
+        let all = flat_map (stored_record Two) (drop held rs) in
         let whole = ap (λ z. place + length (flat_map (stored_record Two) z)) (sym here) ∙ a.behind in
         record {
           told = append_assoc rows ((r.name, place) ∷ []) (placed behind (drop (at + 1) rs)) ∙ ap (λ p. rows ++ ((r.name, place) ∷ placed p (drop (at + 1) rs))) ends
@@ -53,15 +55,19 @@ module _ (first : ℕ) (rs : List Record) where
         sums p b t m w f x y z = omega arith
 
     -- Behind the last, all have, and this is where it ends.
-    pub all_laid : length rs ≤ at → (rows ≡ placed first rs) × (place ≡ first + length (flat_map (stored_record Two) rs))
+    pub all_laid : length rs ≤ at → (rows ≡ old ++ placed first (drop held rs)) × (place ≡ first + length (flat_map (stored_record Two) (drop held rs)))
     all_laid last =
         let none = drop_all at rs last in (
           sym (append-nil rows) ∙ ap (λ z. rows ++ placed place z) (sym none) ∙ a.told,
-          sums place (length (flat_map (stored_record Two) (drop at rs))) (first + length (flat_map (stored_record Two) rs)) (ap (λ z. length (flat_map (stored_record Two) z)) none) a.behind,
+          sums place (length (flat_map (stored_record Two) (drop at rs))) (first + length (flat_map (stored_record Two) (drop held rs))) (ap (λ z. length (flat_map (stored_record Two) z)) none) a.behind,
         )
       where
         sums : (p m f : ℕ) → m ≡ 0 → p + m ≡ f → p ≡ f
         sums p m f x y = omega arith
+
+-- Rows that were read, and one for each record behind them.
+pub placed_behind : (taken : ℕ) (bytes : Bytes) (first : ℕ) (rs : List Record) → length (rows_in taken bytes ++ placed first rs) ≡ taken + length rs
+placed_behind taken bytes first rs = length-append (rows_in taken bytes) (placed first rs) ∙ (λ i. rows_long taken bytes i + placed_long first rs i)
 
 -- Where a record ends, by the numbers of its parts.
 pub ends_behind : (name : Bytes) (kind : Kind) (body : Bytes) (place begins behind word digits long : ℕ) → word ≡ length (kind_word kind) → digits ≡ length (number_text (length body)) → long ≡ length name

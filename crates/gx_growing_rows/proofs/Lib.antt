@@ -1,4 +1,5 @@
 pub mod GatheredRows
+pub mod JoinedRows
 pub mod LaidOut
 pub mod RisingRows
 pub mod SortedRows

@@ -77,50 +77,69 @@ rises_first (r ∷ rs) = rises r.0 rs
 
 -- ---- rows that are pushed
 
+module _ (count : ℕ) (rows : Bytes) (old : List Row) where
+  -- of so many rows, these are left
+  pub record AreLeft (left : ℕ) (rest : Bytes) (new : List Row) : Type 0 where
+    pub long : length rest ≡ 28 * left
+    pub pushed : new ++ rows_in left rest ≡ old ++ rows_in count rows
+
+  module _ (left : ℕ) (rest : Bytes) (new : List Row) (a : AreLeft left rest new) where
+    -- Where less than a row is left, none is, and all were pushed.
+    pub all_pushed : length rest < 28 → (left ≡ 0) × (new ≡ old ++ rows_in count rows)
+    all_pushed few =
+        let none : left ≡ 0 = omega (arith, few, a.long) in
+        (none, sym (append-nil new) ∙ ap (λ n. new ++ rows_in n rest) (sym none) ∙ a.pushed)
+
+    module _ (some : 28 ≤ length rest) where
+      pub more_left : (m : ℕ) × (left ≡ suc m)
+      more_left = by left refl
+        where
+          by : (n : ℕ) → left ≡ n → (m : ℕ) × (left ≡ suc m)
+          by zero e = absurd (omega (arith, some, a.long, e))
+          by (suc m) e = (m, e)
+
+      -- A row more is pushed.
+      pub one_pushed : (row : Row) (behind : Bytes) → row ≡ (take 20 rest, from_be_bytes w64 (part rest 20 8)) → behind ≡ drop 28 rest → AreLeft more_left.0 behind (new ++ row ∷ [])
+      one_pushed row behind is after = record {
+        long = ap length after ∙ length-drop 28 rest ∙ omega (arith, a.long, more_left.1);
+        pushed = append_assoc new (row ∷ []) (rows_in more_left.0 behind) ∙ (λ i. new ++ (is i ∷ rows_in more_left.0 (after i))) ∙ ap (λ n. new ++ rows_in n rest) (sym more_left.1) ∙ a.pushed;
+      }
+
 -- of so many rows, those behind the last name are left
 pub record RowsLeft (count : ℕ) (rows : Bytes) (old : List Row) (last : Option Bytes) (rest : Bytes) (new : List Row) : Type 0 where
   pub left : ℕ
-  pub long : length rest ≡ 28 * left
+  pub these : AreLeft count rows old left rest new
   pub rises : is_sorted byte_cmp (rows_in count rows) ≡ rise_from last (rows_in left rest)
-  pub pushed : new ++ rows_in left rest ≡ old ++ rows_in count rows
 
 -- Before the first row, all are left.
 pub all_left : (count : ℕ) (rows : Bytes) (old : List Row) → length rows ≡ 28 * count → RowsLeft count rows old None rows old
-all_left count rows old long = record { left = count; long = long; rises = sym (rises_first (rows_in count rows)); pushed = refl }
+all_left count rows old long = record { left = count; these = record { long = long; pushed = refl }; rises = sym (rises_first (rows_in count rows)) }
 
 module _ (count : ℕ) (rows : Bytes) (old : List Row) (last : Option Bytes) (rest : Bytes) (new : List Row) (a : RowsLeft count rows old last rest new) where
   -- Where less than a row is left, all were pushed, and their names go up.
   pub none_left : length rest < 28 → (is_sorted byte_cmp (rows_in count rows) ≡ true) × (new ≡ old ++ rows_in count rows)
   none_left few =
-      let none : a.left ≡ 0 = omega (arith, few, a.long) in (
-        a.rises ∙ ap (λ n. rise_from last (rows_in n rest)) none,
-        sym (append-nil new) ∙ ap (λ n. new ++ rows_in n rest) (sym none) ∙ a.pushed,
-      )
+      let all = all_pushed count rows old a.left rest new a.these few in
+      (a.rises ∙ ap (λ n. rise_from last (rows_in n rest)) all.0, all.1)
 
-  module _ (some : 28 ≤ length rest) where
-    more_left : (m : ℕ) × (a.left ≡ suc m)
-    more_left = by a.left refl
-      where
-        by : (n : ℕ) → a.left ≡ n → (m : ℕ) × (a.left ≡ suc m)
-        by zero e = absurd (omega (arith, some, a.long, e))
-        by (suc m) e = (m, e)
+  module _ (some : 28 ≤ length rest) (row : Row) (behind : Bytes) (is : row ≡ (take 20 rest, from_be_bytes w64 (part rest 20 8))) (after : behind ≡ drop 28 rest) where
+    abbrev more : (m : ℕ) × (a.left ≡ suc m)
+    more = more_left count rows old a.left rest new a.these some
 
-    module _ (row : Row) (behind : Bytes) (is : row ≡ (take 20 rest, from_be_bytes w64 (part rest 20 8))) (after : behind ≡ drop 28 rest) where
-      next_rises : is_sorted byte_cmp (rows_in count rows) ≡ (is_above last row.0 && rise_from (Some row.0) (rows_in more_left.0 behind))
-      next_rises =
-          let r = sym is in
-          let b = sym after in
-          a.rises ∙ ap (λ n. rise_from last (rows_in n rest)) more_left.1 ∙ (λ i. is_above last (r i).0 && rise_from (Some (r i).0) (rows_in more_left.0 (b i)))
+    next_rises : is_sorted byte_cmp (rows_in count rows) ≡ (is_above last row.0 && rise_from (Some row.0) (rows_in more.0 behind))
+    next_rises =
+        let r = sym is in
+        let b = sym after in
+        a.rises ∙ ap (λ n. rise_from last (rows_in n rest)) more.1 ∙ (λ i. is_above last (r i).0 && rise_from (Some (r i).0) (rows_in more.0 (b i)))
 
-      -- A row with a name that isn't behind the last one.
-      pub row_low : is_above last row.0 ≡ false → is_sorted byte_cmp (rows_in count rows) ≡ false
-      row_low low = next_rises ∙ ap (λ t. t && rise_from (Some row.0) (rows_in more_left.0 behind)) low
+    -- A row with a name that isn't behind the last one.
+    pub row_low : is_above last row.0 ≡ false → is_sorted byte_cmp (rows_in count rows) ≡ false
+    row_low low = next_rises ∙ ap (λ t. t && rise_from (Some row.0) (rows_in more.0 behind)) low
 
-      -- A row more is pushed.
-      pub row_pushed : is_above last row.0 ≡ true → RowsLeft count rows old (Some row.0) behind (new ++ row ∷ [])
-      row_pushed above = record {
-        left = more_left.0;
-        long = ap length after ∙ length-drop 28 rest ∙ omega (arith, a.long, more_left.1);
-        rises = next_rises ∙ ap (λ t. t && rise_from (Some row.0) (rows_in more_left.0 behind)) above;
-        pushed = append_assoc new (row ∷ []) (rows_in more_left.0 behind) ∙ (λ i. new ++ (is i ∷ rows_in more_left.0 (after i))) ∙ ap (λ n. new ++ rows_in n rest) (sym more_left.1) ∙ a.pushed;
-      }
+    -- A row more is pushed.
+    pub row_pushed : is_above last row.0 ≡ true → RowsLeft count rows old (Some row.0) behind (new ++ row ∷ [])
+    row_pushed above = record {
+      left = more.0;
+      these = one_pushed count rows old a.left rest new a.these some row behind is after;
+      rises = next_rises ∙ ap (λ t. t && rise_from (Some row.0) (rows_in more.0 behind)) above;
+    }

@@ -162,3 +162,13 @@ pub sorted_is : (xs ys : List Row) → IsPermutation xs ys → IsSortedBy (λ x 
 sorted_is xs ys p up =
     one_order ys (sorted_rows xs) (go_up ys (sorted_far less rows_ranked ys up)) (sorted_up xs)
     (λ r. sum_by-IsPermutation (one_if r) xs ys p ∙ sym (sum_by-IsPermutation (one_if r) xs (sorted_rows xs) (sorted_permuted xs)))
+
+-- Rows that are others in another order are the same once they are sorted.
+pub one_sorting : (xs ys : List Row) → IsPermutation xs ys → sorted_rows xs ≡ sorted_rows ys
+one_sorting xs ys p = one_order (sorted_rows xs) (sorted_rows ys) (sorted_up xs) (sorted_up ys) counts
+  where
+    counts : (r : Row) → count_of r (sorted_rows xs) ≡ count_of r (sorted_rows ys)
+    counts r =
+        let a = sum_by-IsPermutation (one_if r) xs (sorted_rows xs) (sorted_permuted xs) in
+        let b = sum_by-IsPermutation (one_if r) ys (sorted_rows ys) (sorted_permuted ys) in
+        a ∙ sym (sum_by-IsPermutation (one_if r) xs ys p) ∙ sym b

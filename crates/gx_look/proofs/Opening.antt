@@ -1,6 +1,6 @@
 -- Opening a growing text: its slot, its tail, and what these tell.
 use Rattle.std.proofs.Common.{◌≡◌, ◌+◌, ◌-◌, ◌<◌, ◌≤◌, ◌^◌, List, ◌++◌, length, take, drop, codes, Option, Some, None, Ok, Err, refl, sym, ap, ◌∙◌, subst, arith, append_assoc}
-use Rattle.std.specs.Prelude.{Result}
+use Rattle.std.specs.Prelude.{Bool, Result}
 use Rattle.std.specs.List.{flat_map}
 use Rattle.std.specs.Option.{option_map}
 use Rattle.std.specs.Result.{result_ok}
@@ -16,19 +16,20 @@ use Rattle.gx_model.specs.Stores.StoreReading.{stored_count}
 use Rattle.gx_model.proofs.Texts.Cuts.{some_is}
 use Rattle.gx_model.proofs.Stores.StoreTexts.{count_read}
 use Rattle.gx_at.specs.Reads.{StandsAt, part}
-use Rattle.gx_growing.specs.GrowingText.{Run, Slot, head_text, run_text, tail_text}
+use Rattle.gx_growing.specs.GrowingText.{Run, Slot, head_text, picks_first, run_text, tail_text}
 use Rattle.gx_growing.specs.GrowingReading.{Front, Grown, grown_of, head_of}
 use Rattle.gx_growing.proofs.ReadFronts.{head_long, head_of_text}
 use Rattle.gx_growing_parts.specs.Shown.{shown_slot}
-use Rattle.gx_growing_parts.specs.declared.head.Slot.{Slot as GivenSlot}
 use Rattle.gx_objects.specs.declared.fault.LookFault.{LookFault}
 use Rattle.gx_objects.specs.declared.fault.LookFault.TheVariants.{Damaged}
+use Rattle.gx_look.specs.declared.head.Picked.{Picked}
 use Rattle.gx_look.specs.declared.tail.Tail.{Tail}
-use Rattle.gx_look.specs.Heads.{PicksSlot, TellsSlot}
+use Rattle.gx_look.specs.Heads.{PicksSlot, TellsSlot, shown_picked}
 use Rattle.gx_look.specs.Looking.{told_by}
-use Rattle.gx_look.specs.Opened.{IsOpenedAs}
+use Rattle.gx_look.specs.Opened.{IsOpenedAs, IsPicked}
 use Rattle.gx_look.specs.Reading.{EndsBefore, Gives}
 use Rattle.gx_look.specs.Tails.{HoldsTail, LeadsTo, TellsTail, refs_text, runs_text}
+use Rattle.gx_look.proofs.HeadPlaces.{pick_before}
 use Rattle.gx_look.proofs.OpenedTexts.{is_told, one_front}
 
 -- ---- the head
@@ -47,12 +48,17 @@ module _ (text : Bytes) (x : Slot × Bytes) (e : head_of text ≡ Ok x) where
       let b = head_long h.pick h.first h.second h.head in
       omega arith
 
-  slot_is : (head : Bytes) (found : Option GivenSlot) → StandsAt (Some text) 0 head → length head ≡ 226 → PicksSlot head found → option_map shown_slot found ≡ Some x.0
-  slot_is head found there l picks = let h = head_of_text text x e in picks h.pick h.first h.second h.head (head_is head there l) ∙ h.slot
+  slot_is : (head : Bytes) (found : Option Picked) → StandsAt (Some text) 0 head → length head ≡ 226 → PicksSlot head found → option_map shown_picked found ≡ Some (picks_first (part text 10 1), x.0)
+  slot_is head found there l picks =
+      let h = head_of_text text x e in
+      let pick : part text 10 1 ≡ h.pick = ap (λ z. part z 10 1) h.spelled ∙ pick_before h.pick h.first h.second h.head x.1 in
+      picks h.pick h.first h.second h.head (head_is head there l)
+      ∙ ap (option_map (λ slot. (picks_first h.pick, slot))) h.slot
+      ∙ ap (λ z. Some (picks_first z, x.0)) (sym pick)
 
-pub slot_some : (told : Option Bytes) (head : Bytes) (slot : GivenSlot) → StandsAt told 0 head → length head ≡ 226 → PicksSlot head (Some slot) → TellsSlot told (Ok slot)
-slot_some None head slot there l picks = tt
-slot_some (Some text) head slot there l picks = λ x e. some_is (shown_slot slot) x.0 (slot_is text x e head (Some slot) there l picks)
+pub slot_some : (told : Option Bytes) (head : Bytes) (found : Picked) → StandsAt told 0 head → length head ≡ 226 → PicksSlot head (Some found) → TellsSlot told (Ok found)
+slot_some None head found there l picks = tt
+slot_some (Some text) head found there l picks = λ x e. some_is (shown_picked found) (picks_first (part text 10 1), x.0) (slot_is text x e head (Some found) there l picks)
 
 pub slot_none : (told : Option Bytes) (head : Bytes) → StandsAt told 0 head → length head ≡ 226 → PicksSlot head None → TellsSlot told (Err Damaged)
 slot_none None head there l picks = tt
@@ -105,15 +111,23 @@ refs_last runs refs =
 
 module _ (name : Kind → Bytes → Bytes) (namer : IsNamer name) where
   -- the tail of the slot that is picked is the last one
-  pub opened_last : {A : Type 0} (told : Option Bytes) (slot : GivenSlot) (tail : Tail A) → TellsSlot told (Ok slot) → TellsTail told (shown_slot slot) (Ok tail) → IsOpenedAs name told slot.ends tail
-  opened_last None slot tail h g = tt
-  opened_last (Some text) slot tail h g = λ r grown x front.
+  pub opened_last : {A : Type 0} (told : Option Bytes) (found : Picked) (tail : Tail A) → TellsSlot told (Ok found) → TellsTail told (shown_slot found.slot) (Ok tail) → IsOpenedAs name told found.slot.ends tail
+  opened_last None found tail h g = tt
+  opened_last (Some text) found tail h g = λ r grown x front.
+      let slot = found.slot in
       let t = is_told name namer text r grown in
       let same : t.0 ≡ x = one_front t.0 x (sym t.1.front_is ∙ front) in
-      let picked : shown_slot slot ≡ t.0.0 = h (t.0.0, t.1.front.rest) t.1.front.head_is in
+      let picked : shown_slot slot ≡ t.0.0 = ap (λ (z : Bool × Slot). z.1) (h (t.0.0, t.1.front.rest) t.1.front.head_is) in
       let leads : LeadsTo text (shown_slot slot) t.0.1.runs t.0.1.refs = subst (λ z. LeadsTo text z t.0.1.runs t.0.1.refs) (sym picked) t.1.leads in
       let holds = g t.0.1.runs t.0.1.refs leads in
       subst (λ (z : Slot × Front). (slot.ends ≡ z.0.ends) × HoldsTail z.1.runs z.1.refs tail) same (ap (λ (z : Slot). z.ends) picked, holds)
+
+  -- so is the byte that picks it
+  pub opened_pick : (told : Option Bytes) (found : Picked) → TellsSlot told (Ok found) → IsPicked name told found.is_first
+  opened_pick None found h = tt
+  opened_pick (Some text) found h = λ r grown.
+      let t = is_told name namer text r grown in
+      sym (ap (λ (z : Bool × Slot). z.0) (h (t.0.0, t.1.front.rest) t.1.front.head_is))
 
   -- only what tells no repository is damaged
   pub slot_untold : (told : Option Bytes) (fault : LookFault) → TellsSlot told (Err fault) → fault ≡ Damaged → told_by name told ≡ None
@@ -124,13 +138,13 @@ module _ (name : Kind → Bytes → Bytes) (namer : IsNamer name) where
       by (Err f) e = refl
       by (Ok r) e = let t = is_told name namer text r e in absurd (h (t.0.0, t.1.front.rest) t.1.front.head_is same)
 
-  pub tail_untold : (A : Type 0) (told : Option Bytes) (slot : GivenSlot) (fault : LookFault) → TellsSlot told (Ok slot) → TellsTail {A = A} told (shown_slot slot) (Err fault) → fault ≡ Damaged → told_by name told ≡ None
-  tail_untold A None slot fault h g same = refl
-  tail_untold A (Some text) slot fault h g same = by (grown_of name sha256 text) refl
+  pub tail_untold : (A : Type 0) (told : Option Bytes) (found : Picked) (fault : LookFault) → TellsSlot told (Ok found) → TellsTail {A = A} told (shown_slot found.slot) (Err fault) → fault ≡ Damaged → told_by name told ≡ None
+  tail_untold A None found fault h g same = refl
+  tail_untold A (Some text) found fault h g same = by (grown_of name sha256 text) refl
     where
       by : (w : Grown Records) → grown_of name sha256 text ≡ w → result_ok w ≡ None
       by (Err f) e = refl
       by (Ok r) e =
           let t = is_told name namer text r e in
-          let picked : shown_slot slot ≡ t.0.0 = h (t.0.0, t.1.front.rest) t.1.front.head_is in
+          let picked : shown_slot found.slot ≡ t.0.0 = ap (λ (z : Bool × Slot). z.1) (h (t.0.0, t.1.front.rest) t.1.front.head_is) in
           absurd (g t.0.1.runs t.0.1.refs (subst (λ z. LeadsTo text z t.0.1.runs t.0.1.refs) (sym picked) t.1.leads) same)

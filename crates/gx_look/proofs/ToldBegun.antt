@@ -1,5 +1,5 @@
 -- What digits begin in a repository that is told, and the lines of its refs.
-use Rattle.std.proofs.Common.{◌≡◌, inl, inr, ℕ, true, List, [], ◌∷◌, map, take, Option, refl, sym, ap, ◌∙◌, subst}
+use Rattle.std.proofs.Common.{◌≡◌, Bool, inl, inr, ℕ, true, List, [], ◌∷◌, map, take, Option, refl, sym, ap, ◌∙◌, subst}
 use Rattle.std.specs.Prelude.{IfSome, T}
 use Rattle.std.specs.List.{AllByRecursion, Contains}
 use Rattle.std.proofs.lemmas.Bool.{false≢true}
@@ -65,7 +65,7 @@ module _ (name : Kind → Bytes → Bytes) (namer : IsNamer name) where
       (each_name (λ n. begins_with_digits digits n ≡ true → ⊥) r.records (λ n h e. false≢true (sym (none n (of_name (λ m. is_name m ≡ true) r.records n (all_names r sound) h)) ∙ e)))
       Absent (λ n h. h))
 
-  module _ {A : Type 0} (told : Option Bytes) (stop : ℕ) (tail : Tail A) (opened : IsOpened name told stop tail) where
+  module _ {A : Type 0} {is_first : Bool} (told : Option Bytes) (stop : ℕ) (tail : Tail A) (opened : IsOpened name told is_first stop tail) where
     -- what is found between the ends of digits is what these begin
     pub begun_tells : (digits : Bytes) (ends : Name × Name) (found : Prefix) → AreEnds digits ends.0 ends.1 → BegunIn told tail.runs.items ends found → IfSome (told_by name told) (λ r. FindsBegun digits r found)
     begun_tells digits ends found are h = each_told name namer told (λ r. FindsBegun digits r found) (λ text e r g.

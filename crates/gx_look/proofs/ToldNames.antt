@@ -1,5 +1,5 @@
 -- What an opened growing text tells of the repository that it is of.
-use Rattle.std.proofs.Common.{◌≡◌, ℕ, zero, suc, ◌+◌, ◌*◌, ◌-◌, ◌<◌, ◌≤◌, ◌^◌, List, [], ◌∷◌, ◌++◌, length, map, take, drop, Option, Some, None, Ok, Err, refl, sym, ap, ◌∙◌, subst, arith, append-nil}
+use Rattle.std.proofs.Common.{◌≡◌, Bool, ℕ, zero, suc, ◌+◌, ◌*◌, ◌-◌, ◌<◌, ◌≤◌, ◌^◌, List, [], ◌∷◌, ◌++◌, length, map, take, drop, Option, Some, None, Ok, Err, refl, sym, ap, ◌∙◌, subst, arith, append-nil}
 use Rattle.std.specs.Prelude.{T, IsTrue, IfSome}
 use Rattle.std.specs.Option.{option_map}
 use Rattle.std.specs.Result.{result_ok}
@@ -114,7 +114,7 @@ module _ (name : Kind → Bytes → Bytes) (namer : IsNamer name) where
   pub told_sound : (told : Option Bytes) → IfSome (told_by name told) (IsSound name)
   told_sound told = each_told told (IsSound name) (λ text e r g. (is_told name namer text r g).1.sound)
 
-  module _ {A : Type 0} (told : Option Bytes) (ends : ℕ) (tail : Tail A) (opened : IsOpened name told ends tail) where
+  module _ {A : Type 0} {is_first : Bool} (told : Option Bytes) (ends : ℕ) (tail : Tail A) (opened : IsOpened name told is_first ends tail) where
     -- the runs and refs that are held, of a text that tells a repository
     pub record IsSeen (text : Bytes) (r : Records) : Type 0 where
       pub x : Slot × Front

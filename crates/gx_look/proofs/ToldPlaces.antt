@@ -155,7 +155,7 @@ module _ (name : Kind → Bytes → Bytes) (namer : IsNamer name) where
       let size = zip_length (take t.0.0.ends text) rows r.records t.1.stand in
       subst (λ z. place_at z i < place_at z j) (sym (rows_told told text e r g)) (up_at (map (λ row. row.1) rows) up i j l (omega (arith, size, m))))
 
-  module _ {A : Type 0} (told : Option Bytes) (ends : ℕ) (tail : Tail A) (opened : IsOpened name told ends tail) where
+  module _ {A : Type 0} {is_first : Bool} (told : Option Bytes) (ends : ℕ) (tail : Tail A) (opened : IsOpened name told is_first ends tail) where
     -- a place that is found is that of the number of the record with the name
     pub number_tells : (called : Bytes) (place : ℕ) → PlacesIn told tail.runs.items called (Some place) → IfSome (told_by name told) (λ r. StandsThere (place_at (told_rows name told)) called r (Some place))
     number_tells called place there = each_told name namer told (λ r. StandsThere (place_at (told_rows name told)) called r (Some place)) (λ text e r g.

@@ -1,5 +1,5 @@
 -- The slot that a growing text's head picks. Source: this project's own format.
-use Rattle.std.specs.Prelude.{◌≡◌, Bool, Option, Some, None, Result, Ok, ⊤}
+use Rattle.std.specs.Prelude.{◌≡◌, Bool, if◌then◌else◌, Option, Some, None, Result, Ok, ⊤}
 use Rattle.std.specs.Option.{option_map}
 use Rattle.gx_model.specs.Texts.{Bytes}
 use Rattle.gx_growing.specs.GrowingText.{IsHead, Slot, head_text, part, picked, picks_first}
@@ -8,6 +8,10 @@ use Rattle.gx_growing_parts.specs.Shown.{shown_slot}
 use Rattle.gx_objects.specs.declared.fault.LookFault.{LookFault}
 use Rattle.gx_look.specs.declared.head.Picked.{Picked}
 use Rattle.gx_look.specs.Reading.{Gives}
+
+-- the part of a head in which its first slot stands, or its second
+abbrev pub slot_part : Bytes → Bool → Bytes
+slot_part head is_first = if is_first then part head 12 106 else part head 119 106
 
 -- whether the first slot is picked, and the one that is
 abbrev pub shown_picked : Picked → Bool × Slot

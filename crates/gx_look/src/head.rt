@@ -1,17 +1,13 @@
 //! The slot that a growing text's head picks. Source: this project's own format.
 
 ghost use Rattle.std.specs.Prelude.{◌≡◌, length, IfErr, IfOk};
-ghost use Rattle.std.specs.Option.{option_map};
-ghost use Rattle.gx_growing.specs.GrowingReading.{long_number_in, slot_in};
 ghost use Rattle.gx_growing.specs.GrowingText.{picks_first};
-ghost use Rattle.gx_growing_parts.specs.Shown.{shown_slot};
-ghost use Rattle.gx_look.specs.Heads.{TellsSlot, PicksSlot};
+ghost use Rattle.gx_look.specs.Heads.{TellsSlot, PicksSlot, slot_part};
 
 use crate::fill::fill;
 use gx_at::ReadAt;
-use gx_growing_parts::{HEAD, Slot, read_digest};
+use gx_growing_parts::{HEAD, Slot, read_slot};
 use gx_objects::LookFault;
-use gx_text::{cut, decimal};
 
 /// The first line of a growing text.
 const MAGIC: [u8; 10] = *b"gxstore 3\n";
@@ -45,13 +41,20 @@ fn slot_of_head(head: &[u8]) -> Option<Picked>
         return None;
     }
     let is_first = picks_first(&head[10..11]);
-    let text = if is_first {
+    let slot = read_slot(slot_text(head, is_first))?;
+    Some(Picked { is_first, slot })
+}
+
+/// The text of a head's first slot, or of its second.
+fn slot_text(head: &[u8], is_first: bool) -> &[u8]
+    requires { length head.now ≡ 226 }
+    ensures { result.now ≡ slot_part head.now is_first }
+{
+    if is_first {
         &head[12..118]
     } else {
         &head[119..225]
-    };
-    let slot = read_slot(text)?;
-    Some(Picked { is_first, slot })
+    }
 }
 
 /// Whether this byte picks the first slot.
@@ -59,26 +62,4 @@ fn picks_first(pick: &[u8]) -> bool
     ensures { result ≡ picks_first pick.now }
 {
     pick == b"a".as_slice()
-}
-
-/// What the text of a slot says.
-fn read_slot(text: &[u8]) -> Option<Slot>
-    ensures { option_map shown_slot result ≡ slot_in text.now }
-{
-    let (ends, rest) = cut(text, b' ')?;
-    let ends = long_number(ends)?;
-    let (tail, digits) = cut(rest, b' ')?;
-    let tail = long_number(tail)?;
-    let digest = read_digest(digits)?;
-    Some(Slot { ends, tail, digest })
-}
-
-/// A number of twenty digits.
-fn long_number(text: &[u8]) -> Option<u64>
-    ensures { result ≡ long_number_in text.now }
-{
-    if text.len() != 20 {
-        return None;
-    }
-    decimal(text)
 }

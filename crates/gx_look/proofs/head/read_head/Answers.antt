@@ -8,7 +8,7 @@ returns-in_err-fill g c =
     rw (p.1, p.2) (slot_cut (g.S.ReadAt.text c.args.source.now) c.in_err-fill.field-0.0 c.in_err-fill.ensures.fault)
 
 pub returns-in-Some : goal.returns-in-Some
-returns-in-Some g c = slot_some (g.S.ReadAt.text c.args.source.now) c.fill.new.room c.in-Some.slot c.in_ok-fill.ensures.there c.in_ok-fill.ensures.same_room c.in-Some.ensures
+returns-in-Some g c = slot_some (g.S.ReadAt.text c.args.source.now) c.fill.new.room c.in-Some.picked c.in_ok-fill.ensures.there c.in_ok-fill.ensures.same_room c.in-Some.ensures
 
 pub returns-in-None : goal.returns-in-None
 returns-in-None g c = slot_none (g.S.ReadAt.text c.args.source.now) c.fill.new.room c.in_ok-fill.ensures.there c.in_ok-fill.ensures.same_room c.in-None.ensures

@@ -1,12 +1,14 @@
-use Rattle.std.proofs.Common.{ap, ◌∙◌, take, drop}
-use Rattle.gx_growing.specs.GrowingReading.{slot_in}
-use Rattle.gx_growing.specs.GrowingText.{picked}
-use Rattle.gx_look.proofs.HeadPlaces.{first_there, pick_there, second_there}
+use Rattle.std.proofs.Common.{None, Some, ap, ◌∙◌}
+use Rattle.std.specs.Option.{option_map}
+use Rattle.gx_look.specs.Heads.{shown_picked}
+use Rattle.gx_look.proofs.HeadPlaces.{picks_told}
 use Rattle.gx_look.proofs.head.slot_of_head.Goals as goal
+
+pub returns-in_err-slot : goal.returns-in_err-slot
+returns-in_err-slot c = λ pick first second head e.
+    ap (option_map shown_picked) c.from_residual.ensures
+    ∙ picks_told pick first second head c.args.head.now c.picks_first-is_first.result c.slot_text.result.now None e c.picks_first-is_first.ensures c.slot_text.ensures c.in_err-slot.ensures
 
 pub returns : goal.returns
 returns c = λ pick first second head e.
-    let p = ap (λ z. take 1 (drop 10 z)) e ∙ pick_there pick first second head in
-    let f = ap (λ z. take 106 (drop 12 z)) e ∙ first_there pick first second head in
-    let s = ap (λ z. take 106 (drop 119 z)) e ∙ second_there pick first second head in
-    c.read_slot.ensures ∙ ap slot_in (c.picked.ensures ∙ (λ i. picked (p i) (f i) (s i)))
+    picks_told pick first second head c.args.head.now c.picks_first-is_first.result c.slot_text.result.now (Some c.in_ok-slot.slot) e c.picks_first-is_first.ensures c.slot_text.ensures c.in_ok-slot.ensures

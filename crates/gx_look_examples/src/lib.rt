@@ -7,6 +7,7 @@ mod asked;
 mod counted;
 #[cfg(test)]
 mod damaged;
+mod endings;
 #[cfg(test)]
 mod looks;
 #[cfg(test)]

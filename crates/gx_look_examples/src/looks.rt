@@ -112,7 +112,7 @@ fn empty_text_has_no_object_and_no_ref(rt: HostRuntime) {
 }
 
 /// The text with no object and no ref, as it is written.
-const EMPTY: [u8; 262] = *b"gxstore 3\na\n\
+pub(crate) const EMPTY: [u8; 262] = *b"gxstore 3\na\n\
 00000000000000000262 00000000000000000244 \
 adb75895df009d6af652e3e2686b8d561b10c7e4b0c7c84e20c13de012fb0597\n\
 00000000000000000000 00000000000000000000 \

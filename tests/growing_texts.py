@@ -111,3 +111,56 @@ class GrowingText:
 def cut_rows(rows: bytes) -> Iterator[bytes]:
     """Rows of 28 bytes, one by one."""
     return (rows[at : at + ROW] for at in range(0, len(rows), ROW))
+
+
+def picked_slot(text: bytes) -> tuple[int, int]:
+    """Where a growing text ends, and where its last tail begins."""
+    at = 12 if text[10:11] == b"a" else 119
+    return int(text[at : at + 20]), int(text[at + 21 : at + 41])
+
+
+def live_runs(text: bytes) -> list[Run]:
+    """The runs that the last tail tells."""
+    ends, tail = picked_slot(text)
+    lines = text[tail:ends].splitlines()
+    rows = (line.split() for line in lines[1 : 1 + int(lines[0].split()[1])])
+    return [Run(int(row[0]), int(row[1]), bytes.fromhex(row[2].decode())) for row in rows]
+
+
+class Lines:
+    """Reads a text line by line, from a place on."""
+
+    def __init__(self, text: bytes, at: int):
+        self.text, self.at = text, at
+
+    def line(self) -> bytes:
+        start, self.at = self.at, self.text.index(b"\n", self.at) + 1
+        return self.text[start : self.at - 1]
+
+    def count(self, word: bytes) -> int:
+        front, _, count = self.line().partition(b" ")
+        assert front == word, front
+        return int(count)
+
+    def records(self) -> Iterator[bytes]:
+        """The line of each record."""
+        for _ in range(self.count(b"objects")):
+            line = self.line()
+            yield line
+            self.at += int(line.split()[1]) + 1
+
+
+def record_lines(text: bytes) -> Iterator[bytes]:
+    """The line of each record of a text of version 2, or of all segments of a growing one."""
+    if not text.startswith(b"gxstore 3\n"):
+        yield from Lines(text, len(b"gxstore 2\n")).records()
+        return
+    lines, (ends, _) = Lines(text, HEAD), picked_slot(text)
+    while lines.at < ends:
+        yield from lines.records()
+        rows = ROW * lines.count(b"rows")
+        lines.at += rows + 32 * -(-rows // PAGE) + 1
+        for word in (b"runs", b"refs"):
+            for _ in range(lines.count(word)):
+                lines.line()
+        assert lines.line() == b"end"

@@ -2,14 +2,13 @@
 
 from __future__ import annotations
 
-import re
 import shutil
 from collections.abc import Callable, Iterable, Iterator
 from contextlib import AbstractContextManager
 from pathlib import Path
 from typing import Any
 
-from growing_texts import HEAD
+from growing_texts import record_lines
 from histories import Step
 from hypothesis import currently_in_test_context, note
 from programs import Program, Word, counted, printed, run_program
@@ -174,16 +173,9 @@ class Store:
         return self.prints("refs", self.path)
 
     def records(self) -> Iterator[tuple[bytes, bytes, bytes]]:
-        """Kind, size and digits of each record, in order. gx writes a growing store as one segment,
-        which has them behind its head."""
-        text = self.path.read_bytes()
-        start = HEAD if text.startswith(b"gxstore 3\n") else len(b"gxstore 2\n")
-        count = re.compile(rb"objects (\d+)\n").match(text, start)
-        assert count
-        at = count.end()
-        for _ in range(int(count[1])):
-            kind, size, digits = text[at : text.index(b"\n", at)].split()
-            at += len(kind) + len(size) + 43 + int(size) + 1
+        """Kind, size and digits of each record, in order."""
+        for line in record_lines(self.path.read_bytes()):
+            kind, size, digits = line.split()
             yield kind, size, digits
 
     def all_objects(self) -> list[bytes]:

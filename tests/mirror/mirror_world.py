@@ -4,13 +4,13 @@ from __future__ import annotations
 
 import itertools
 import os
-import re
 import shutil
 import sys
 import time
 from collections.abc import Iterable
 from pathlib import Path
 
+from growing_texts import record_lines
 from programs import SCRIPTS, Done, Program, Word, printed, run_program
 
 NOTHING = b"0" * 40
@@ -117,14 +117,8 @@ class Store:
 
     def records(self) -> list[bytes]:
         """Name, kind and size of each object, as git tells them."""
-        text = self.path.read_bytes()
-        count = re.search(rb"(?m)^objects (\d+)\n", text)
-        at, rows = count.end(), []
-        for _ in range(int(count[1])):
-            kind, size, digits = text[at : text.index(b"\n", at)].split()
-            at += len(kind) + len(size) + 43 + int(size) + 1
-            rows.append(b"%s %s %s" % (digits, kind, size))
-        return sorted(rows)
+        lines = (line.split() for line in record_lines(self.path.read_bytes()))
+        return sorted(b"%s %s %s" % (digits, kind, size) for kind, size, digits in lines)
 
     def names(self) -> set[bytes]:
         return {row.split()[0] for row in self.records()}

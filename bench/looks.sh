@@ -17,35 +17,15 @@ fi
 cd "$(dirname "$0")/.."
 read -r size small large <<< "${SIZES:-1000 100 4000}"
 
-# makes what isn't there yet: stored MEGABYTES
-stored() {
-  local store=$folder/$1
-  [ -e "$store.v2" ] || { python3 bench/store.py "${1}000000" deep > "$store.part" && mv "$store.part" "$store.v2"; }
-  [ -e "$store.gx" ] || grown "$store.v2" "$store.gx"
-}
-
-# grown PLAIN GROWN
-grown() {
-  cp "$1" "$2.part"
-  "$gx" grow "$2.part"
-  mv "$2.part" "$2"
-}
+# shellcheck source=bench/stores.bash
+. bench/stores.bash
 
 stored "$size"
-if [ ! -e "$folder/$size.git" ]; then
-  git init -q --bare "$folder/part.git"
-  "$gx" export --changes "$folder/$size.v2" | git -C "$folder/part.git" fast-import --quiet
-  git -C "$folder/part.git" gc --quiet
-  mv "$folder/part.git" "$folder/$size.git"
-fi
+beside "$size"
 echo "load average before: $(cut -d ' ' -f 1 /proc/loadavg)"
 python3 bench/looks.py table "$gx" "$folder/$size.gx" "$folder/$size.git"
 python3 bench/looks.py batch "$gx" "$folder/$size.gx"
 
 stored "$small"
-if [ ! -e "$folder/$small-in-$large.gx" ]; then
-  python3 bench/looks.py pad "$folder/$small.v2" "$((large - small))000000" > "$folder/padded"
-  grown "$folder/padded" "$folder/$small-in-$large.gx"
-  rm "$folder/padded"
-fi
+padded "$small" "$large"
 python3 bench/looks.py reads "$gx" "$folder/$small.gx" "$folder/$small-in-$large.gx"

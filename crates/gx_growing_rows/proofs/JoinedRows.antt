@@ -135,5 +135,5 @@ segments_names place (s ∷ ss) =
 pub held_apart : (place first : ℕ) (ss : List Segment) (new : List Record) → AreDistinct (map (λ r. r.name) (records_of ss ++ new)) → AreApart (placed_rows place ss ++ placed first new)
 held_apart place first ss new distinct =
     let names = map-append (λ row. row.0) (placed_rows place ss) (placed first new)
-        ∙ (λ i. segments_names place ss i ++ placed_names first new i) ∙ sym (map-append (λ r. r.name) (records_of ss) new) in
+    ∙ (λ i. segments_names place ss i ++ placed_names first new i) ∙ sym (map-append (λ r. r.name) (records_of ss) new) in
     names_apart (placed_rows place ss ++ placed first new) (subst AreDistinct (sym names) distinct)

@@ -44,7 +44,7 @@ pub fn first_table<N: Namer, A: Allocator + Copy>(
 /// number on: the rows of these, and those of live runs that it takes in.
 ///
 /// `AllocError`: a growth was refused, or the segment ends behind 2^64 bytes. Cost: the rows are sorted and hashed. Memory: two
-/// rows for each of them. Source: this project's own format.
+/// rows for each row. Source: this project's own format.
 pub fn next_table<N: Namer, A: Allocator + Copy>(
     alloc: A,
     store: &Store<N, A>,

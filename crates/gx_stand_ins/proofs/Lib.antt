@@ -1,0 +1,13 @@
+pub mod EachValue
+pub mod EachFile
+pub mod EachTree
+pub mod WholeNames
+pub mod Leading
+pub mod LedRevisions
+pub mod GrownTogether
+pub mod LedNames
+pub mod LedStates
+pub mod AddedAlike
+pub mod LedSteps
+pub mod LedCheckpoints
+pub mod LedReplays

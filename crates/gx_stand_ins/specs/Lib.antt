@@ -1,0 +1,3 @@
+pub mod StandIns
+pub mod Asked
+pub mod StandInLaws

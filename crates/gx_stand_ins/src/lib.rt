@@ -1,0 +1,5 @@
+//! Stand-ins: a small repository whose objects have the names of what a whole one holds, and what an import into it tells of one
+//! into the whole. As in gx_model, a law is the contract of a public function with an empty body.
+#![tactic(auto)]
+
+pub mod stand_in_laws;

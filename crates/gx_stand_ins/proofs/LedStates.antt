@@ -13,11 +13,11 @@ use Rattle.gx_model.specs.Histories.Values.{Commit, Commits, Tag, Value, commit,
 use Rattle.gx_model.specs.Histories.{History, IsIn, Target, value_at}
 use Rattle.gx_model.specs.Revisions.{Revision, revision_of}
 use Rattle.gx_model.specs.Revisions.Denotation.{all_suffixed, base_value, commit_in, denoted, shown_at, shown_value, value_denoted}
-use Rattle.gx_model.specs.Streams.Commands.{CommitIsh, CommitParts, Marked, Named}
+use Rattle.gx_model.specs.Streams.Commands.{Change, CommitIsh, CommitParts, Marked, Named}
 use Rattle.gx_model.specs.Replay.{State, all_committed, at, committed, committed_for, first_parent, names_itself, or_branch, own_commit, revision_value, with_first_parent}
 use Rattle.gx_model.proofs.Replay.NullGitlinks.{found}
-use Rattle.gx_stand_ins.specs.Asked.{IsAlikeBase, IsAlikeCommit, IsAlikeRef, IsAlikeText}
-use Rattle.gx_stand_ins.specs.StandIns.{AreNamers, CommitKeepsName, CommitsKeepNames, StandIns, ValueKeepsName, whole_commit, whole_commits, whole_tag, whole_target, whole_value}
+use Rattle.gx_stand_ins.specs.Asked.{IsAlikeBase, IsAlikeRef, OfChange, OfCommit, OfCommitIsh, OfRevision}
+use Rattle.gx_stand_ins.specs.StandIns.{AreNamers, AreOwnBytes, AreOwnTexts, CommitKeepsName, CommitsKeepNames, StandIns, ValueKeepsName, whole_commit, whole_commits, whole_tag, whole_target, whole_value}
 use Rattle.gx_stand_ins.specs.StandInLaws.{IsSmall, whole_refs}
 use Rattle.gx_stand_ins.proofs.EachValue.{each, each_lookup}
 use Rattle.gx_stand_ins.proofs.GrownTogether.{AreGrown}
@@ -58,6 +58,19 @@ module _ (stand name : Kind → Bytes → Bytes) (ins : StandIns) (small whole :
   abbrev pub AreWholeCommits : List Commit → List Commit → Type 0
   AreWholeCommits cs ds = (ds ≡ map (whole_commit ins) cs) × AllByRecursion (CommitKeepsName stand name ins) cs
 
+  -- what names a commit, a change and a commit command are alike
+  abbrev AlikeText : Bytes → Type 0
+  AlikeText = OfRevision (IsAlikeRef stand name ins small whole) (IsAlikeBase stand name ins small whole) (AreOwnBytes stand name ins) (AreOwnTexts stand name ins)
+
+  abbrev pub AlikeCommitIsh : CommitIsh → Type 0
+  AlikeCommitIsh = OfCommitIsh (IsAlikeRef stand name ins small whole) (IsAlikeBase stand name ins small whole) (AreOwnBytes stand name ins) (AreOwnTexts stand name ins)
+
+  abbrev pub AlikeChange : Change → Type 0
+  AlikeChange = OfChange (IsAlikeRef stand name ins small whole) (IsAlikeBase stand name ins small whole) (AreOwnBytes stand name ins) (AreOwnTexts stand name ins)
+
+  abbrev pub AlikeCommit : CommitParts → Type 0
+  AlikeCommit = OfCommit (IsAlikeRef stand name ins small whole) (IsAlikeBase stand name ins small whole) (AreOwnBytes stand name ins) (AreOwnTexts stand name ins)
+
   module _ (namers : AreNamers stand name) (start : IsSmall stand name ins small whole) where
     abbrev Led : Result Value Fault → Result Value Fault → Type 0
     Led = Leads (IsWholeValue stand name ins)
@@ -73,7 +86,7 @@ module _ (stand name : Kind → Bytes → Bytes) (ins : StandIns) (small whole :
         (all_suffixed_leads stand name ins v y r.suffixes l) (λ u z m. shown_leads stand name ins u z r.path m)))
         (λ a b l. value_shown_leads stand name ins a b l)
 
-    revision_leads : (s w : State) → GoAlike s w → (x : Bytes) → IsAlikeText stand name ins small whole x → Led (revision_value stand s x) (revision_value name w x)
+    revision_leads : (s w : State) → GoAlike s w → (x : Bytes) → AlikeText x → Led (revision_value stand s x) (revision_value name w x)
     revision_leads s w h x k = by (revision_of x) k
       where
         by : (r : Result Revision Fault) → IfOk r (λ a. IsAlikeBase stand name ins small whole a.base) → Led (r >>= λ a. value_denoted stand s.history a) (r >>= λ a. value_denoted name w.history a)
@@ -97,7 +110,7 @@ module _ (stand name : Kind → Bytes → Bytes) (ins : StandIns) (small whole :
     branch_kept s w h x = found (λ o. IfSome o (CommitKeepsName stand name ins)) (same_bytes x) s.branches h.tables.branches_kept
 
     -- a commit that is named
-    pub committed_leads : (kind : Value → Result Commit Fault) → ((v y : Value) → IsWholeValue stand name ins v y → LedCommit (kind v) (kind y)) → (s w : State) → GoAlike s w → (x : CommitIsh) → IsAlikeCommit stand name ins small whole x
+    pub committed_leads : (kind : Value → Result Commit Fault) → ((v y : Value) → IsWholeValue stand name ins v y → LedCommit (kind v) (kind y)) → (s w : State) → GoAlike s w → (x : CommitIsh) → AlikeCommitIsh x
         → LedCommit (committed stand kind s x) (committed name kind w x)
     committed_leads kind leads s w h (Marked n) k = leads_then (IsWholeValue stand name ins) (IsWholeCommit stand name ins) (at s n) (at w n) kind kind (at_leads s w h n) leads
     committed_leads kind leads s w h (Named x) k =
@@ -111,14 +124,14 @@ module _ (stand name : Kind → Bytes → Bytes) (ins : StandIns) (small whole :
         by (Some (Some c)) l = (refl, l)
 
     -- one for a command of a branch
-    pub for_branch : (b : Bytes) (s w : State) → GoAlike s w → (x : CommitIsh) → IsAlikeCommit stand name ins small whole x → LedCommit (committed_for stand b s x) (committed_for name b w x)
+    pub for_branch : (b : Bytes) (s w : State) → GoAlike s w → (x : CommitIsh) → AlikeCommitIsh x → LedCommit (committed_for stand b s x) (committed_for name b w x)
     for_branch b s w h x k =
         elim (names_itself b x) as (λ t. LedCommit (cond t (Err fault.FromItself) (committed stand commit_in s x)) (cond t (Err fault.FromItself) (committed name commit_in w x))) [
           | true ↦ tt
           | false ↦ committed_leads commit_in (commit_leads stand name ins) s w h x k
         ]
 
-    pub all_lead : (b : Bytes) (s w : State) → GoAlike s w → (xs : List CommitIsh) → AllByRecursion (IsAlikeCommit stand name ins small whole) xs → Leads AreWholeCommits (all_committed stand b s xs) (all_committed name b w xs)
+    pub all_lead : (b : Bytes) (s w : State) → GoAlike s w → (xs : List CommitIsh) → AllByRecursion (AlikeCommitIsh) xs → Leads AreWholeCommits (all_committed stand b s xs) (all_committed name b w xs)
     all_lead b s w h [] k = (refl, tt)
     all_lead b s w h (x ∷ xs) k =
         leads_then (IsWholeCommit stand name ins) AreWholeCommits (committed_for stand b s x) (committed_for name b w x)
@@ -127,7 +140,7 @@ module _ (stand name : Kind → Bytes → Bytes) (ins : StandIns) (small whole :
         (λ cs ds m. ((λ i. l.0 i ∷ m.0 i), (l.1, m.1))))
 
     -- the first parent of a commit
-    pub first_leads : (s w : State) → GoAlike s w → (c : CommitParts) → IfSome c.parent (IsAlikeCommit stand name ins small whole) → Leads IsWholeIf (first_parent stand s c) (first_parent name w c)
+    pub first_leads : (s w : State) → GoAlike s w → (c : CommitParts) → IfSome c.parent (AlikeCommitIsh) → Leads IsWholeIf (first_parent stand s c) (first_parent name w c)
     first_leads s w h c k = by c.parent k
       where
         own : (o : Option (Option Commit)) → IfSome o (λ p. IfSome p (CommitKeepsName stand name ins)) → IsWholeIf (own_commit o) (own_commit (option_map (option_map (whole_commit ins)) o))
@@ -135,7 +148,7 @@ module _ (stand name : Kind → Bytes → Bytes) (ins : StandIns) (small whole :
         own (Some None) l = (refl, tt)
         own (Some (Some d)) l = (refl, l)
 
-        by : (o : Option CommitIsh) → IfSome o (IsAlikeCommit stand name ins small whole)
+        by : (o : Option CommitIsh) → IfSome o (AlikeCommitIsh)
             → Leads IsWholeIf (elim o as (λ _. Result (Option Commit) Fault) [ None ↦ Ok (own_commit (lookup (same_bytes c.ref) s.branches)) | Some x ↦ committed_for stand c.ref s x >>= λ p. Ok (Some p) ])
             (elim o as (λ _. Result (Option Commit) Fault) [ None ↦ Ok (own_commit (lookup (same_bytes c.ref) w.branches)) | Some x ↦ committed_for name c.ref w x >>= λ p. Ok (Some p) ])
         by None l =

@@ -25,7 +25,7 @@ use Rattle.gx_model.specs.Streams.Commands as command
 use Rattle.gx_model.specs.Streams.Commands.{Asks, Blob, Change, Checkpoint, Clear, Command, CommitIsh, CommitParts, Copy, DataRef, Done, Inline, Mark, Modify, Object, OptionLine, Progress, Remove, Rename, Reset, TagParts}
 use Rattle.gx_model.specs.Replay.{State, added, all_changed, all_committed, at, blob_bytes, changed, commit_alone, committed, committed_for, committed_to, content, first_parent, marked, on_branch, starting_files, step, step_commit, step_reset, step_tag, text_made, with_first_parent}
 use Rattle.gx_model.proofs.Replay.NullGitlinks.{all_pass, copied_leaves, modified_leaves, renamed_leaves}
-use Rattle.gx_stand_ins.specs.Asked.{IsAlikeBase, IsAlikeChange, IsAlikeCommand, IsAlikeCommit, IsAlikeRef}
+use Rattle.gx_stand_ins.specs.Asked.{IsAlikeBase, IsAlikeRef}
 use Rattle.gx_stand_ins.specs.StandIns.{AreNamers, CommitKeepsName, FilesKeepNames, LeafKeepsName, StandIns, ValueKeepsName, whole_commit, whole_content, whole_files, whole_leaf, whole_tag, whole_value}
 use Rattle.gx_stand_ins.specs.StandInLaws.{IsSmall}
 use Rattle.gx_stand_ins.proofs.AddedAlike.{blob_alike, branch_alike, commit_alike, marked_alike, tag_alike}
@@ -33,7 +33,7 @@ use Rattle.gx_stand_ins.proofs.EachFile.{Edited, each_copied, each_modified, eac
 use Rattle.gx_stand_ins.proofs.Leading.{Leads, leads_then}
 use Rattle.gx_stand_ins.proofs.LedNames.{base_leads}
 use Rattle.gx_stand_ins.proofs.LedRevisions.{AreWholeFiles, IsWholeCommit, IsWholeValue, alone_leads, files_lead}
-use Rattle.gx_stand_ins.proofs.LedStates.{AreWholeCommits, GoAlike, IsWholeIf, all_lead, at_leads, commits_lead, committed_leads, first_leads, for_branch, parents_lead}
+use Rattle.gx_stand_ins.proofs.LedStates.{AlikeChange, AlikeCommit, AlikeCommitIsh, AreWholeCommits, GoAlike, IsWholeIf, all_lead, at_leads, commits_lead, committed_leads, first_leads, for_branch, parents_lead}
 
 module _ (stand name : Kind → Bytes → Bytes) (ins : StandIns) (small whole : History) where
   abbrev Alike : State → State → Type 0
@@ -91,7 +91,7 @@ module _ (stand name : Kind → Bytes → Bytes) (ins : StandIns) (small whole :
     mark_given : (m : Mode) → NamesBlob m → (s w : State) → Alike s w → (n : ℕ) → Leads (AreGiven m) (at s n >>= λ v. blob_bytes v >>= given_bytes s) (at w n >>= λ v. blob_bytes v >>= given_bytes w)
     mark_given m plain s w h n = blob_given m plain s w h (at s n) (at w n) (at_leads stand name ins small whole namers start s w h n)
 
-    content_led : (m : Mode) (d : DataRef) (p : Path) (s w : State) → Alike s w → IsAlikeChange stand name ins small whole (Modify m d p) → Leads (AreGiven m) (content stand s m d) (content name w m d)
+    content_led : (m : Mode) (d : DataRef) (p : Path) (s w : State) → Alike s w → AlikeChange stand name ins small whole (Modify m d p) → Leads (AreGiven m) (content stand s m d) (content name w m d)
     content_led Gitlink (Object x) p s w h k = (h, refl, refl)
     content_led Gitlink (Mark n) p s w h k = absurd k
     content_led Gitlink (Inline x) p s w h k = (blob_alike stand name ins small whole namers start x s w h k, refl, refl)
@@ -109,7 +109,7 @@ module _ (stand name : Kind → Bytes → Bytes) (ins : StandIns) (small whole :
     content_led Dir (Inline x) p s w h k = (blob_alike stand name ins small whole namers start x s w h k, sym k.same, k.named ∙ ap (name kind.Blob) (sym k.same))
 
     -- one change of the files of a commit
-    same_changed : (s w : State) (f : FileMap Bytes) (c : Change) → Alike s w → FilesKeepNames stand name ins f → IsAlikeChange stand name ins small whole c → Leads AreChanged (changed stand s f c) (changed name w (whole_files ins f) c)
+    same_changed : (s w : State) (f : FileMap Bytes) (c : Change) → Alike s w → FilesKeepNames stand name ins f → AlikeChange stand name ins small whole c → Leads AreChanged (changed stand s f c) (changed name w (whole_files ins f) c)
     same_changed s w f (Modify m d p) h k l =
         leads_then (AreGiven m) AreChanged (content stand s m d) (content name w m d) (λ r. modified f p (m, r.1) >>= with_files r.0) (λ r. modified (whole_files ins f) p (m, r.1) >>= with_files r.0)
         (content_led m d p s w h l)
@@ -125,7 +125,7 @@ module _ (stand name : Kind → Bytes → Bytes) (ins : StandIns) (small whole :
     same_changed s w f Clear h k l = (h, (refl, tt))
 
     -- changes of files in order
-    pub all_changed_led : (s w : State) (f g : FileMap Bytes) (cs : List Change) → Alike s w → AreWholeFiles stand name ins f g → AllByRecursion (IsAlikeChange stand name ins small whole) cs
+    pub all_changed_led : (s w : State) (f g : FileMap Bytes) (cs : List Change) → Alike s w → AreWholeFiles stand name ins f g → AllByRecursion (AlikeChange stand name ins small whole) cs
         → Leads AreChanged (all_changed stand s f cs) (all_changed name w g cs)
     all_changed_led s w f g [] h k l = (h, k)
     all_changed_led s w f g (c ∷ cs) h k l =
@@ -136,7 +136,7 @@ module _ (stand name : Kind → Bytes → Bytes) (ins : StandIns) (small whole :
     -- ---- commands
 
     -- a commit command
-    pub commit_led : IsNamer name → (s w : State) (c : CommitParts) → Alike s w → IsAlikeCommand stand name ins small whole c → Leads Alike (step_commit stand s c) (step_commit name w c)
+    pub commit_led : IsNamer name → (s w : State) (c : CommitParts) → Alike s w → AlikeCommit stand name ins small whole c → Leads Alike (step_commit stand s c) (step_commit name w c)
     commit_led namer s w c h k =
         leads_then (IsWholeIf stand name ins small whole) Alike (first_parent stand s c) (first_parent name w c) _ _ (first_leads stand name ins small whole namers start s w h c k.parent)
         (λ o p first. leads_then (AreWholeCommits stand name ins small whole) Alike (all_committed stand c.ref s c.merges) (all_committed name c.ref w c.merges) _ _
@@ -148,7 +148,7 @@ module _ (stand name : Kind → Bytes → Bytes) (ins : StandIns) (small whole :
         commit_alike stand name ins small whole namers start namer c r.1 q.1 (commits_of (with_first_parent o cs)) (commits_of (with_first_parent p ds)) r.0 q.0 both.0 both.1.0 both.1.1 parents.0 parents.1 k.text k.ref)))
 
     -- a tag command
-    pub tag_led : (s w : State) (t : TagParts) → Alike s w → IsAlikeCommit stand name ins small whole t.target → Leads Alike (step_tag stand s t) (step_tag name w t)
+    pub tag_led : (s w : State) (t : TagParts) → Alike s w → AlikeCommitIsh stand name ins small whole t.target → Leads Alike (step_tag stand s t) (step_tag name w t)
     tag_led s w t h k =
         leads_then (IsWholeCommit stand name ins) Alike (committed stand commit_alone s t.target) (committed name commit_alone w t.target) (tagged s) (tagged w)
         (committed_leads stand name ins small whole namers start commit_alone (alone_leads stand name ins) s w h t.target k)
@@ -162,7 +162,7 @@ module _ (stand name : Kind → Bytes → Bytes) (ins : StandIns) (small whole :
             Ok (record (marked t.mark (tag_value (of c)) (added (tag_value (of c)) u)) { tags = put byte_cmp (tag_ref t.name) (of c) (marked t.mark (tag_value (of c)) (added (tag_value (of c)) u)).tags })
 
     -- a reset command
-    pub reset_led : (s w : State) (b : Bytes) (o : Option CommitIsh) → Alike s w → IsAlikeRef stand name ins small whole b → IfSome o (IsAlikeCommit stand name ins small whole) → Leads Alike (step_reset stand s b o) (step_reset name w b o)
+    pub reset_led : (s w : State) (b : Bytes) (o : Option CommitIsh) → Alike s w → IsAlikeRef stand name ins small whole b → IfSome o (AlikeCommitIsh stand name ins small whole) → Leads Alike (step_reset stand s b o) (step_reset name w b o)
     reset_led s w b None h k l = branch_alike stand name ins small whole b None s w h k tt
     reset_led s w b (Some x) h k l =
         leads_then (IsWholeCommit stand name ins) Alike (committed_for stand b s x) (committed_for name b w x) (λ c. Ok (on_branch b (Some c) s)) (λ c. Ok (on_branch b (Some c) w)) (for_branch stand name ins small whole namers start b s w h x l)

@@ -1,5 +1,5 @@
 -- What both replays add, mark and put on branches.
-use Rattle.std.proofs.Common.{◌≡◌, ℕ, Bool, true, false, cond, List, [], ◌∷◌, ◌++◌, map, Option, None, Some, refl, sym, ap, subst, ◌∙◌}
+use Rattle.std.proofs.Common.{◌≡◌, ℕ, List, [], ◌∷◌, Option, None, Some, sym, ap, subst, ◌∙◌}
 use Rattle.std.specs.Prelude.{IfSome}
 use Rattle.std.specs.List.{AllByRecursion}
 use Rattle.std.specs.Option.{option_map}
@@ -9,9 +9,8 @@ use Rattle.std.specs.declared.cmp.Ordering.TheVariants.{Less, Equal, Greater}
 use Rattle.gx_model.specs.declared.objects.Kind.{Kind}
 use Rattle.gx_model.specs.Objects.{IsNamer}
 use Rattle.gx_model.specs.Texts.{Bytes, byte_cmp}
-use Rattle.gx_model.specs.Texts.RefNames.{tag_ref}
 use Rattle.gx_model.specs.Histories.Files.{FileMap}
-use Rattle.gx_model.specs.Histories.Values.{Commit, CommitText, Commits, Tag, Value, blob_value, commit, commit_value, tag_value}
+use Rattle.gx_model.specs.Histories.Values.{Commit, Commits, Tag, Value, blob_value, commit, commit_value, tag_value}
 use Rattle.gx_model.specs.Histories.{History, with_value}
 use Rattle.gx_model.specs.Streams.Commands.{CommitParts}
 use Rattle.gx_model.specs.Replay.{State, added, committed_to, marked, on_branch, text_made}
@@ -20,7 +19,7 @@ use Rattle.gx_stand_ins.specs.StandIns.{AreNamers, AreOwnBytes, AreOwnTexts, Com
 use Rattle.gx_stand_ins.specs.StandInLaws.{IsSmall}
 use Rattle.gx_stand_ins.proofs.EachValue.{each, each_put}
 use Rattle.gx_stand_ins.proofs.GrownTogether.{AreGrown, blob_grown, commit_grown, made, tag_grown}
-use Rattle.gx_stand_ins.proofs.LedStates.{AreTables, GoAlike}
+use Rattle.gx_stand_ins.proofs.LedStates.{GoAlike}
 
 -- ---- entries put
 
@@ -151,7 +150,7 @@ module _ (stand name : Kind → Bytes → Bytes) (ins : StandIns) (small whole :
         let v : Commit = commit f ps (text_made c) in
         let same : whole_commit ins v ≡ commit g qs (text_made c) = new.whole ∙ sym (λ i. commit (files i) (parents i) (text_made c)) in
         let values = with_values s w (with_value s.history.values (commit_value v)) (with_value w.history.values (commit_value (whole_commit ins v))) h
-            (commit_grown stand name ins namers small.values whole.values start.held s.history.values w.history.values h.grown f ps (text_made c) new.may f_kept new.whole) in
+        (commit_grown stand name ins namers small.values whole.values start.held s.history.values w.history.values h.grown f ps (text_made c) new.may f_kept new.whole) in
         subst (λ u. Alike (committed_to c v s) (committed_to c u w)) same
         (branch_alike c.ref (Some v) (marked c.mark (commit_value v) (added (commit_value v) s)) (marked c.mark (commit_value (whole_commit ins v)) (added (commit_value (whole_commit ins v)) w))
         (marked_alike c.mark (commit_value v) (added (commit_value v) s) (added (commit_value (whole_commit ins v)) w) values new.may.0) alike new.may.0)
@@ -162,6 +161,6 @@ module _ (stand name : Kind → Bytes → Bytes) (ins : StandIns) (small whole :
         (record (marked m (tag_value (whole_tag ins t)) (added (tag_value (whole_tag ins t)) w)) { tags = put byte_cmp n (whole_tag ins t) (marked m (tag_value (whole_tag ins t)) (added (tag_value (whole_tag ins t)) w)).tags })
     tag_alike n m t s w h k =
         let values = with_values s w (with_value s.history.values (tag_value t)) (with_value w.history.values (tag_value (whole_tag ins t))) h
-            (tag_grown stand name ins namers small.values whole.values start.held s.history.values w.history.values h.grown t k) in
+        (tag_grown stand name ins namers small.values whole.values start.held s.history.values w.history.values h.grown t k) in
         with_tag n t (marked m (tag_value t) (added (tag_value t) s)) (marked m (tag_value (whole_tag ins t)) (added (tag_value (whole_tag ins t)) w))
         (marked_alike m (tag_value t) (added (tag_value t) s) (added (tag_value (whole_tag ins t)) w) values k) k

@@ -1,5 +1,5 @@
 -- The trees of files whose contents are each changed by a function.
-use Rattle.std.proofs.Common.{◌≡◌, ℕ, zero, suc, Bool, true, false, cond, List, [], ◌∷◌, ◌++◌, map, length, drop, Option, None, Some, refl, sym, ap, ◌∙◌}
+use Rattle.std.proofs.Common.{◌≡◌, ℕ, zero, suc, cond, List, [], ◌∷◌, ◌++◌, map, length, drop, Option, None, Some, refl, sym, ap, ◌∙◌}
 use Rattle.std.specs.Prelude.{is_none, max}
 use Rattle.std.specs.List.{filter, flat_map}
 use Rattle.std.specs.Option.{option_map}
@@ -51,7 +51,8 @@ module _ (g : Leaf Bytes → Leaf Bytes) where
   subs_of f [] = refl
   subs_of f (c ∷ cs) = λ i. each_sub_map g f (c ∷ []) i ∷ subs_of f cs i
 
-  each_subs : (f : FileMap Bytes) → sub_maps (Files f) ≡ map Files (sub_maps f)
+  -- the sub-maps at first components
+  pub each_subs : (f : FileMap Bytes) → sub_maps (Files f) ≡ map Files (sub_maps f)
   each_subs f =
       ap (λ cs. map (λ c. sub_map (Files f) (c ∷ [])) (directories (Files f) cs)) (each_firsts g f)
       ∙ ap (map (λ c. sub_map (Files f) (c ∷ []))) (same_directories f (first_components f))

@@ -1,6 +1,6 @@
 -- Values that both histories add: where the small one adds a value, the whole one has, or adds, what it stands for.
-use Rattle.std.proofs.Common.{◌≡◌, ℕ, zero, suc, Bool, true, false, cond, List, [], ◌∷◌, ◌++◌, map, length, drop, append_assoc, Option, None, Some, refl, sym, ap, subst, ◌∙◌, inl, inr}
-use Rattle.std.specs.Prelude.{IsTrue, T, is_none, ◌⊎◌}
+use Rattle.std.proofs.Common.{◌≡◌, ℕ, zero, suc, true, false, cond, List, [], ◌∷◌, ◌++◌, map, append_assoc, None, Some, refl, sym, ap, subst, ◌∙◌, inl, inr}
+use Rattle.std.specs.Prelude.{IsTrue, T, is_none}
 use Rattle.std.specs.Bool.{passes}
 use Rattle.std.specs.List.{AllByRecursion, filter, flat_map, fold, list_all}
 use Rattle.std.proofs.lemmas.List.{map-append}
@@ -12,7 +12,7 @@ use Rattle.gx_model.specs.Objects.{IsNamer, commit_text, is_name, tag_text}
 use Rattle.gx_model.specs.Histories.Files.{FileMap, depth, file_at, first_components, sub_map}
 use Rattle.gx_model.specs.Histories.Values.{Commit, CommitText, Commits, Tag, Value, blob_value, commit, commit_value, files_of, more, none, sub_maps, tag_value, tree_value}
 use Rattle.gx_model.specs.Histories.{IsIn, is_in, record_of, with_one, with_tree, with_value}
-use Rattle.gx_model.specs.Records.{commit_body, kind_of, name_of, names_of, tag_body, tree_name}
+use Rattle.gx_model.specs.Records.{commit_body, names_of, tree_name}
 use Rattle.gx_model.specs.Records.Growth.{all_trees, all_trees_to}
 use Rattle.gx_model.proofs.Texts.PathTests.{both, is_true}
 use Rattle.gx_model.proofs.Histories.AddedValues.{all_join, in_left, in_right, in_some, is_in_is}
@@ -21,7 +21,7 @@ use Rattle.gx_model.proofs.Records.GrownTrees.{trees_fold}
 use Rattle.gx_model.proofs.ObjectTexts.TreePaths.{name_is_name}
 use Rattle.gx_model.proofs.Export.KeptCommits.{all_in}
 use Rattle.gx_model.proofs.Replay.NullGitlinks.{all_join as join_all}
-use Rattle.gx_stand_ins.specs.StandIns.{AreNamers, AreOwnBytes, AreOwnTexts, CommitKeepsName, CommitsKeepNames, FilesKeepNames, StandIns, ValueKeepsName, whole_commit, whole_commits, whole_files, whole_leaf, whole_tag, whole_value, with_elders}
+use Rattle.gx_stand_ins.specs.StandIns.{AreNamers, AreOwnBytes, AreOwnTexts, CommitKeepsName, CommitsKeepNames, FilesKeepNames, StandIns, ValueKeepsName, whole_commit, whole_commits, whole_files, whole_leaf, whole_tag, whole_value}
 use Rattle.gx_stand_ins.proofs.EachTree.{each_trees}
 use Rattle.gx_stand_ins.proofs.LedRevisions.{sub_map_keeps}
 use Rattle.gx_stand_ins.proofs.WholeNames.{parents_alike, tree_alike, tree_named_alike, value_alike}
@@ -87,7 +87,7 @@ module _ (stand name : Kind → Bytes → Bytes) (ins : StandIns) where
     one_grown now after h v k =
         elim (is_in now v) as (λ b. is_in now v ≡ b → AreGrown small whole (cond b now (now ++ v ∷ [])) (with_one after (whole_value ins v))) [
           | true ↦ λ e. let there = held_one after (whole_value ins v) (is_is_in after (whole_value ins v) (has_each now after h v (is_in_is now v (passes _ e)))) in
-          record { new = h.new; front = h.front; grown = there ∙ h.grown; same = h.same; kept = h.kept }
+              record { new = h.new; front = h.front; grown = there ∙ h.grown; same = h.same; kept = h.kept }
           | false ↦ λ e. record {
             new = h.new ++ v ∷ [];
             front = ap (λ vs. vs ++ v ∷ []) h.front ∙ append_assoc small h.new (v ∷ []);
@@ -124,14 +124,16 @@ module _ (stand name : Kind → Bytes → Bytes) (ins : StandIns) where
   whole_trees (f ∷ fs) = ap (λ vs. tree_value (whole_files ins f) ∷ vs) (whole_trees fs)
 
   module _ (namers : AreNamers stand name) where
-    tree_may : (f : FileMap Bytes) → FilesKeepNames stand name ins f → MayAdd (tree_value f)
+    -- a tree that keeps its names
+    pub tree_may : (f : FileMap Bytes) → FilesKeepNames stand name ins f → MayAdd (tree_value f)
     tree_may f h = (h, λ i. record { name = tree_named_alike stand name namers ins f h i; kind = kind.Tree; body = tree_alike stand name namers ins f h i })
 
     trees_may : (fs : List (FileMap Bytes)) → AllByRecursion (FilesKeepNames stand name ins) fs → AllByRecursion MayAdd (map tree_value fs)
     trees_may [] h = tt
     trees_may (f ∷ fs) h = (tree_may f h.0, trees_may fs h.1)
 
-    tag_may : (t : Tag) → CommitKeepsName stand name ins t.target → MayAdd (tag_value t)
+    -- a tag on such a commit
+    pub tag_may : (t : Tag) → CommitKeepsName stand name ins t.target → MayAdd (tag_value t)
     tag_may t h =
         let target = value_alike stand name namers ins (commit_value t.target) h in
         (h, λ i. record { name = value_alike stand name namers ins (tag_value t) h i; kind = kind.Tag; body = tag_text (record { object = target i; name = t.name; tagger = t.tagger; message = t.message }) })
@@ -168,7 +170,8 @@ module _ (stand name : Kind → Bytes → Bytes) (ins : StandIns) where
     -- ---- commits that are made
 
     module _ (namer : IsNamer name) where
-      made_of : (f : FileMap Bytes) (ps : Commits) (t : CommitText) → ins.elders t ≡ None → whole_commit ins (commit f ps t) ≡ commit (whole_files ins f) (whole_commits ins ps) t
+      -- what a commit with texts of its own stands for
+      pub made_of : (f : FileMap Bytes) (ps : Commits) (t : CommitText) → ins.elders t ≡ None → whole_commit ins (commit f ps t) ≡ commit (whole_files ins f) (whole_commits ins ps) t
       made_of f none t e = ap (λ o. elim o as (λ _. Commit) [ None ↦ commit (whole_files ins f) none t | Some elders ↦ commit (whole_files ins f) elders.0 elders.1 ]) e
       made_of f (more c cs) t e = refl
 

@@ -1,5 +1,5 @@
 -- What follows from an answer: where the first of two is an answer, the second is, and both are related.
-use Rattle.std.proofs.Common.{Bool, true, false, cond, List, [], ◌∷◌, Result, Ok, Err, ◌≡◌, subst}
+use Rattle.std.proofs.Common.{Bool, true, false, cond, Result, Ok, Err, ◌≡◌, subst}
 use Rattle.std.specs.Prelude.{⊤}
 use Rattle.gx_model.specs.declared.faults.Fault.{Fault}
 use Rattle.gx_model.specs.Faults.{◌>>=◌}

@@ -1,12 +1,11 @@
 -- What digits and refs give in the small history, they give in the whole one.
 use Rattle.std.proofs.Common.{◌≡◌, Bool, true, false, cond, List, [], ◌∷◌, ◌++◌, map, Option, None, Some, Result, Ok, Err, refl, sym, ap, subst, ◌∙◌}
-use Rattle.std.specs.Prelude.{IfSome, T, ◌&&◌, ◌||◌, length, nat_eq, nat_le, nat_lt, ⊤}
+use Rattle.std.specs.Prelude.{IfSome, ◌&&◌, ◌||◌, length, nat_eq, nat_le, nat_lt}
 use Rattle.std.specs.Bool.{passes}
 use Rattle.std.specs.List.{AllByRecursion, filter, fold}
 use Rattle.std.specs.Map.{lookup}
 use Rattle.std.specs.Option.{option_map, option_or}
-use Rattle.std.specs.FinMap.Entries.{by_order, find, find-put, put}
-use Rattle.std.specs.declared.cmp.Ordering.{Ordering}
+use Rattle.std.specs.FinMap.Entries.{by_order, find-put, put}
 use Rattle.std.specs.declared.cmp.Ordering.TheVariants.{Less, Equal, Greater}
 use Rattle.std.proofs.lemmas.List.Elements.{filter-append}
 use Rattle.std.proofs.lemmas.Map.Text.{is_eq-slice_cmp}
@@ -23,12 +22,16 @@ use Rattle.gx_model.proofs.Histories.SameValues.{value_is}
 use Rattle.gx_model.proofs.Replay.NullGitlinks.{all_pass, found}
 use Rattle.gx_model.proofs.Texts.TextMaps.{lookup_is, order}
 use Rattle.gx_stand_ins.specs.Asked.{IsAlikeBase, IsAlikeRef}
-use Rattle.gx_stand_ins.specs.StandIns.{AreNamers, CommitKeepsName, StandIns, ValueKeepsName, whole_commit, whole_target, whole_value}
+use Rattle.gx_stand_ins.specs.StandIns.{AreNamers, StandIns, ValueKeepsName, whole_target, whole_value}
 use Rattle.gx_stand_ins.specs.StandInLaws.{whole_refs, with_refs_set}
 use Rattle.gx_stand_ins.proofs.GrownTogether.{AreGrown}
 use Rattle.gx_stand_ins.proofs.Leading.{Leads}
 use Rattle.gx_stand_ins.proofs.LedRevisions.{IsWholeValue}
 use Rattle.gx_stand_ins.proofs.WholeNames.{value_alike}
+
+-- what is found where another is put
+pub found_put : {Y : Type 0} (n : Bytes) (y : Y) (ys : List (Bytes × Y)) (q : Bytes) → lookup (same_bytes q) (put byte_cmp n y ys) ≡ cond (same_bytes q n) (Some y) (lookup (same_bytes q) ys)
+found_put n y ys q = lookup_is q (put byte_cmp n y ys) ∙ find-put byte_cmp order q n y ys ∙ (λ i. cond (is_eq-slice_cmp q n i) (Some y) (sym (lookup_is q ys) i))
 
 -- ---- values that pass a test
 
@@ -154,9 +157,6 @@ module _ (stand name : Kind → Bytes → Bytes) (ins : StandIns) where
         }
 
   -- ---- refs
-
-  found_put : {Y : Type 0} (n : Bytes) (y : Y) (ys : List (Bytes × Y)) (q : Bytes) → lookup (same_bytes q) (put byte_cmp n y ys) ≡ cond (same_bytes q n) (Some y) (lookup (same_bytes q) ys)
-  found_put n y ys q = lookup_is q (put byte_cmp n y ys) ∙ find-put byte_cmp order q n y ys ∙ (λ i. cond (is_eq-slice_cmp q n i) (Some y) (sym (lookup_is q ys) i))
 
   abbrev Refs : Type 0
   Refs = List (Bytes × Target)

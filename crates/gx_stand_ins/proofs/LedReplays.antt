@@ -1,5 +1,5 @@
 -- Replays that the small history accepts, the whole one accepts.
-use Rattle.std.proofs.Common.{◌≡◌, ℕ, ◌+◌, suc, Bool, true, false, cond, List, [], ◌∷◌, ◌++◌, map, length, append-nil, Option, None, Some, Result, Ok, Err, refl, sym, ap, subst, ◌∙◌}
+use Rattle.std.proofs.Common.{◌≡◌, ℕ, ◌+◌, suc, Bool, true, false, cond, List, [], ◌∷◌, ◌++◌, length, append-nil, Option, None, Some, Result, Ok, Err, refl, sym, ap, subst, ◌∙◌}
 use Rattle.std.specs.Prelude.{◌-◌, codes, ⊤}
 use Rattle.std.specs.List.{AllByRecursion}
 use Rattle.gx_model.specs.declared.faults.Fault.{Fault}
@@ -15,13 +15,12 @@ use Rattle.gx_model.specs.Streams.Commands as command
 use Rattle.gx_model.specs.Streams.Commands.{Asks, Blob, Checkpoint, Command, Done, OptionLine, Progress, Reset}
 use Rattle.gx_model.specs.Replay.{Outcome, State, added, begun, ended, final, finished, is_fast_forward, marked, overwritten, refused, replayed, report, step}
 use Rattle.gx_stand_ins.specs.Asked.{IsAlike}
-use Rattle.gx_stand_ins.specs.StandIns.{AreNamers, AreOwnBytes, StandIns, whole_value}
+use Rattle.gx_stand_ins.specs.StandIns.{AreNamers, AreOwnBytes, StandIns}
 use Rattle.gx_stand_ins.specs.StandInLaws.{GrewAlike, IsSmall, StandInsTell, whole_refs, whole_report}
 use Rattle.gx_stand_ins.proofs.AddedAlike.{blob_alike, marked_alike}
-use Rattle.gx_stand_ins.proofs.GrownTogether.{AreGrown}
 use Rattle.gx_stand_ins.proofs.Leading.{Leads}
 use Rattle.gx_stand_ins.proofs.LedCheckpoints.{checkpoint_led, final_alike, forward_alike, published_alike}
-use Rattle.gx_stand_ins.proofs.LedStates.{AreTables, GoAlike}
+use Rattle.gx_stand_ins.proofs.LedStates.{GoAlike}
 use Rattle.gx_stand_ins.proofs.LedSteps.{commit_led, reset_led, tag_led}
 
 length_each : (ins : StandIns) (refs : List (Bytes × Target)) → length (whole_refs ins refs) ≡ length refs

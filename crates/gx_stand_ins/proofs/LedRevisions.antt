@@ -1,8 +1,7 @@
 -- What suffixes and paths of revisions give of a value, they give of the one for which it stands.
-use Rattle.std.proofs.Common.{◌≡◌, ℕ, zero, suc, List, [], ◌∷◌, map, length, drop, Option, None, Some, Result, Ok, Err, refl, sym, ap, subst, ◌∙◌}
+use Rattle.std.proofs.Common.{◌≡◌, ℕ, zero, suc, List, [], ◌∷◌, map, length, drop, Option, None, Some, Result, Ok, refl, sym, ap, subst, ◌∙◌}
 use Rattle.std.specs.Prelude.{IfSome, ⊤}
-use Rattle.std.specs.List.{AllByRecursion, slice_get}
-use Rattle.std.specs.Map.{lookup}
+use Rattle.std.specs.List.{slice_get}
 use Rattle.std.specs.Option.{ok_or, option_map}
 use Rattle.gx_model.specs.declared.faults.Fault.{Fault}
 use Rattle.gx_model.specs.declared.faults.Fault.TheVariants as fault
@@ -13,12 +12,12 @@ use Rattle.gx_model.specs.Texts.{Bytes}
 use Rattle.gx_model.specs.Faults.{◌>>=◌}
 use Rattle.gx_model.specs.Texts.Paths.{Path, same_path}
 use Rattle.gx_model.specs.Histories.Files.{FileMap, Leaf, file_at, sub_map, under}
-use Rattle.gx_model.specs.Histories.Values.{Commit, CommitText, Commits, Value, blob_value, commit, commit_value, files_of, list_of, more, none, parents_of, tag_value, tree_value}
+use Rattle.gx_model.specs.Histories.Values.{Commit, CommitText, Commits, Value, blob_value, commit, commit_value, files_of, list_of, more, none, tag_value, tree_value}
 use Rattle.gx_model.specs.Revisions.{Suffix, ancestor, as_blob, as_commit, as_tag, as_tree, itself, parent, peeled}
-use Rattle.gx_model.specs.Revisions.Denotation.{Shown, all_suffixed, at_path, commit_in, files_in, nth_ancestor, nth_parent, object, of_leaf, of_sub_map, only_blob, only_commit, only_tag, peel, shown_at, shown_value, submodule, suffixed}
+use Rattle.gx_model.specs.Revisions.Denotation.{Shown, all_suffixed, at_path, commit_in, files_in, nth_ancestor, nth_parent, object, of_leaf, of_sub_map, shown_at, shown_value, submodule, suffixed}
 use Rattle.gx_model.specs.Replay.{commit_alone}
 use Rattle.gx_model.proofs.Replay.NullGitlinks.{all_pass, found}
-use Rattle.gx_stand_ins.specs.StandIns.{CommitKeepsName, CommitsKeepNames, FilesKeepNames, LeafKeepsName, StandIns, ValueKeepsName, whole_commit, whole_commits, whole_content, whole_files, whole_leaf, whole_tag, whole_value, with_elders}
+use Rattle.gx_stand_ins.specs.StandIns.{CommitKeepsName, CommitsKeepNames, FilesKeepNames, LeafKeepsName, StandIns, ValueKeepsName, whole_commit, whole_commits, whole_content, whole_files, whole_leaf, whole_value}
 use Rattle.gx_stand_ins.proofs.Leading.{Leads, leads_then}
 use Rattle.gx_stand_ins.proofs.EachFile.{each_at}
 use Rattle.gx_stand_ins.proofs.EachTree.{each_sub_map}

@@ -1,6 +1,6 @@
 -- States of two replays that go on alike, and the commits that names in a stream give in both.
-use Rattle.std.proofs.Common.{◌≡◌, ℕ, Bool, true, false, cond, List, [], ◌∷◌, map, length, Option, None, Some, Result, Ok, Err, refl, sym, ap, subst, ◌∙◌}
-use Rattle.std.specs.Prelude.{IfOk, IfSome, nat_eq, ⊤}
+use Rattle.std.proofs.Common.{◌≡◌, ℕ, true, false, cond, List, [], ◌∷◌, map, length, Option, None, Some, Result, Ok, Err, refl, sym, ap, subst, ◌∙◌}
+use Rattle.std.specs.Prelude.{IfOk, IfSome, nat_eq}
 use Rattle.std.specs.List.{AllByRecursion}
 use Rattle.std.specs.Map.{lookup}
 use Rattle.std.specs.Option.{ok_or, option_map}
@@ -9,15 +9,15 @@ use Rattle.gx_model.specs.declared.faults.Fault.TheVariants as fault
 use Rattle.gx_model.specs.declared.objects.Kind.{Kind}
 use Rattle.gx_model.specs.Texts.{Bytes, same_bytes}
 use Rattle.gx_model.specs.Faults.{◌>>=◌}
-use Rattle.gx_model.specs.Histories.Values.{Commit, Commits, Tag, Value, commit, commits_of, files_of, more, none}
-use Rattle.gx_model.specs.Histories.{History, IsIn, Target, value_at}
+use Rattle.gx_model.specs.Histories.Values.{Commit, Value, commits_of, more}
+use Rattle.gx_model.specs.Histories.{History}
 use Rattle.gx_model.specs.Revisions.{Revision, revision_of}
 use Rattle.gx_model.specs.Revisions.Denotation.{all_suffixed, base_value, commit_in, denoted, shown_at, shown_value, value_denoted}
 use Rattle.gx_model.specs.Streams.Commands.{Change, CommitIsh, CommitParts, Marked, Named}
 use Rattle.gx_model.specs.Replay.{State, all_committed, at, committed, committed_for, first_parent, names_itself, or_branch, own_commit, revision_value, with_first_parent}
 use Rattle.gx_model.proofs.Replay.NullGitlinks.{found}
 use Rattle.gx_stand_ins.specs.Asked.{IsAlikeBase, IsAlikeRef, OfChange, OfCommit, OfCommitIsh, OfRevision}
-use Rattle.gx_stand_ins.specs.StandIns.{AreNamers, AreOwnBytes, AreOwnTexts, CommitKeepsName, CommitsKeepNames, StandIns, ValueKeepsName, whole_commit, whole_commits, whole_tag, whole_target, whole_value}
+use Rattle.gx_stand_ins.specs.StandIns.{AreNamers, AreOwnBytes, AreOwnTexts, CommitKeepsName, CommitsKeepNames, StandIns, ValueKeepsName, whole_commit, whole_commits, whole_tag, whole_value}
 use Rattle.gx_stand_ins.specs.StandInLaws.{IsSmall, whole_refs}
 use Rattle.gx_stand_ins.proofs.EachValue.{each, each_lookup}
 use Rattle.gx_stand_ins.proofs.GrownTogether.{AreGrown}

@@ -1,11 +1,10 @@
 -- What one command makes of two states that go on alike.
-use Rattle.std.proofs.Common.{◌≡◌, ℕ, ◌+◌, Bool, true, false, cond, List, [], ◌∷◌, ◌++◌, map, Option, None, Some, Result, Ok, Err, refl, sym, ap, subst, ◌∙◌}
-use Rattle.std.specs.Prelude.{IfOk, IfSome, codes, ⊤}
+use Rattle.std.proofs.Common.{◌≡◌, ℕ, List, [], ◌∷◌, Option, None, Some, Result, Ok, Err, refl, sym, ap, subst, ◌∙◌}
+use Rattle.std.specs.Prelude.{IfOk, IfSome}
 use Rattle.std.specs.List.{AllByRecursion}
 use Rattle.std.specs.Option.{option_map}
 use Rattle.std.specs.FinMap.Entries.{put}
 use Rattle.gx_model.specs.declared.faults.Fault.{Fault}
-use Rattle.gx_model.specs.declared.features.Feature.TheVariants as features
 use Rattle.gx_model.specs.declared.objects.Kind.{Kind}
 use Rattle.gx_model.specs.declared.objects.Kind.TheVariants as kind
 use Rattle.gx_model.specs.declared.objects.Mode.{Mode}
@@ -13,22 +12,20 @@ use Rattle.gx_model.specs.declared.objects.Mode.TheVariants.{File, Exec, Link, G
 use Rattle.gx_model.specs.Faults.{◌>>=◌}
 use Rattle.gx_model.specs.Objects.{IsNamer}
 use Rattle.gx_model.specs.Texts.{Bytes, byte_cmp}
-use Rattle.gx_model.specs.Texts.Digits.{lower}
 use Rattle.gx_model.specs.Texts.Paths.{Path}
 use Rattle.gx_model.specs.Texts.RefNames.{tag_ref}
 use Rattle.gx_model.specs.Histories.Files.{FileMap}
-use Rattle.gx_model.specs.Histories.Edits.{copied, modified, removed, renamed}
-use Rattle.gx_model.specs.Histories.Values.{Commit, Tag, Value, blob_value, commit, commit_value, commits_of, files_of, tag_value, tree_value}
+use Rattle.gx_model.specs.Histories.Edits.{copied, modified, renamed}
+use Rattle.gx_model.specs.Histories.Values.{Commit, Tag, Value, blob_value, commit_value, commits_of, tag_value, tree_value}
 use Rattle.gx_model.specs.Histories.{History}
 use Rattle.gx_model.specs.Revisions.Denotation.{base_value}
-use Rattle.gx_model.specs.Streams.Commands as command
-use Rattle.gx_model.specs.Streams.Commands.{Asks, Blob, Change, Checkpoint, Clear, Command, CommitIsh, CommitParts, Copy, DataRef, Done, Inline, Mark, Modify, Object, OptionLine, Progress, Remove, Rename, Reset, TagParts}
-use Rattle.gx_model.specs.Replay.{State, added, all_changed, all_committed, at, blob_bytes, changed, commit_alone, committed, committed_for, committed_to, content, first_parent, marked, on_branch, starting_files, step, step_commit, step_reset, step_tag, text_made, with_first_parent}
+use Rattle.gx_model.specs.Streams.Commands.{Change, Clear, CommitIsh, CommitParts, Copy, DataRef, Inline, Mark, Modify, Object, Remove, Rename, TagParts}
+use Rattle.gx_model.specs.Replay.{State, added, all_changed, all_committed, at, blob_bytes, changed, commit_alone, committed, committed_for, content, first_parent, marked, on_branch, starting_files, step_commit, step_reset, step_tag, with_first_parent}
 use Rattle.gx_model.proofs.Replay.NullGitlinks.{all_pass, copied_leaves, modified_leaves, renamed_leaves}
 use Rattle.gx_stand_ins.specs.Asked.{IsAlikeBase, IsAlikeRef}
-use Rattle.gx_stand_ins.specs.StandIns.{AreNamers, CommitKeepsName, FilesKeepNames, LeafKeepsName, StandIns, ValueKeepsName, whole_commit, whole_content, whole_files, whole_leaf, whole_tag, whole_value}
+use Rattle.gx_stand_ins.specs.StandIns.{AreNamers, CommitKeepsName, FilesKeepNames, LeafKeepsName, StandIns, ValueKeepsName, whole_commit, whole_content, whole_files, whole_leaf, whole_value}
 use Rattle.gx_stand_ins.specs.StandInLaws.{IsSmall}
-use Rattle.gx_stand_ins.proofs.AddedAlike.{blob_alike, branch_alike, commit_alike, marked_alike, tag_alike}
+use Rattle.gx_stand_ins.proofs.AddedAlike.{blob_alike, branch_alike, commit_alike, tag_alike}
 use Rattle.gx_stand_ins.proofs.EachFile.{Edited, each_copied, each_modified, each_removed, each_renamed}
 use Rattle.gx_stand_ins.proofs.Leading.{Leads, leads_then}
 use Rattle.gx_stand_ins.proofs.LedNames.{base_leads}

@@ -11,3 +11,7 @@ pub mod AddedAlike
 pub mod LedSteps
 pub mod LedCheckpoints
 pub mod LedReplays
+pub mod StoodFor
+pub mod SmallHistories
+pub mod SmallAsked
+pub mod BroughtRecords

@@ -1,15 +1,13 @@
 -- Values that stand for others have their names.
-use Rattle.std.proofs.Common.{◌≡◌, ℕ, zero, suc, List, [], ◌∷◌, map, refl, sym, ap, ◌∙◌}
-use Rattle.std.specs.List.{AllByRecursion}
+use Rattle.std.proofs.Common.{◌≡◌, ℕ, zero, suc, List, [], ◌∷◌, map, refl, ap, ◌∙◌}
 use Rattle.gx_model.specs.declared.objects.Kind.{Kind}
 use Rattle.gx_model.specs.declared.objects.Kind.TheVariants as kind
 use Rattle.gx_model.specs.Texts.{Bytes}
-use Rattle.gx_model.specs.Objects.{Entry, tag_text, tree_text}
+use Rattle.gx_model.specs.Objects.{tag_text, tree_text}
 use Rattle.gx_model.specs.Histories.Files.{FileMap, depth, file_at, first_components, sub_map}
-use Rattle.gx_model.specs.Histories.Values.{Commit, Commits, Tag, Value, blob_value, commit, commit_value, files_of, more, none, parents_of, tag_value, text_of, tree_value}
-use Rattle.gx_model.specs.Histories.{Record, record_of}
-use Rattle.gx_model.specs.Records.{commit_body, entries_to, entry, name_of, named_map, names_of, node, tree_body, tree_entries, tree_name}
-use Rattle.gx_stand_ins.specs.StandIns.{AreNamers, CommitKeepsName, CommitsKeepNames, FilesKeepNames, LeafKeepsName, StandIns, ValueKeepsName, whole_commit, whole_commits, whole_files, whole_value, with_elders}
+use Rattle.gx_model.specs.Histories.Values.{Commit, Commits, Tag, Value, blob_value, commit, commit_value, files_of, more, none, parents_of, tag_value, tree_value}
+use Rattle.gx_model.specs.Records.{commit_body, entries_to, entry, name_of, named_map, names_of, node, tree_body, tree_name}
+use Rattle.gx_stand_ins.specs.StandIns.{AreNamers, CommitKeepsName, CommitsKeepNames, FilesKeepNames, StandIns, ValueKeepsName, whole_commit, whole_commits, whole_files, whole_value}
 
 module _ (stand name : Kind → Bytes → Bytes) (namers : AreNamers stand name) where
   entries_of : (d e : FileMap Bytes → Bytes) → ((f : FileMap Bytes) → d f ≡ e f) → (f : FileMap Bytes) (cs : List Bytes)

@@ -1,3 +1,5 @@
 pub mod StandIns
 pub mod Asked
+pub mod SmallRepositories
 pub mod StandInLaws
+pub mod Rows

@@ -1,6 +1,6 @@
 -- The law of stand-ins: what a small repository takes from a stream, the whole one takes.
 -- Source: git-fast-import(1), "Commands", and gitglossary(7), "object database".
-use Rattle.std.specs.Prelude.{◌≡◌, ◌-◌, ℕ, List, ◌++◌, map, length, Option}
+use Rattle.std.specs.Prelude.{◌≡◌, ◌-◌, Bool, List, ◌++◌, map, length, drop, Option, Some}
 use Rattle.std.specs.FinMap.Entries.{put}
 use Rattle.std.specs.List.{AllByRecursion, fold}
 use Rattle.gx_model.specs.declared.faults.Fault.{Fault}
@@ -8,11 +8,18 @@ use Rattle.gx_model.specs.declared.features.Features.{Features}
 use Rattle.gx_model.specs.declared.objects.Kind.{Kind}
 use Rattle.gx_model.specs.Texts.{Bytes, byte_cmp}
 use Rattle.gx_model.specs.Histories.Values.{Value}
-use Rattle.gx_model.specs.Histories.{History, IsIn, Target, record_of, value_at, with_one}
+use Rattle.gx_model.specs.Histories.{History, IsIn, Record, Records, StandsFor, Target, record_of, value_at, with_one}
 use Rattle.gx_model.specs.Objects.{IsNamer}
-use Rattle.gx_model.specs.Replay.{Report, begun, finished, replayed}
+use Rattle.gx_model.specs.Records.Growth.{put_all}
+use Rattle.gx_model.specs.Records.HistoryOf.{history_of}
+use Rattle.gx_model.specs.Records.Publishing.{with_changes}
+use Rattle.gx_model.specs.Records.Sound.{IsSound}
+use Rattle.gx_model.specs.Replay.{Report, begun, finished, imported_asked, replayed}
 use Rattle.gx_model.specs.Streams.Commands.{Command}
+use Rattle.gx_model.specs.Streams.Grammar.{commands_asked}
+use Rattle.gx_model.specs.Streams.Items.{items_of}
 use Rattle.gx_stand_ins.specs.Asked.{IsAlike}
+use Rattle.gx_stand_ins.specs.SmallRepositories.{AsksAlike, IsSmallOf, stand_name}
 use Rattle.gx_stand_ins.specs.StandIns.{AreNamers, StandIns, ValueKeepsName, whole_target, whole_value}
 
 -- refs with each of these set, a later one after an earlier one
@@ -57,3 +64,18 @@ StandInsTell =
     → (whole_now : History)
     × (replayed name 0 (begun features whole) commands end ≡ finished whole_now progress (whole_report whole whole_now report))
     × GrewAlike stand name ins small whole small_now whole_now
+
+-- For each namer: a small repository of stand-ins, and a text that asks what both tell alike and brings what stands for no other.
+-- Where the small one's import of the text is accepted, and gives these records and refs, the whole one's is accepted, with the same
+-- progress and report. The whole one with the small one's new records put, where no name is another object's, and with the small
+-- one's refs set, stands for what its import gives.
+abbrev pub StandInsBring : (Kind → Bytes → Bytes) → Type 0
+StandInsBring name =
+    (nonce : Bytes) (whole small small_now : Records) → IsSound name whole → IsSound (stand_name nonce name) small → IsSmallOf nonce whole small
+    → (features : Features) (text : Bytes) (fails : Bool) → AllByRecursion (AsksAlike name nonce whole small) (commands_asked features (items_of text fails)).list
+    → (h : History) (progress : Bytes) (report : Report)
+    → imported_asked features (stand_name nonce name) (history_of small) text fails ≡ finished h progress report → StandsFor (stand_name nonce name) small_now h
+    → (k : History)
+    × (imported_asked features name (history_of whole) text fails ≡ finished k progress (whole_report (history_of whole) k report))
+    × ((records : List Record) → put_all whole.records (drop (length small.records) small_now.records) ≡ Some records
+    → StandsFor name (record { records = records; refs = with_changes whole.refs small_now.refs }) k)

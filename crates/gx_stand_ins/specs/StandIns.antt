@@ -1,6 +1,6 @@
 -- What stand-ins stand for: objects of a small repository that have the names of what a whole one holds.
 -- Source: Pro Git, "Git Objects", on names, and git-fast-import(1), "Commands".
-use Rattle.std.specs.Prelude.{◌≡◌, IsTrue, List, map, Option, None, Some, ⊤}
+use Rattle.std.specs.Prelude.{◌≡◌, IsTrue, map, Option, None, Some, ⊤}
 use Rattle.std.specs.List.{AllByRecursion, list_all}
 use Rattle.gx_model.specs.declared.objects.Kind.{Kind}
 use Rattle.gx_model.specs.declared.objects.Kind.TheVariants as kind

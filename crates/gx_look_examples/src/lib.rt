@@ -7,6 +7,7 @@ mod asked;
 mod counted;
 #[cfg(test)]
 mod damaged;
+#[cfg(test)]
 mod endings;
 #[cfg(test)]
 mod looks;

@@ -1,7 +1,7 @@
 //! Questions to growing store files, each of which reads what it needs.
 
 mod changes;
-mod file_at;
+pub(crate) mod file_at;
 
 use crate::fault::RunFault;
 use crate::run::Run;
@@ -50,7 +50,7 @@ fn open_growing<'a>(run: &'a Run<'a>, file: &'a str) -> io::Result<Option<FileAt
     if host.look_at(&opened)?.kind != FileKind::File {
         return Ok(None);
     }
-    let source = FileAt { run, file: opened };
+    let source = FileAt::read_only(run, opened);
     let mut front = [0; 10];
     match source.read_at(0, &mut front) {
         Ok(count) if form_of(&front[..count]) == StoreForm::Growing => Ok(Some(source)),

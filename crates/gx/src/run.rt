@@ -14,6 +14,8 @@ const LARGE: u64 = 100_000_000;
 #[derive(Clone, Copy, PartialEq, Eq)]
 pub(crate) enum Subject {
     Store,
+    /// A store file that may have what was appended to it.
+    Unsettled,
     NextText,
     Folder,
     Input,
@@ -152,7 +154,8 @@ impl<'a> Run<'a> {
         }
     }
 
-    fn failed(&self, subject: Subject, error: io::Error, fault: CliFault) -> RunFault {
+    /// The refusal of what the system couldn't do. Why is kept.
+    pub(crate) fn failed(&self, subject: Subject, error: io::Error, fault: CliFault) -> RunFault {
         self.note(subject, error);
         RunFault::Command(fault)
     }
@@ -243,6 +246,9 @@ impl<'a> Run<'a> {
         let file = self.shown(file, behind);
         let _ = match cause.subject {
             Subject::Store | Subject::NextText => eprintln!(self.rt; "gx: {file}: {error}"),
+            Subject::Unsettled => {
+                eprintln!(self.rt; "gx: {file}: {error}; it may have what is new")
+            }
             Subject::Folder => eprintln!(self.rt; "gx: the folder of {file}: {error}"),
             Subject::Input => eprintln!(self.rt; "gx: standard input: {error}"),
             Subject::Output => eprintln!(self.rt; "gx: standard output: {error}"),

@@ -1,5 +1,7 @@
 //! Store files: the commands that make one, or put a next text in its place.
 
+mod appending;
+mod before;
 pub(crate) mod files;
 pub(crate) mod host;
 mod next_text;
@@ -72,7 +74,7 @@ pub(crate) fn drop_refs(
     let repo = next.read_repo(state)?;
     let source = FromRead::new(Noted::input(run));
     let left = drop_named(run.rt.alloc(), repo, refs, stdin, source)?;
-    next.publish_store(&left)?;
+    next.publish_added(&left)?;
     Ok(())
 }
 
@@ -127,11 +129,14 @@ pub(crate) fn import(
     let repo = next.read_repo(state)?;
     tell_typed_stream(run);
     let (left, answer, nameless) = import_shown(run, repo, features, report);
-    let (changes, bytes) = match left {
-        Some((repo, changes)) => (changes, next.publish_store(&repo)?.size),
-        None => (Vec::new(run.rt.alloc()), 0),
+    let changes = match left {
+        Some((repo, changes)) => {
+            next.publish_added(&repo)?;
+            changes
+        }
+        None => Vec::new(run.rt.alloc()),
     };
-    let form = next.form();
+    let (form, bytes) = (next.form(), next.size());
     drop(next);
     tell_changes(run, &changes);
     tell_import(run, &answer?, report);

@@ -1,5 +1,7 @@
-//! The next text of a store file, which a command writes beside it.
+//! The next text of a store file, which a command writes beside it, or of which it appends to the store file what is new.
 
+use super::appending::{grow_by, settle};
+use super::before::{Before, TextKind};
 use super::host::Host;
 use crate::fault::RunFault;
 use crate::run::{Run, Subject};
@@ -7,9 +9,9 @@ use crate::stores::files::open_text;
 use crate::streams::devices::{Noted, flushed};
 use gx_cli::{CliFault, Repo};
 use gx_object::Sha1Namer;
-use gx_place::Stamp;
+use gx_place::{PlaceFault, Stamp, System};
 use gx_text::IntoWrite;
-use gx_versions::{StoreForm, WriteFault, form_of, send_store};
+use gx_versions::{StoreForm, WriteFault, send_store};
 use std::alloc::Global;
 use std::hash::RandomState;
 use std::io::{BufWriter, Write};
@@ -21,9 +23,13 @@ const BUFFER: usize = 1 << 16;
 /// another one is asked for.
 #[derive(Drop)]
 pub(crate) struct NextText<'a> {
-    run: &'a Run<'a>,
+    host: Host<'a>,
     text: gx_place::NextText<Host<'a>>,
     form: StoreForm,
+    /// What was read.
+    before: Option<Before>,
+    /// So many bytes the store file had when it was last read or put in place.
+    size: u64,
 }
 
 impl<'a> NextText<'a> {
@@ -31,22 +37,14 @@ impl<'a> NextText<'a> {
     pub(crate) fn claim_new(run: &'a Run<'a>, file: &'a str) -> Result<NextText<'a>, RunFault> {
         let host = Host { run, file };
         let claimed = gx_place::NextText::claim_new(run.rt.alloc(), host, file, run.patience());
-        Ok(NextText {
-            run,
-            text: run.placed(claimed)?,
-            form: StoreForm::Plain,
-        })
+        NextText::of_claim(host, claimed)
     }
 
     /// That of a store file that is replaced. One that can't be read is refused before anything is made.
     pub(crate) fn claim_next(run: &'a Run<'a>, file: &'a str) -> Result<NextText<'a>, RunFault> {
         let host = Host { run, file };
         let claimed = gx_place::NextText::claim_next(run.rt.alloc(), host, file, run.patience());
-        Ok(NextText {
-            run,
-            text: run.placed(claimed)?,
-            form: StoreForm::Plain,
-        })
+        NextText::of_claim(host, claimed)
     }
 
     /// That of a store file that another program has read, and whose next text it made.
@@ -57,22 +55,40 @@ impl<'a> NextText<'a> {
     ) -> Result<NextText<'a>, RunFault> {
         let (alloc, host) = (run.rt.alloc(), Host { run, file });
         let claimed = gx_place::NextText::claim_known(alloc, host, file, run.patience(), known);
+        NextText::of_claim(host, claimed)
+    }
+
+    fn of_claim(
+        host: Host<'a>,
+        claimed: Result<gx_place::NextText<Host<'a>>, PlaceFault>,
+    ) -> Result<NextText<'a>, RunFault> {
         Ok(NextText {
-            run,
-            text: run.placed(claimed)?,
+            host,
+            text: host.run.placed(claimed)?,
             form: StoreForm::Plain,
+            before: None,
+            size: 0,
         })
     }
 
-    /// The repository of the store file, which has to be the same one still when the next text takes its place.
+    /// The repository of the store file, which has to be the same one still when the next text takes its place. A look at it comes
+    /// before it is read, so that what is written meanwhile shows later.
     pub(crate) fn read_repo(
         &mut self,
         state: RandomState,
     ) -> Result<Repo<Sha1Namer, Global>, RunFault> {
-        let read = self.text.read_store(self.run.rt.alloc());
-        let store = self.run.placed(read)?;
-        self.form = form_of(&store);
-        Ok(open_text(self.run, store, state)?)
+        let (run, alloc) = (self.host.run, self.host.run.rt.alloc());
+        let stamp = run
+            .want_read(self.host.look(self.text.place().store()))?
+            .stamp;
+        let read = self.text.read_store(alloc);
+        let store = run.placed(read)?;
+        let kind = TextKind::of_text(&store);
+        self.form = kind.form();
+        self.size = store.len() as u64;
+        let repo = open_text(run, store, state)?;
+        self.before = Some(Before::of_repo(alloc, stamp, kind, &repo)?);
+        Ok(repo)
     }
 
     /// The form of the next text.
@@ -85,22 +101,61 @@ impl<'a> NextText<'a> {
         self.form = form;
     }
 
-    /// Writes a repository's text, as it is made, makes it durable, and puts it into the store file's place. Answers the stamp of what is
-    /// there then. After a failure the store file is as it was, unless it was the folder's sync that failed.
+    /// How many bytes the store file had when it was last read or put in place.
+    pub(crate) fn size(&self) -> u64 {
+        self.size
+    }
+
+    /// Publishes a repository that has the objects of the store file, and more or none, and its refs or others. What a growing file
+    /// lacks is appended to it where that can be done, and else a whole text takes the place of its own.
+    ///
+    /// After a failure the store file is as it was, unless it was the last write, or the last sync, that failed.
+    pub(crate) fn publish_added(&mut self, repo: &Repo<Sha1Namer, Global>) -> Result<(), RunFault> {
+        let is_done = match &self.before {
+            Some(before) if before.kind == TextKind::Growing => {
+                grow_by(self.host, self.text.place(), before, repo)?
+            }
+            _ => false,
+        };
+        if !is_done {
+            self.publish_store(repo)?;
+        }
+        Ok(())
+    }
+
+    /// Writes a repository's text, as it is made, makes it durable, and puts it into the store file's place, unless that has this
+    /// text, of version 2, already. Answers the stamp of what is there then. After a failure the store file is as it was, unless it
+    /// was the folder's sync that failed.
     pub(crate) fn publish_store(
         &mut self,
         repo: &Repo<Sha1Namer, Global>,
     ) -> Result<Stamp, RunFault> {
-        self.run.placed(self.text.begin())?;
-        write_store(self.run, &mut self.text, self.form, repo)?;
+        if let Some(stamp) = self.stamp_of(repo) {
+            if settle(self.host, self.text.place(), stamp)? {
+                return Ok(stamp);
+            }
+        }
+        self.host.run.placed(self.text.begin())?;
+        write_store(self.host.run, &mut self.text, self.form, repo)?;
         self.put_in_place()
+    }
+
+    /// The stamp of the store file, where its text is the next one.
+    fn stamp_of(&self, repo: &Repo<Sha1Namer, Global>) -> Option<Stamp> {
+        match &self.before {
+            Some(before) if self.form == StoreForm::Plain && before.kind == TextKind::Plain => {
+                before.has_all_of(repo).then_some(before.stamp)
+            }
+            _ => None,
+        }
     }
 
     fn put_in_place(&mut self) -> Result<Stamp, RunFault> {
         let put = self.text.put_in_place();
-        let stamp = self.run.placed(put)?;
+        let stamp = self.host.run.placed(put)?;
+        self.size = stamp.size;
         if self.text.is_narrowed() {
-            self.run.tell_narrowed(self.text.place().store());
+            self.host.run.tell_narrowed(self.text.place().store());
         }
         Ok(stamp)
     }

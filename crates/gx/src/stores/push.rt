@@ -34,7 +34,7 @@ pub(crate) fn push(
         explain_line(run, &mut next, lines.as_slice(), *number, state);
     }
     let pushed = pushed?;
-    next.publish_store(&pushed.repo)?;
+    next.publish_added(&pushed.repo)?;
     drop(next);
     if report {
         tell_changes(run, &pushed.changes);

@@ -21,6 +21,6 @@ pub(crate) fn set_ref(
     let lines = WholeLines::new(run.rt.stdin());
     let source = FromRead::new(Noted::new(run, Subject::Input, lines));
     let left = set_told(run.rt.alloc(), repo, change, source, force)?;
-    next.publish_store(&left)?;
+    next.publish_added(&left)?;
     Ok(())
 }

@@ -7,7 +7,8 @@ use std::alloc::Global;
 
 /// Whether a run of fewer than 586 rows stands so in a text, and has the digest of its page's digest.
 fn is_run(text: &[u8], run: &Run, place: u64, count: u64) -> Option<bool> {
-    let (_front, behind) = text.split_at_checked(place.checked_add(28 * count)? as usize)?;
+    let rows_end = place.checked_add(count.checked_mul(28)?)?;
+    let (_front, behind) = text.split_at_checked(rows_end as usize)?;
     let (digests, _behind) = behind.split_at_checked(32)?;
     Some(run.place == place && run.count == count && run.digest == digest_of(digests))
 }

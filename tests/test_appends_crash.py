@@ -15,7 +15,20 @@ import pytest
 from failing import needs_faults
 from growing_texts import HEAD
 from programs import Program, Word, counted
-from stops import PICK, Outcome, Step, Sync, Write, killed, picked, picking, recorded, seen, torn
+from stops import (
+    PICK,
+    Cut,
+    Outcome,
+    Step,
+    Sync,
+    Write,
+    killed,
+    picked,
+    picking,
+    recorded,
+    seen,
+    torn,
+)
 from store_files import blob_stream, branch_stream
 from test_growing import SLOTS
 
@@ -88,9 +101,8 @@ BEHIND = Change("import", stdin=branch_stream(77))
 
 
 def told(gx: Program, store: Path) -> tuple[bytes, ...]:
-    """What a store holds: by the whole reading, by the table, and all that refs reach."""
-    counts = gx.prints("verify", store).rpartition(b"bytes ")[0]
-    return counts, gx.prints("refs", store), gx.prints("export", store)
+    """What a store holds: by the whole reading, in which each object has its name, and by a look."""
+    return gx.prints("verify", store).rpartition(b"bytes ")[0], gx.prints("refs", store)
 
 
 # of a store, and of it behind the next import
@@ -170,13 +182,14 @@ def is_outside(step: Step, low: int, high: int) -> bool:
 @needs_faults
 @pytest.mark.parametrize("name", CHANGES)
 def test_order(gx: Program, tmp_path: Path, name: str) -> None:
-    """What is picked isn't written. A sync comes first, one before a write of a byte, which picks,
-    and one behind it."""
+    """What is picked isn't written. A sync comes before all writes, one before that of a byte, which
+    picks, and one behind it."""
     change = appended(gx, tmp_path, name)
-    steps, pick = change.steps, picking(change.steps)
+    steps = [step for step in change.steps if not isinstance(step, Cut)]
+    pick = picking(steps)
     assert [steps[0], *steps[pick - 1 : pick], *steps[pick + 1 :]] == [Sync()] * 3, steps
     assert len(steps[pick].text) == 1
-    for step in steps[:pick]:
+    for step in change.steps[: picking(change.steps)]:
         assert all(is_outside(step, *kept) for kept in kept_by(change.before)), step
 
 

@@ -1,4 +1,5 @@
 mod Growths
+mod NewRuns
 mod OldTexts
 mod OtherRefs
 mod RowLists

@@ -7,9 +7,14 @@ use Rattle.std.proofs.lemmas.List.{drop-append-le, take-append-le}
 use Rattle.std.proofs.Math.Seq.{drop-append-add, drop-append_seam, take-append-add, take-append_seam}
 use Rattle.gx_model.specs.declared.objects.Kind.{Kind}
 use Rattle.gx_model.specs.Texts.{Bytes, byte_cmp}
-use Rattle.gx_model.specs.Histories.{Records}
-use Rattle.gx_growing.specs.GrowingText.{IsGrowingText, Run, StandsIn, digests_length, head_length, head_text, live_rows, page_digests, part, rows_in, run_bytes, run_rows, segment_text}
+use Rattle.gx_model.specs.Histories.{Record, Records}
+use Rattle.gx_growing.specs.GrowingText.{AreSegments, IsGrowingText, IsSegment, Run, Segment, StandsIn, digests_length, head_length, head_text, live_rows, page_digests, part, rows_in, run_bytes, run_rows, segment_text}
 use Rattle.gx_growing.proofs.ReadFronts.{head_long}
+
+-- the last segment is one
+pub last_is : (name : Kind → Bytes → Bytes) (before : List Record) (ss : List Segment) (s : Segment) → AreSegments name before (ss ++ s ∷ []) → IsSegment s
+last_is name before [] s all = all.0
+last_is name before (t ∷ ss) s all = last_is name (before ++ t.records) ss s all.2
 
 module _ (name : Kind → Bytes → Bytes) (digest : Bytes → Bytes) (text : Bytes) (repository : Records) (old : IsGrowingText name digest text repository) where
   -- the text of all segments

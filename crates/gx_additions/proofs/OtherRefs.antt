@@ -3,18 +3,13 @@ use Rattle.std.proofs.Common.{◌^◌, ◌+◌, ◌<◌, refl, sym, ap, subst, �
 use Rattle.std.specs.List.{AllByRecursion}
 use Rattle.gx_model.specs.declared.objects.Kind.{Kind}
 use Rattle.gx_model.specs.Texts.{Bytes}
-use Rattle.gx_model.specs.Histories.{Record, Records}
+use Rattle.gx_model.specs.Histories.{Records}
 use Rattle.gx_model.specs.Records.Sound.{IsSound}
-use Rattle.gx_growing.specs.GrowingText.{AreSegments, IsGrowingText, IsSegment, Segment, StandsIn, head_length, head_text, live_rows, placed_rows, segment_text, sorted_rows}
+use Rattle.gx_growing.specs.GrowingText.{IsGrowingText, StandsIn, head_length, head_text, live_rows, placed_rows, segment_text, sorted_rows}
 use Rattle.gx_growing.proofs.ReadFronts.{head_long}
 use Rattle.gx_append.specs.Appending.{Takes}
 use Rattle.gx_additions.specs.Additions.{refs_alone}
-use Rattle.gx_additions.proofs.OldTexts.{all_rows, all_stand, old_part, segments_of, up_to}
-
--- the last segment is one
-last_is : (name : Kind → Bytes → Bytes) (before : List Record) (ss : List Segment) (s : Segment) → AreSegments name before (ss ++ s ∷ []) → IsSegment s
-last_is name before [] s all = all.0
-last_is name before (t ∷ ss) s all = last_is name (before ++ t.records) ss s all.2
+use Rattle.gx_additions.proofs.OldTexts.{all_rows, all_stand, last_is, old_part, segments_of, up_to}
 
 module _ (name : Kind → Bytes → Bytes) (digest : Bytes → Bytes) (text : Bytes) (repository : Records) (old : IsGrowingText name digest text repository) (refs : List (Bytes × Bytes))
     (sound : IsSound name (record { records = repository.records; refs = refs })) (was_short : length text < 2 ^ 63)

@@ -8,7 +8,7 @@ use Rattle.std.specs.FinMap.Entries.{find}
 use Rattle.std.proofs.lemmas.Cmp.{nat_list_eq_equiv}
 use Rattle.std.proofs.lemmas.List.Elements.{All-from_recursion, recursion_from_All}
 use Rattle.std.proofs.lemmas.List.Sorted.{All-permutation}
-use Rattle.std.proofs.lemmas.Map.Keys.{IsDistinct-IsPermutation, IsDistinct-cons, IsDistinct-head, IsDistinct-tail}
+use Rattle.std.proofs.lemmas.Map.Keys.{IsDistinct-IsPermutation}
 use Rattle.std.proofs.lemmas.Map.Text.{is_eq-slice_cmp}
 use Rattle.gx_model.specs.declared.objects.Kind.{Kind}
 use Rattle.gx_model.specs.declared.store_versions.Version.TheVariants.{Two}
@@ -122,13 +122,14 @@ all_behind P xs front behind p h = right front (recursion_from_All P (front ++ b
 flips : (x y : Row) → same_name x y ≡ same_name y x
 flips x y = nat_list_eq_equiv.symm x.0 y.0
 
+last_apart : (front behind : List Row) → IsDistinct same_name (front ++ behind) → IsDistinct same_name behind
+unfolding IsDistinct
+last_apart [] behind a = a
+last_apart (x ∷ xs) behind a = last_apart xs behind a.1
+
 -- so do names that differ
 pub apart_behind : (xs front behind : List Row) → IsPermutation xs (front ++ behind) → IsDistinct same_name xs → IsDistinct same_name behind
-apart_behind xs front behind p d = right front (IsDistinct-IsPermutation same_name flips xs (front ++ behind) p d)
-  where
-    right : (us : List Row) → IsDistinct same_name (us ++ behind) → IsDistinct same_name behind
-    right [] a = a
-    right (u ∷ us) a = right us (IsDistinct-tail a)
+apart_behind xs front behind p d = last_apart front behind (IsDistinct-IsPermutation same_name flips xs (front ++ behind) p d)
 
 no_row : (x : Row) (xs : List Row) → AllByRecursion (λ y. same_name x y ≡ false) xs → find byte_cmp x.0 xs ≡ None
 no_row x [] h = refl

@@ -1,5 +1,5 @@
 -- Segments that bring objects, with the rows of live runs that they take in. Source: this project's own format.
-use Rattle.std.specs.Prelude.{◌≡◌, ◌^◌, ℕ, ◌+◌, ◌<◌, List, [], ◌∷◌, ◌++◌, length, take, drop, map, nat_eq, if◌then◌else◌, Option, Some, None, ⊤}
+use Rattle.std.specs.Prelude.{◌≡◌, ◌^◌, ℕ, zero, suc, ◌+◌, ◌<◌, List, [], ◌∷◌, ◌++◌, length, take, drop, map, Option, Some, None, ⊤}
 use Rattle.std.specs.List.{flat_map}
 use Rattle.sha2.specs.Sha256.{sha256}
 use Rattle.gx_model.specs.declared.objects.Kind.{Kind}
@@ -18,7 +18,8 @@ use Rattle.gx_append.specs.Appending.{Takes}
 module _ (digest : Bytes → Bytes) where
   -- the run of so many rows at a place, whose pages have these digests, and none where there are no rows
   abbrev pub run_of : ℕ → ℕ → Bytes → List Run
-  run_of place count digests = if nat_eq count 0 then [] else record { place = place; count = count; digest = digest digests } ∷ []
+  run_of place zero digests = []
+  run_of place (suc rows) digests = record { place = place; count = suc rows; digest = digest digests } ∷ []
 
   -- The segment behind a place that brings these records and refs. Its rows are those of the records and of runs that it takes in;
   -- the other live runs stay.

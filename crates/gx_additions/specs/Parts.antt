@@ -1,18 +1,23 @@
 -- The parts of a segment, and the slot that leads to it. Source: this project's own format.
-use Rattle.std.specs.Prelude.{ℕ, ◌+◌, List, [], ◌∷◌, ◌++◌, codes, drop, length}
+use Rattle.std.specs.Prelude.{ℕ, ◌+◌, List, [], ◌∷◌, ◌++◌, drop, length}
 use Rattle.std.specs.List.{flat_map}
 use Rattle.sha2.specs.Sha256.{sha256}
 use Rattle.gx_model.specs.declared.objects.Kind.{Kind}
 use Rattle.gx_model.specs.declared.store_versions.Version.TheVariants.{Two}
 use Rattle.gx_model.specs.Histories.{Record}
 use Rattle.gx_model.specs.Texts.{Bytes}
-use Rattle.gx_model.specs.Stores.StoreText.{stored_record}
+use Rattle.gx_model.specs.Objects.{line}
+use Rattle.gx_model.specs.Stores.StoreText.{length_text, stored_record}
 use Rattle.gx_object.specs.declared.name.Name.{Name}
 use Rattle.gx_growing.specs.GrowingText.{Slot, records_text, rows_text}
 
 -- a record of this name
 abbrev pub record_called : Name → Kind → Bytes → Bytes
 record_called name kind body = stored_record Two (record { name = name.bytes; kind = kind; body = body })
+
+-- a body behind its line, which begins with this word
+abbrev pub body_called : Bytes → Name → Bytes → Bytes
+body_called word name body = line word (length_text Two (length body) name.bytes) ++ body ++ 10 ∷ []
 
 -- the number of records, and these
 abbrev pub records_front : List Record → Bytes

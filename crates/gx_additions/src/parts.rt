@@ -7,7 +7,7 @@ ghost use Rattle.gx_model.specs.Texts.Numbers.{number_text};
 ghost use Rattle.gx_model.specs.Stores.StoreText.{stored_ref};
 ghost use Rattle.gx_growing.specs.GrowingText.{run_text};
 ghost use Rattle.gx_growing_parts.specs.Shown.{shown_run};
-ghost use Rattle.gx_additions.specs.Parts.{record_called, records_front, table_front};
+ghost use Rattle.gx_additions.specs.Parts.{body_called, record_called, records_front, table_front};
 
 use gx_growing_parts::{Run, digest_digits};
 use gx_growing_rows::Table;
@@ -47,12 +47,25 @@ fn put_record<A: Allocator>(
     ensures { OnOk result
         (bytes.new.items ≡ bytes.old.items ++ record_called name.now kind body.now) }
 {
+    put_body(bytes, kind.word().as_bytes(), name, body)
+}
+
+/// Puts a body behind its line, which begins with this word.
+fn put_body<A: Allocator>(
+    bytes: &mut Vec<u8, A>,
+    word: &[u8],
+    name: &Name,
+    body: &[u8],
+) -> Result<(), AllocError>
+    ensures { OnOk result (bytes.new.items
+        ≡ bytes.old.items ++ body_called word.now name.now body.now) }
+{
     let mut length = Buffer::new();
     let digits = name.hex();
     put_all(
         bytes,
         &[
-            kind.word().as_bytes(),
+            word,
             b" ",
             length.format(body.len()).as_bytes(),
             b" ",

@@ -1,34 +1,72 @@
--- An append of other refs is one of a segment that the text takes.
-use Rattle.std.proofs.Common.{◌≡◌, ◌^◌, inl, inr, ℕ, ◌+◌, ◌<◌, Bool, List, length, sym, ap, subst, ◌∙◌, Option}
+-- What is appended is a segment that the text takes.
+use Rattle.std.proofs.Common.{◌≡◌, ◌^◌, inl, inr, ℕ, ◌+◌, ◌<◌, Bool, List, ◌++◌, length, map, drop, sym, ap, subst, ◌∙◌, Option}
+use Rattle.std.proofs.lemmas.List.{take-append-drop}
 use Rattle.sha2.specs.Sha256.{sha256}
 use Rattle.gx_model.specs.declared.objects.Kind.{Kind}
 use Rattle.gx_model.specs.Texts.{Bytes}
 use Rattle.gx_model.specs.Histories.{Records}
+use Rattle.gx_model.specs.Records.Sound.{IsSound}
 use Rattle.gx_model.specs.Objects.{IsNamer}
-use Rattle.gx_growing.specs.GrowingText.{segment_text, slot_text}
+use Rattle.gx_growing.specs.GrowingText.{live_rows, segment_text, slot_text}
 use Rattle.gx_growing.specs.GrowingLaws.{next_slot}
+use Rattle.gx_growing_parts.specs.Shown.{shown_run}
+use Rattle.gx_growing_parts.specs.declared.ending.Ending.{Ending}
+use Rattle.gx_growing_parts.proofs.Digesters.{digester}
 use Rattle.gx_append.specs.Appending as appends
 use Rattle.gx_append.specs.Appending.{IsAsked, IsGrowth, IsReadAs, Shows}
 use Rattle.gx_append.proofs.Readings.{before_read, growth_asked, segments_of}
 use Rattle.gx_additions.specs.Additions.{GivesRefs, IsCutBack, refs_alone, with_refs}
-use Rattle.gx_growing_parts.proofs.Digesters.{digester}
+use Rattle.gx_additions.specs.NewObjects.{BringsObjects, GivesObjects, IsBrought, new_objects}
+use Rattle.gx_additions.proofs.NewRuns.{additions_taken}
 use Rattle.gx_additions.proofs.OtherRefs.{refs_taken}
 
-pub growth : (name : Kind → Bytes → Bytes) (told : Option Bytes) (is_first : Bool) (ends : ℕ) (runs : Bytes) (count : ℕ) (refs bytes slot : Bytes) (repository : Records) (named : List (Bytes × Bytes))
-    → (g : GivesRefs name told is_first ends runs count refs repository named) → bytes ≡ segment_text (refs_alone g.old.last.runs named)
-    → slot ≡ slot_text (next_slot sha256 ends (refs_alone g.old.last.runs named)) → ends + length bytes < 2 ^ 63
-    → IsGrowth name sha256 told is_first ends bytes slot repository (with_refs repository named)
-growth name told is_first ends runs count refs bytes slot repository named g b s short = record {
-  file = g.file;
-  is = g.is;
-  old = g.old;
-  picks = g.picks;
-  ends_are = g.ends_are;
-  segment = refs_alone g.old.last.runs named;
-  takes = refs_taken name sha256 g.file repository g.old named g.sound g.short (subst (λ n. n + length (segment_text (refs_alone g.old.last.runs named)) < 2 ^ 63) g.ends_are (subst (λ z. ends + length z < 2 ^ 63) b short));
-  bytes_are = b;
-  slot_is = s ∙ ap (λ n. slot_text (next_slot sha256 n (refs_alone g.old.last.runs named))) g.ends_are;
-}
+-- other refs
+pub refs_growth : (name : Kind → Bytes → Bytes) (told : Option Bytes) (ending : Ending) (count : ℕ) (refs bytes slot : Bytes) (repository : Records) (named : List (Bytes × Bytes))
+    → (g : GivesRefs name told ending count refs repository named) → bytes ≡ segment_text (refs_alone (map shown_run ending.runs.now) named)
+    → slot ≡ slot_text (next_slot sha256 ending.ends (refs_alone (map shown_run ending.runs.now) named)) → ending.ends + length bytes < 2 ^ 63
+    → IsGrowth name sha256 told ending.is_first ending.ends bytes slot repository (with_refs repository named)
+refs_growth name told ending count refs bytes slot repository named g b s short =
+    let runs = g.ends.runs in
+    let is = b ∙ ap (λ rs. segment_text (refs_alone rs named)) runs in
+    record {
+      file = g.file;
+      is = g.is;
+      old = g.old;
+      picks = g.ends.picks;
+      ends_are = g.ends.ends;
+      segment = refs_alone g.old.last.runs named;
+      takes = refs_taken name sha256 g.file repository g.old named g.sound g.short (subst (λ n. n + length (segment_text (refs_alone g.old.last.runs named)) < 2 ^ 63) g.ends.ends (subst (λ z. ending.ends + length z < 2 ^ 63) is short));
+      bytes_are = is;
+      slot_is = s ∙ (λ i. slot_text (next_slot sha256 (g.ends.ends i) (refs_alone (runs i) named)));
+    }
+
+-- new objects, and other refs
+pub objects_growth : (name : Kind → Bytes → Bytes) → IsNamer name → (told : Option Bytes) (ending : Ending) (bytes slot : Bytes) (repository new : Records) (held : ℕ)
+    → GivesObjects name told ending repository new held → IsSound name new → BringsObjects told ending new held bytes slot
+    → IsGrowth name sha256 told ending.is_first ending.ends bytes slot repository new
+objects_growth name namer told ending bytes slot repository new held g sound brings =
+    let b : IsBrought ending new held bytes slot g.file = subst (λ t. BringsObjects t ending new held bytes slot) g.is brings in
+    let news = drop held new.records in
+    let at = λ (n : ℕ). new_objects sha256 n b.kept (live_rows g.file b.taken) news new.refs in
+    let records = sym (take-append-drop held new.records) ∙ ap (λ z. z ++ news) g.front in
+    let is = b.segment_is ∙ ap (λ n. segment_text (at n)) g.ends.ends in
+    record {
+      file = g.file;
+      is = g.is;
+      old = g.old;
+      picks = g.ends.picks;
+      ends_are = g.ends.ends;
+      segment = at g.old.slot.ends;
+      takes = additions_taken name namer sha256 digester g.file repository new g.old b.kept b.taken news (b.runs ∙ g.ends.runs) records sound g.short (subst (λ n. n + length (segment_text (at g.old.slot.ends)) < 2 ^ 63) g.ends.ends (subst (λ z. ending.ends + length z < 2 ^ 63) is b.short));
+      bytes_are = is;
+      slot_is = b.slot_is ∙ ap (λ n. slot_text (next_slot sha256 n (at n))) g.ends.ends;
+    }
+
+-- bytes that are those of a growth are one
+pub same_growth : (name : Kind → Bytes → Bytes) (told : Option Bytes) (is_first : Bool) (ends : ℕ) (bytes other slot another : Bytes) (repository new : Records) → bytes ≡ other → slot ≡ another
+    → IsGrowth name sha256 told is_first ends other another repository new → IsGrowth name sha256 told is_first ends bytes slot repository new
+same_growth name told is_first ends bytes other slot another repository new e f g =
+    subst (λ z. IsGrowth name sha256 told is_first ends z slot repository new) (sym e) (subst (λ z. IsGrowth name sha256 told is_first ends other z repository new) (sym f) g)
 
 module _ (name : Kind → Bytes → Bytes) (namer : IsNamer name) (told : Option Bytes) (is_first : Bool) (ends : ℕ) (bytes slot : Bytes) (repository new : Records)
     (g : IsGrowth name sha256 told is_first ends bytes slot repository new) where

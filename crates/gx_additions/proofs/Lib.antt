@@ -2,5 +2,6 @@ mod Growths
 mod NewRuns
 mod OldTexts
 mod OtherRefs
+mod Puts
 mod RowLists
 mod Spelled

@@ -5,29 +5,28 @@ use Rattle.std.specs.List.{AllByRecursion, AllZip, flat_map}
 use Rattle.std.specs.List.Sorted.{IsPermutation}
 use Rattle.std.specs.FinMap.Entries.{is_sorted}
 use Rattle.std.proofs.lemmas.Grind.{flat_map-append}
-use Rattle.std.proofs.lemmas.List.Sorted.{IsPermutation-append_left, IsPermutation-append_right, IsPermutation-sym, IsPermutation-trans}
+use Rattle.std.proofs.lemmas.List.Sorted.{IsPermutation-append_left, IsPermutation-sym}
 use Rattle.gx_model.specs.declared.objects.Kind.{Kind}
 use Rattle.gx_model.specs.declared.store_versions.Version.TheVariants.{Two}
 use Rattle.gx_model.specs.Texts.{Bytes, byte_cmp}
 use Rattle.gx_model.specs.Texts.Numbers.{number_text}
 use Rattle.gx_model.specs.Objects.{IsNamer, line}
-use Rattle.gx_model.specs.Histories.{Record, Records}
+use Rattle.gx_model.specs.Histories.{AreDistinct, Record, Records}
 use Rattle.gx_model.specs.Records.Sound.{IsSound}
 use Rattle.gx_model.specs.Stores.StoreText.{stored_record}
 use Rattle.gx_model.proofs.ObjectTexts.OneTree.{all_left, all_right}
-use Rattle.gx_model.proofs.Texts.PathTests.{is_true}
 use Rattle.gx_growing.specs.GrowingText.{IsDigester, IsGrowingText, IsHead, IsRun, IsSegment, Row, Run, Segment, StandsIn, first_place, head_length, head_text, live_rows, page_digests, part, placed, placed_rows, records_of, row_text, run_rows, segment_text, sorted_rows, table_length, tail_text}
 use Rattle.gx_growing.specs.GrowingLaws.{grown_text}
 use Rattle.gx_growing.proofs.ReadFronts.{head_long}
-use Rattle.gx_growing.proofs.RowsTell.{same_sorted, sorted_permuted}
-use Rattle.gx_growing.proofs.SortedRows.{placed_long, rows_sorted, sorted_all, sorted_long}
+use Rattle.gx_growing.proofs.RowsTell.{same_sorted}
+use Rattle.gx_growing.proofs.SortedRows.{placed_long, sorted_all, sorted_long}
 use Rattle.gx_growing.proofs.StandingRuns.{IsRow, pages_long, rows_long, run_has, run_here, run_stands, table_text}
 use Rattle.gx_growing_rows.specs.NextTable.{next_place, next_rows}
-use Rattle.gx_growing_rows.proofs.SortedRows.{one_sorting}
+use Rattle.gx_growing_rows.proofs.JoinedRows.{held_apart, joined_rise, joined_told}
 use Rattle.gx_append.specs.Appending.{Takes}
 use Rattle.gx_additions.specs.NewObjects.{new_objects, run_of}
 use Rattle.gx_additions.proofs.OldTexts.{all_rows, all_stand, last_is, old_part, segments_of, up_to}
-use Rattle.gx_additions.proofs.RowLists.{Names, all_behind, apart_behind, are_apart, named_apart, named_rows, names_both, placed_named, records_within, rows_named}
+use Rattle.gx_additions.proofs.RowLists.{Names, all_behind, named_rows, names_both, placed_named, records_within, rows_named}
 
 -- what holds of all elements of two lists holds of those of both
 all_both : {X : Type 0} (P : X → Type 0) (xs ys : List X) → AllByRecursion P xs → AllByRecursion P ys → AllByRecursion P (xs ++ ys)
@@ -106,17 +105,18 @@ module _ (name : Kind → Bytes → Bytes) (namer : IsNamer name) (digest : Byte
   told_before : sorted_rows (live_rows (old_head ++ segments) (kept ++ taken)) ≡ sorted_rows (placed_rows head_length all)
   told_before = (λ i. sorted_rows (live_rows (sym (up_to name digest text repository old) i) (runs_are i))) ∙ old.told
 
-  joined : by_runs ≡ live_rows (old_head ++ segments) (kept ++ taken) ++ new_rows
-  joined =
-      let k = live_rows (old_head ++ segments) kept in
-      let t = live_rows (old_head ++ segments) taken in
-      ap (λ z. k ++ (z ++ new_rows)) (in_file taken (all_right (StandsIn digest (old_head ++ segments)) kept taken live_before)) ∙ sym (append_assoc k t new_rows)
-      ∙ ap (λ z. z ++ new_rows) (sym (flat_map-append (run_rows (old_head ++ segments)) kept taken))
+  -- those that stay, and those that are taken in
+  told_apart : sorted_rows (live_rows (old_head ++ segments) kept ++ live_rows text taken) ≡ sorted_rows (placed_rows head_length all)
+  told_apart =
+      ap (λ z. sorted_rows (live_rows (old_head ++ segments) kept ++ z)) (in_file taken (all_right (StandsIn digest (old_head ++ segments)) kept taken live_before))
+      ∙ ap sorted_rows (sym (flat_map-append (run_rows (old_head ++ segments)) kept taken)) ∙ told_before
 
   permuted : IsPermutation in_order by_runs
-  permuted = subst (IsPermutation in_order) (sym joined)
-      (IsPermutation-append_left new_rows (placed_rows head_length all) (live_rows (old_head ++ segments) (kept ++ taken))
-      (IsPermutation-sym (live_rows (old_head ++ segments) (kept ++ taken)) (placed_rows head_length all) (same_sorted (live_rows (old_head ++ segments) (kept ++ taken)) (placed_rows head_length all) told_before)))
+  permuted =
+      let k = live_rows (old_head ++ segments) kept in
+      let t = live_rows text taken in
+      subst (IsPermutation in_order) (append_assoc k t new_rows)
+      (IsPermutation-append_left new_rows (placed_rows head_length all) (k ++ t) (IsPermutation-sym (k ++ t) (placed_rows head_length all) (same_sorted (k ++ t) (placed_rows head_length all) told_apart)))
 
   named : AllZip Names in_order new.records
   named =
@@ -138,8 +138,9 @@ module _ (name : Kind → Bytes → Bytes) (namer : IsNamer name) (digest : Byte
       (all_behind IsRow in_order (live_rows (old_head ++ segments) kept) (live_rows text taken ++ new_rows) permuted (named_rows name namer in_order new.records named sound.named))
 
   rows_rise : IsTrue (is_sorted byte_cmp rows)
-  rows_rise = is_true _ (rows_sorted (live_rows text taken ++ new_rows)
-      (are_apart (live_rows text taken ++ new_rows) (apart_behind in_order (live_rows (old_head ++ segments) kept) (live_rows text taken ++ new_rows) permuted (named_apart in_order new.records named sound.distinct))))
+  rows_rise =
+      let distinct = subst (λ rs. AreDistinct (map (λ r. r.name) rs)) (records_are ∙ ap (λ z. z ++ news) (sym old.records)) sound.distinct in
+      joined_rise (live_rows (old_head ++ segments) kept) (live_rows text taken) (placed_rows head_length all) new_rows told_apart (held_apart head_length (first_place ends news) all news distinct)
 
   count_is : length rows ≡ length (live_rows text taken) + length news
   count_is = sorted_long (live_rows text taken ++ new_rows) ∙ length-append (live_rows text taken) new_rows ∙ ap (λ n. length (live_rows text taken) + n) (placed_long (first_place ends news) news)
@@ -215,11 +216,8 @@ module _ (name : Kind → Bytes → Bytes) (namer : IsNamer name) (digest : Byte
 
     told : sorted_rows (live_rows grown segment.runs) ≡ sorted_rows in_order
     told =
-        let k = live_rows (old_head ++ segments) kept in
-        let xs = live_rows text taken ++ new_rows in
-        let by_run = IsPermutation-append_right k (sorted_rows xs) xs (IsPermutation-sym xs (sorted_rows xs) (sorted_permuted xs)) in
         ap sorted_rows (flat_map-append (run_rows grown) kept (run_of digest place (length rows) pages) ∙ (λ i. in_grown i ++ rows_there i))
-        ∙ one_sorting (k ++ rows) in_order (IsPermutation-trans (k ++ rows) (k ++ xs) in_order by_run (IsPermutation-sym in_order (k ++ xs) permuted))
+        ∙ joined_told (live_rows (old_head ++ segments) kept) (live_rows text taken) (placed_rows head_length all) new_rows told_apart
 
   -- ---- the segment
 

@@ -1,26 +1,20 @@
--- The rows of records that stand in segments: their names and places, in this order and in another.
-use Rattle.std.proofs.Common.{◌≡◌, ℕ, ◌+◌, ◌*◌, ◌≤◌, ◌<◌, ◌^◌, Bool, true, false, cond, refl, sym, ap, subst, ◌∙◌, List, [], ◌∷◌, ◌++◌, length, map, codes, None, Some, arith, length-append, eqb→eq}
-use Rattle.std.specs.Prelude.{T, ◌||◌, nat_eq}
-use Rattle.std.specs.List.{AllByRecursion, AllZip, IsDistinct, flat_map, list_any}
+-- The rows of records that stand in segments have names of 20 bytes, and places below 2^64.
+use Rattle.std.proofs.Common.{◌≡◌, ℕ, ◌+◌, ◌≤◌, ◌<◌, ◌^◌, refl, sym, ap, subst, ◌∙◌, List, [], ◌∷◌, ◌++◌, length, codes, arith, length-append, eqb→eq}
+use Rattle.std.specs.Prelude.{T, nat_eq}
+use Rattle.std.specs.List.{AllByRecursion, AllZip, flat_map}
 use Rattle.std.specs.List.Sorted.{IsPermutation}
-use Rattle.std.specs.Ordering.{is_eq}
-use Rattle.std.specs.FinMap.Entries.{find}
-use Rattle.std.proofs.lemmas.Cmp.{nat_list_eq_equiv}
 use Rattle.std.proofs.lemmas.List.Elements.{All-from_recursion, recursion_from_All}
 use Rattle.std.proofs.lemmas.List.Sorted.{All-permutation}
-use Rattle.std.proofs.lemmas.Map.Keys.{IsDistinct-IsPermutation}
-use Rattle.std.proofs.lemmas.Map.Text.{is_eq-slice_cmp}
 use Rattle.gx_model.specs.declared.objects.Kind.{Kind}
 use Rattle.gx_model.specs.declared.store_versions.Version.TheVariants.{Two}
-use Rattle.gx_model.specs.Texts.{Bytes, byte_cmp, same_bytes}
+use Rattle.gx_model.specs.Texts.{Bytes}
 use Rattle.gx_model.specs.Texts.Numbers.{number_text}
 use Rattle.gx_model.specs.Objects.{IsNamer, is_name, line}
-use Rattle.gx_model.specs.Histories.{AreDistinct, Record}
+use Rattle.gx_model.specs.Histories.{Record}
 use Rattle.gx_model.specs.Stores.StoreText.{stored_record}
 use Rattle.gx_model.proofs.Texts.PathTests.{first}
 use Rattle.gx_model.proofs.ObjectTexts.TreePaths.{name_is_name}
 use Rattle.gx_growing.specs.GrowingText.{Row, Segment, first_place, placed, placed_rows, records_of, rows_text, segment_text, tail_text}
-use Rattle.gx_growing.proofs.SortedRows.{AreApart}
 use Rattle.gx_growing.proofs.StandingRuns.{IsRow}
 
 -- a row has the name of a record, and a place below 2^63
@@ -86,57 +80,12 @@ module _ (name : Kind → Bytes → Bytes) (namer : IsNamer name) where
       less : (p : ℕ) → p < 2 ^ 63 → p < 2 ^ 64
       less p l = omega arith
 
--- whether two rows have one name
-abbrev pub same_name : Row → Row → Bool
-same_name x y = same_bytes x.0 y.0
-
--- a name that no record has is no row's
-not_named : (x : Row) (held : Record) (xs : List Row) (rs : List Record) → x.0 ≡ held.name → AllZip Names xs rs → list_any (same_bytes held.name) (map (λ r. r.name) rs) ≡ false
-    → AllByRecursion (λ y. same_name x y ≡ false) xs
-not_named x held [] rs e h n = tt
-not_named x held (y ∷ ys) [] e h n = absurd h
-not_named x held (y ∷ ys) (r ∷ rs) e h n = by (same_bytes held.name r.name) refl n (not_named x held ys rs e h.1)
-  where
-    by : (b : Bool) → same_bytes held.name r.name ≡ b → (b || list_any (same_bytes held.name) (map (λ z. z.name) rs)) ≡ false
-        → (list_any (same_bytes held.name) (map (λ z. z.name) rs) ≡ false → AllByRecursion (λ z. same_name x z ≡ false) ys) → AllByRecursion (λ z. same_name x z ≡ false) (y ∷ ys)
-    by true f g more = absurd (cc)
-    by false f g more = ((λ i. same_bytes (e i) (h.0.0 i)) ∙ f, more g)
-
--- rows of records whose names differ
-pub named_apart : (xs : List Row) (rs : List Record) → AllZip Names xs rs → AreDistinct (map (λ r. r.name) rs) → IsDistinct same_name xs
-unfolding IsDistinct
-named_apart [] rs h d = tt
-named_apart (x ∷ xs) [] h d = absurd h
-named_apart (x ∷ xs) (r ∷ rs) h d = (not_named x r xs rs h.0.0 h.1 d.0, named_apart xs rs h.1 d.1)
-
 -- ---- in another order
 
--- what holds of all rows holds of them in another order, and of the last ones
+-- what holds of all rows holds of the last of them in another order
 pub all_behind : (P : Row → Type 0) (xs front behind : List Row) → IsPermutation xs (front ++ behind) → AllByRecursion P xs → AllByRecursion P behind
 all_behind P xs front behind p h = right front (recursion_from_All P (front ++ behind) (All-permutation P xs (front ++ behind) p (All-from_recursion P xs h)))
   where
     right : (us : List Row) → AllByRecursion P (us ++ behind) → AllByRecursion P behind
     right [] a = a
     right (u ∷ us) a = right us a.1
-
-flips : (x y : Row) → same_name x y ≡ same_name y x
-flips x y = nat_list_eq_equiv.symm x.0 y.0
-
-last_apart : (front behind : List Row) → IsDistinct same_name (front ++ behind) → IsDistinct same_name behind
-unfolding IsDistinct
-last_apart [] behind a = a
-last_apart (x ∷ xs) behind a = last_apart xs behind a.1
-
--- so do names that differ
-pub apart_behind : (xs front behind : List Row) → IsPermutation xs (front ++ behind) → IsDistinct same_name xs → IsDistinct same_name behind
-apart_behind xs front behind p d = last_apart front behind (IsDistinct-IsPermutation same_name flips xs (front ++ behind) p d)
-
-no_row : (x : Row) (xs : List Row) → AllByRecursion (λ y. same_name x y ≡ false) xs → find byte_cmp x.0 xs ≡ None
-no_row x [] h = refl
-no_row x (y ∷ ys) h = ap (λ b. cond b (Some y.1) (find byte_cmp x.0 ys)) (is_eq-slice_cmp x.0 y.0 ∙ h.0) ∙ no_row x ys h.1
-
--- rows whose names differ have no name twice
-pub are_apart : (xs : List Row) → IsDistinct same_name xs → AreApart xs
-unfolding IsDistinct
-are_apart [] d = tt
-are_apart (x ∷ xs) d = (no_row x xs d.0, are_apart xs d.1)

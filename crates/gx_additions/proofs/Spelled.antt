@@ -1,17 +1,52 @@
--- How segments without objects, and slots, are spelled.
-use Rattle.std.proofs.Common.{◌≡◌, ℕ, zero, suc, ◌+◌, ◌-◌, ◌<◌, ◌^◌, refl, sym, ap, ◌∙◌, List, [], ◌∷◌, ◌++◌, length, drop, codes, arith, append_assoc, length-append}
+-- How segments and slots are spelled.
+use Rattle.std.proofs.Common.{◌≡◌, ℕ, ◌+◌, ◌-◌, ◌<◌, ◌^◌, refl, sym, ap, ◌∙◌, List, [], ◌∷◌, ◌++◌, length, map, drop, codes, arith, append_assoc, append-nil, length-append}
 use Rattle.std.specs.Prelude.{replicate}
 use Rattle.std.specs.Fmt.{decimal}
 use Rattle.std.specs.List.{flat_map}
+use Rattle.std.proofs.lemmas.List.{drop_at}
 use Rattle.sha2.specs.Sha256.{sha256}
+use Rattle.gx_model.specs.declared.store_versions.Version.TheVariants.{Two}
 use Rattle.gx_model.specs.Texts.{Bytes}
 use Rattle.gx_model.specs.Texts.Numbers.{number_text}
+use Rattle.gx_model.specs.Histories.{Record}
 use Rattle.gx_model.specs.Objects.{line}
 use Rattle.gx_model.proofs.Texts.Decimals.{text_is_decimal}
-use Rattle.gx_model.specs.Stores.StoreText.{stored_ref}
+use Rattle.gx_model.specs.Stores.StoreText.{stored_record, stored_ref}
 use Rattle.gx_growing.specs.GrowingLaws.{next_slot}
-use Rattle.gx_growing.specs.GrowingText.{Run, long_number, records_text, rows_text, run_text, segment_text, tail_text}
-use Rattle.gx_additions.specs.Additions.{AreLines, refs_alone, slot_of, tail_with}
+use Rattle.gx_growing.specs.GrowingText.{Run, Segment, long_number, records_text, rows_text, run_text, segment_text, tail_text}
+use Rattle.gx_additions.specs.Additions.{AreLines, refs_alone, tail_with}
+use Rattle.gx_additions.specs.Parts.{front_text, records_front, slot_of, table_front}
+
+-- ---- slots
+
+-- a number of twenty digits, behind some bytes
+pub long_put : (n : ℕ) (old zeros digits mid new : Bytes) → n < 2 ^ 64 → mid ≡ old ++ zeros → new ≡ mid ++ digits → zeros ≡ replicate (20 - length digits) 48 → digits ≡ decimal n
+    → new ≡ old ++ long_number n
+long_put n old zeros digits mid new small first second z d =
+    let text = d ∙ sym (text_is_decimal n small) in
+    second ∙ ap (λ b. b ++ digits) first ∙ append_assoc old zeros digits ∙ ap (λ b. old ++ (b ++ digits)) z ∙ (λ i. old ++ (replicate (20 - length (text i)) 48 ++ text i))
+
+-- the slot of a segment with its tail behind so many bytes
+pub next_told : (s : Segment) (ends front : ℕ) (before segment : Bytes) → segment ≡ before ++ tail_text s.runs s.refs → segment ≡ segment_text s → front ≡ length before → slot_of ends segment front ≡ next_slot sha256 ends s
+next_told s ends front before segment e f g =
+    let tail = tail_text s.runs s.refs in
+    let is : drop front segment ≡ tail = ap (drop front) e ∙ drop_at before tail front (sym g) in
+    let long : length segment ≡ length before + length tail = ap length e ∙ length-append before tail in
+    let same = ap length f in
+    (λ i. record { ends = (ends + front) + length (is i); tail = ends + front; digest = sha256 (is i) })
+    ∙ (λ i. record {
+      ends = there ends front (length before) (length tail) (length segment) (length (segment_text s)) long same g i;
+      tail = begins ends front (length before) (length tail) (length segment) (length (segment_text s)) long same g i;
+      digest = sha256 tail;
+    })
+  where
+    there : (e f b t s k : ℕ) → s ≡ b + t → s ≡ k → f ≡ b → (e + f) + t ≡ e + k
+    there e f b t s k x y z = omega arith
+
+    begins : (e f b t s k : ℕ) → s ≡ b + t → s ≡ k → f ≡ b → e + f ≡ e + k - t
+    begins e f b t s k x y z = omega arith
+
+-- ---- segments without objects
 
 -- what stands before the tail
 abbrev pub before : Bytes
@@ -22,66 +57,60 @@ unfolding number_text
 spelled_before tail = refl
 
 -- the tail of lines is that of what they tell
-pub tail_told : (live : List Run) (named : List (Bytes × Bytes)) (runs : Bytes) (count : ℕ) (refs : Bytes) → AreLines live named runs count refs → tail_with runs count refs ≡ tail_text live named
-tail_told live named runs count refs lines =
-    let rest = line (codes "refs") (number_text (length named)) ++ (flat_map stored_ref named ++ (codes "end" ++ 10 ∷ [])) in
-    (λ i. lines.of_runs i ++ (line (codes "refs") (number_text (lines.counted i)) ++ (lines.of_refs i ++ (codes "end" ++ 10 ∷ []))))
-    ∙ append_assoc (line (codes "runs") (number_text (length live))) (flat_map run_text live) rest
+pub tail_told : (live : List Run) (named : List (Bytes × Bytes)) (count : ℕ) (refs : Bytes) → AreLines named count refs → tail_with live count refs ≡ tail_text live named
+tail_told live named count refs lines = λ i.
+    line (codes "runs") (number_text (length live)) ++ (flat_map run_text live ++ (line (codes "refs") (number_text (lines.counted i)) ++ (lines.of_refs i ++ (codes "end" ++ 10 ∷ []))))
 
 -- a segment of such lines
-pub segment_told : (live : List Run) (named : List (Bytes × Bytes)) (runs : Bytes) (count : ℕ) (refs segment : Bytes) → AreLines live named runs count refs
-    → segment ≡ records_text [] (rows_text 0 [] (tail_with runs count refs)) → segment ≡ segment_text (refs_alone live named)
-segment_told live named runs count refs segment lines e = e ∙ ap (λ z. records_text [] (rows_text 0 [] z)) (tail_told live named runs count refs lines)
+pub segment_told : (live : List Run) (named : List (Bytes × Bytes)) (count : ℕ) (refs segment : Bytes) → AreLines named count refs
+    → segment ≡ records_text [] (rows_text 0 [] (tail_with live count refs)) → segment ≡ segment_text (refs_alone live named)
+segment_told live named count refs segment lines e = e ∙ ap (λ z. records_text [] (rows_text 0 [] z)) (tail_told live named count refs lines)
 
 -- its slot
-pub slot_told : (live : List Run) (named : List (Bytes × Bytes)) (ends : ℕ) (segment : Bytes) → segment ≡ segment_text (refs_alone live named) → slot_of ends segment ≡ next_slot sha256 ends (refs_alone live named)
-slot_told live named ends segment e =
-    let tail = tail_text live named in
-    let spelled : segment ≡ before ++ tail = e ∙ spelled_before tail in
-    let is : drop 18 segment ≡ tail = ap (drop 18) spelled in
-    let long : length (segment_text (refs_alone live named)) ≡ 18 + length tail = ap length (spelled_before tail) ∙ length-append before tail in
-    let ends_are : (ends + 18) + length tail ≡ ends + length (segment_text (refs_alone live named)) = omega arith in
-    let tail_is : ends + 18 ≡ ends + length (segment_text (refs_alone live named)) - length tail = omega arith in
-    (λ i. record { ends = (ends + 18) + length (is i); tail = ends + 18; digest = sha256 (is i) })
-    ∙ (λ i. record { ends = ends_are i; tail = tail_is i; digest = sha256 tail })
-
--- twenty zeros, without those in whose place digits stand
-drop_zeros : (k n : ℕ) → drop {A = ℕ} k (replicate n 48) ≡ replicate (n - k) 48
-drop_zeros zero n = let all : n - 0 ≡ n = omega arith in ap (λ m. replicate m 48) (sym all)
-drop_zeros (suc k) zero = let none : 0 - suc k ≡ 0 = omega arith in ap (λ m. replicate m 48) (sym none)
-drop_zeros (suc k) (suc n) = let less : suc n - suc k ≡ n - k = omega arith in drop_zeros k n ∙ ap (λ m. replicate m 48) (sym less)
-
-pub zeros_left : (k m : ℕ) → 20 - m ≡ 20 - k → drop {A = ℕ} m (replicate 20 48) ≡ replicate (20 - k) 48
-zeros_left k m e = drop_zeros m 20 ∙ ap (λ n. replicate n 48) e
-
--- a number of twenty digits, behind some bytes
-pub long_put : (n : ℕ) (old zeros digits mid new : Bytes) → n < 2 ^ 64 → mid ≡ old ++ zeros → new ≡ mid ++ digits → zeros ≡ replicate (20 - length digits) 48 → digits ≡ decimal n
-    → new ≡ old ++ long_number n
-long_put n old zeros digits mid new small first second z d =
-    let text = d ∙ sym (text_is_decimal n small) in
-    second ∙ ap (λ b. b ++ digits) first ∙ append_assoc old zeros digits ∙ ap (λ b. old ++ (b ++ digits)) z ∙ (λ i. old ++ (replicate (20 - length (text i)) 48 ++ text i))
-
-regroup : (b r w d n f e : Bytes) → ((((((b ++ r) ++ w) ++ d) ++ n) ++ f) ++ e) ≡ b ++ (r ++ ((w ++ (d ++ n)) ++ (f ++ e)))
-regroup b r w d n f e = simp append_assoc
+pub slot_told : (live : List Run) (named : List (Bytes × Bytes)) (ends : ℕ) (segment : Bytes) → segment ≡ segment_text (refs_alone live named) → slot_of ends segment 18 ≡ next_slot sha256 ends (refs_alone live named)
+slot_told live named ends segment e = next_told (refs_alone live named) ends 18 before segment (e ∙ spelled_before (tail_text live named)) e refl
 
 -- the bytes of a segment, put one behind the other
-pub segment_put : (n : ℕ) (runs digits refs a b c d e f g : Bytes) → n < 2 ^ 64 → a ≡ before → b ≡ a ++ runs → c ≡ b ++ (codes "refs" ++ 32 ∷ []) → d ≡ c ++ digits → digits ≡ decimal n
-    → e ≡ d ++ 10 ∷ [] → f ≡ e ++ refs → g ≡ f ++ (codes "end" ++ 10 ∷ []) → g ≡ records_text [] (rows_text 0 [] (tail_with runs n refs))
-segment_put n runs digits refs a b c d e f g small a_is b_is c_is d_is text e_is f_is g_is =
-    let word : Bytes = codes "refs" ++ 32 ∷ [] in
-    let nl : Bytes = 10 ∷ [] in
+pub segment_put : (n : ℕ) (live : List Run) (refs a b c d : Bytes) → a ≡ before → b ≡ a ++ (line (codes "runs") (number_text (length live)) ++ flat_map run_text live) → c ≡ b ++ line (codes "refs") (number_text n)
+    → d ≡ c ++ (refs ++ (codes "end" ++ 10 ∷ [])) → d ≡ records_text [] (rows_text 0 [] (tail_with live n refs))
+segment_put n live refs a b c d a_is b_is c_is d_is =
+    let counted = line (codes "runs") (number_text (length live)) in
+    let runs = flat_map run_text live in
+    let more = line (codes "refs") (number_text n) in
     let last : Bytes = codes "end" ++ 10 ∷ [] in
-    let number = text ∙ sym (text_is_decimal n small) in
-    g_is ∙ ap (λ z. z ++ last) (f_is ∙ ap (λ z. z ++ refs) (e_is ∙ ap (λ z. z ++ nl) (d_is ∙ ap (λ z. z ++ digits) (c_is ∙ ap (λ z. z ++ word) (b_is ∙ ap (λ z. z ++ runs) a_is)))))
-    ∙ regroup before runs word digits nl refs last
-    ∙ ap (λ z. before ++ (runs ++ ((word ++ (z ++ nl)) ++ (refs ++ last)))) number
-    ∙ sym (spelled_before (tail_with runs n refs))
+    d_is ∙ ap (λ z. z ++ (refs ++ last)) (c_is ∙ ap (λ z. z ++ more) (b_is ∙ ap (λ z. z ++ (counted ++ runs)) a_is))
+    ∙ regroup before counted runs more (refs ++ last) ∙ sym (spelled_before (tail_with live n refs))
+  where
+    regroup : (b k r m l : Bytes) → ((b ++ (k ++ r)) ++ m) ++ l ≡ b ++ (k ++ (r ++ (m ++ l)))
+    regroup b k r m l = simp append_assoc
 
--- a segment whose slot ends below 2^63
-pub short_told : (segment tail : Bytes) (ends slot_ends : ℕ) → segment ≡ records_text [] (rows_text 0 [] tail) → slot_ends ≡ (ends + 18) + length (drop 18 segment) → slot_ends < 2 ^ 63
-    → ends + length segment < 2 ^ 63
-short_told segment tail ends slot_ends e f small =
-    let spelled : segment ≡ before ++ tail = e ∙ spelled_before tail in
-    let is : length (drop 18 segment) ≡ length tail = ap (λ z. length (drop 18 z)) spelled in
-    let long : length segment ≡ 18 + length tail = ap length spelled ∙ length-append before tail in
-    omega arith
+-- ---- segments with objects
+
+-- a segment with its tail behind the rest
+pub front_told : (records : List Record) (count : ℕ) (rows digests : Bytes) (runs : List Run) (refs : List (Bytes × Bytes))
+    → front_text records count rows digests ++ tail_text runs refs ≡ segment_text (record { records = records; count = count; table = rows ++ digests; runs = runs; refs = refs })
+front_told records count rows digests runs refs =
+    let counted = line (codes "objects") (number_text (length records)) in
+    let held = flat_map (stored_record Two) records in
+    let more = line (codes "rows") (number_text count) in
+    ap (λ z. ((counted ++ z) ++ (more ++ ((rows ++ digests) ++ (10 ∷ [])))) ++ tail_text runs refs) (append-nil held) ∙ regroup counted held more (rows ++ digests) (tail_text runs refs)
+  where
+    regroup : (k h m t l : Bytes) → ((k ++ h) ++ (m ++ (t ++ (10 ∷ [])))) ++ l ≡ k ++ (h ++ (m ++ (t ++ (10 ∷ l))))
+    regroup k h m t l = simp append_assoc
+
+-- the bytes of a segment, put one behind the other
+pub objects_put : (records : List Record) (count : ℕ) (rows digests : Bytes) (runs : List Run) (refs : List (Bytes × Bytes)) (a b c d e f : Bytes) → a ≡ [] → b ≡ a ++ records_front records → c ≡ b ++ table_front count rows digests
+    → d ≡ c ++ (line (codes "runs") (number_text (length runs)) ++ flat_map run_text runs) → e ≡ d ++ (line (codes "refs") (number_text (length refs)) ++ flat_map stored_ref refs) → f ≡ e ++ (codes "end" ++ 10 ∷ [])
+    → (c ≡ front_text records count rows digests) × (f ≡ front_text records count rows digests ++ tail_text runs refs)
+objects_put records count rows digests runs refs a b c d e f a_is b_is c_is d_is e_is f_is =
+    let front = front_text records count rows digests in
+    let counted = line (codes "runs") (number_text (length runs)) in
+    let live = flat_map run_text runs in
+    let more = line (codes "refs") (number_text (length refs)) in
+    let named = flat_map stored_ref refs in
+    let last : Bytes = codes "end" ++ 10 ∷ [] in
+    let c_front = c_is ∙ ap (λ z. z ++ table_front count rows digests) (b_is ∙ ap (λ z. z ++ records_front records) a_is) in
+    (c_front, f_is ∙ ap (λ z. z ++ last) (e_is ∙ ap (λ z. z ++ (more ++ named)) (d_is ∙ ap (λ z. z ++ (counted ++ live)) c_front)) ∙ regroup front counted live more named last)
+  where
+    regroup : (x k r m n l : Bytes) → ((x ++ (k ++ r)) ++ (m ++ n)) ++ l ≡ x ++ (k ++ (r ++ (m ++ (n ++ l))))
+    regroup x k r m n l = simp append_assoc

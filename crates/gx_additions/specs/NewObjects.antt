@@ -56,7 +56,6 @@ pub record GivesObjects (name : Kind → Bytes → Bytes) (told : Option Bytes) 
   pub is : told ≡ Some file
   pub old : IsGrowingText name sha256 file repository
   pub ends : IsEnding old ending
-  pub held_are : length repository.records ≡ held
   pub front : take held new.records ≡ repository.records
   pub short : length file < 2 ^ 63
 

@@ -5,6 +5,10 @@
 #[cfg(test)]
 mod appended;
 #[cfg(test)]
+mod growing;
+#[cfg(test)]
+mod objects;
+#[cfg(test)]
 mod stopped;
 #[cfg(test)]
 mod texts;

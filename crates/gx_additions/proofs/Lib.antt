@@ -1,4 +1,7 @@
+mod Brought
 mod Growths
+mod MergedRows
+mod Merging
 mod NewRuns
 mod OldTexts
 mod OtherRefs

@@ -1,5 +1,5 @@
 -- The live runs that a new one takes in, and their rows. Source: this project's own format.
-use Rattle.std.specs.Prelude.{◌≡◌, ℕ, ◌+◌, ◌*◌, ◌≤◌, List, [], ◌∷◌, ◌++◌, length, Option, Some, None, ⊤}
+use Rattle.std.specs.Prelude.{◌≡◌, ◌⊎◌, ℕ, ◌+◌, ◌*◌, ◌≤◌, List, [], ◌∷◌, ◌++◌, length, Option, Some, None, ⊤}
 use Rattle.std.specs.List.{sum_by}
 use Rattle.gx_at.specs.Reads.{StandsAt}
 use Rattle.gx_model.specs.Texts.{Bytes}
@@ -23,7 +23,8 @@ AreTakenIn new most (run ∷ runs) = Fits new most (rows_of runs) run.count × A
 
 -- the last of the others isn't
 abbrev pub AreKept : ℕ → ℕ → List GivenRun → List GivenRun → Type 0
-AreKept new most kept taken = (front : List GivenRun) (run : GivenRun) → kept ≡ front ++ run ∷ [] → Fits new most (rows_of taken) run.count → ⊥
+AreKept new most kept taken =
+    (kept ≡ []) ⊎ ((front : List GivenRun) × (run : GivenRun) × (kept ≡ front ++ run ∷ []) × (Fits new most (rows_of taken) run.count → ⊥))
 
 -- ---- their rows
 

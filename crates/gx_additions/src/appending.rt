@@ -1,6 +1,6 @@
 //! Appending what a segment brings.
 
-ghost use Rattle.std.specs.Prelude.{◌≡◌, ◌≢◌, ◌+◌, ◌<◌, ◌≤◌, List, IfErr, IsErr, IsErrOf, OnOk};
+ghost use Rattle.std.specs.Prelude.{◌≡◌, ◌≢◌, ◌+◌, ◌<◌, ◌≤◌, List, IfErr, IsErrOf, OnOk};
 ghost use Rattle.sha2.specs.Sha256.{sha256};
 ghost use Rattle.gx_model.specs.Texts.{Bytes};
 ghost use Rattle.gx_model.specs.Histories.{Records};
@@ -39,24 +39,24 @@ pub fn append_objects<D: Device, N: Namer, A: Allocator + Copy>(
     held: usize,
 ) -> Result<(), AdditionFault>
     ensures reads { (old : Records)
-        → GivesObjects (N.name_of repo.now.0) (D.text device.old) ending old repo.now.1 held
+        → GivesObjects (N.name_of repo.now.0) (D.text device.old) ending.entry old repo.now.1 held
         → LeavesOnly D.moment D.left_since D.may_leave device.old device.new
         (IsReadAsEither (N.name_of repo.now.0) sha256 old repo.now.1) }
     ensures read { OnOk result ((old : Records)
-        → GivesObjects (N.name_of repo.now.0) (D.text device.old) ending old repo.now.1 held
+        → GivesObjects (N.name_of repo.now.0) (D.text device.old) ending.entry old repo.now.1 held
         → IsDurable (D.text device.new) (D.may_leave device.new)
         (IsReadAs (N.name_of repo.now.0) sha256 repo.now.1)) }
     ensures unwritten { IfErr result (λ fault. IsUnwritten fault → (old : Records)
-        → GivesObjects (N.name_of repo.now.0) (D.text device.old) ending old repo.now.1 held
+        → GivesObjects (N.name_of repo.now.0) (D.text device.old) ending.entry old repo.now.1 held
         → LeavesOnly D.moment D.left_since D.may_leave device.old device.new
         (IsReadAs (N.name_of repo.now.0) sha256 old)) }
     ensures cut { IfErr result (λ fault. IsUnwritten fault → (old : Records)
-        → GivesObjects (N.name_of repo.now.0) (D.text device.old) ending old repo.now.1 held
+        → GivesObjects (N.name_of repo.now.0) (D.text device.old) ending.entry old repo.now.1 held
         → D.faults device.new ≤ D.faults device.old + 1 → D.faults device.new < most_faults
         → additions.IsCutBack (N.name_of repo.now.0) (D.text device.old) (D.text device.new)
-        ending.ends old) }
+        ending.entry.ends old) }
     ensures cause { IfErr result (λ fault. IsOfDevice fault → (old : Records)
-        → GivesObjects (N.name_of repo.now.0) (D.text device.old) ending old repo.now.1 held
+        → GivesObjects (N.name_of repo.now.0) (D.text device.old) ending.entry old repo.now.1 held
         → D.faults device.new < most_faults → D.faults device.old < D.faults device.new) }
     ensures memory { IsErrOf result OutOfMemory → device.new ≡ device.old }
     ensures unread { IsErrOf result ReadFailed → device.new ≡ device.old }
@@ -79,27 +79,28 @@ pub fn append_refs<D: Device, A: Allocator + Copy>(
     refs: &[u8],
 ) -> Result<(), AdditionFault>
     ensures reads { ForEachNamer (λ name. (repository : Records) (named : List (Bytes × Bytes))
-        → GivesRefs name (D.text device.old) ending count refs.now repository named
+        → GivesRefs name (D.text device.old) ending.entry count refs.now repository named
         → LeavesOnly D.moment D.left_since D.may_leave device.old device.new
         (IsReadAsEither name sha256 repository (with_refs repository named))) }
     ensures read { OnOk result (ForEachNamer (λ name.
         (repository : Records) (named : List (Bytes × Bytes))
-        → GivesRefs name (D.text device.old) ending count refs.now repository named
+        → GivesRefs name (D.text device.old) ending.entry count refs.now repository named
         → IsDurable (D.text device.new) (D.may_leave device.new)
         (IsReadAs name sha256 (with_refs repository named)))) }
     ensures unwritten { IfErr result (λ fault. IsUnwritten fault → ForEachNamer (λ name.
         (repository : Records) (named : List (Bytes × Bytes))
-        → GivesRefs name (D.text device.old) ending count refs.now repository named
+        → GivesRefs name (D.text device.old) ending.entry count refs.now repository named
         → LeavesOnly D.moment D.left_since D.may_leave device.old device.new
         (IsReadAs name sha256 repository))) }
     ensures cut { IfErr result (λ fault. IsUnwritten fault → ForEachNamer (λ name.
         (repository : Records) (named : List (Bytes × Bytes))
-        → GivesRefs name (D.text device.old) ending count refs.now repository named
+        → GivesRefs name (D.text device.old) ending.entry count refs.now repository named
         → D.faults device.new ≤ D.faults device.old + 1 → D.faults device.new < most_faults
-        → additions.IsCutBack name (D.text device.old) (D.text device.new) ending.ends repository)) }
+        → additions.IsCutBack name (D.text device.old) (D.text device.new)
+        ending.entry.ends repository)) }
     ensures cause { IfErr result (λ fault. IsOfDevice fault → ForEachNamer (λ name.
         (repository : Records) (named : List (Bytes × Bytes))
-        → GivesRefs name (D.text device.old) ending count refs.now repository named
+        → GivesRefs name (D.text device.old) ending.entry count refs.now repository named
         → D.faults device.new < most_faults → D.faults device.old < D.faults device.new)) }
     ensures memory { IsErrOf result OutOfMemory → device.new ≡ device.old }
     ensures no_read { IfErr result (λ fault. fault ≢ ReadFailed) }
@@ -115,31 +116,37 @@ fn append_addition<D: Device, A: Allocator>(
     added: &Addition<A>,
 ) -> Result<(), AdditionFault>
     ensures reads { ForEachNamer (λ name. (repository new : Records)
-        → IsGrowth name sha256 (D.text device.old) ending.is_first ending.ends
-        added.now.segment.items added.now.slot.items repository new
+        → IsGrowth name sha256 (D.text device.old)
+        ending.entry.is_first ending.entry.ends added.now.segment.items
+        added.now.slot.items repository new
         → LeavesOnly D.moment D.left_since D.may_leave device.old device.new
         (IsReadAsEither name sha256 repository new)) }
     ensures read { OnOk result (ForEachNamer (λ name. (repository new : Records)
-        → IsGrowth name sha256 (D.text device.old) ending.is_first ending.ends
-        added.now.segment.items added.now.slot.items repository new
+        → IsGrowth name sha256 (D.text device.old)
+        ending.entry.is_first ending.entry.ends added.now.segment.items
+        added.now.slot.items repository new
         → IsDurable (D.text device.new) (D.may_leave device.new)
         (IsReadAs name sha256 new))) }
     ensures unwritten { IfErr result (λ fault. IsUnwritten fault → ForEachNamer (λ name.
         (repository new : Records)
-        → IsGrowth name sha256 (D.text device.old) ending.is_first ending.ends
-        added.now.segment.items added.now.slot.items repository new
+        → IsGrowth name sha256 (D.text device.old)
+        ending.entry.is_first ending.entry.ends added.now.segment.items
+        added.now.slot.items repository new
         → LeavesOnly D.moment D.left_since D.may_leave device.old device.new
         (IsReadAs name sha256 repository))) }
     ensures cut { IfErr result (λ fault. IsUnwritten fault → ForEachNamer (λ name.
         (repository new : Records)
-        → IsGrowth name sha256 (D.text device.old) ending.is_first ending.ends
-        added.now.segment.items added.now.slot.items repository new
+        → IsGrowth name sha256 (D.text device.old)
+        ending.entry.is_first ending.entry.ends added.now.segment.items
+        added.now.slot.items repository new
         → D.faults device.new ≤ D.faults device.old + 1 → D.faults device.new < most_faults
-        → additions.IsCutBack name (D.text device.old) (D.text device.new) ending.ends repository)) }
-    ensures cause { IsErr result → ForEachNamer (λ name. (repository new : Records)
-        → IsGrowth name sha256 (D.text device.old) ending.is_first ending.ends
-        added.now.segment.items added.now.slot.items repository new
-        → D.faults device.new < most_faults → D.faults device.old < D.faults device.new) }
+        → additions.IsCutBack name (D.text device.old) (D.text device.new)
+        ending.entry.ends repository)) }
+    ensures cause { IfErr result (λ fault. ForEachNamer (λ name. (repository new : Records)
+        → IsGrowth name sha256 (D.text device.old)
+        ending.entry.is_first ending.entry.ends added.now.segment.items
+        added.now.slot.items repository new
+        → D.faults device.new < most_faults → D.faults device.old < D.faults device.new)) }
     ensures fault { IfErr result IsOfDevice }
 {
     let segment = added.segment.as_slice();

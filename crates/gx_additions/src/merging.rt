@@ -1,8 +1,8 @@
 //! The live runs that a new one takes in.
 
-ghost use Rattle.std.specs.Prelude.{◌≡◌, ◌++◌, ◌+◌, ◌*◌, ◌≤◌, ◌&&◌, drop, length, map, nat_le, take, IfOk, OnOk};
+ghost use Rattle.std.specs.Prelude.{◌≡◌, ◌++◌, ◌≤◌, drop, length, map, take, true, false, IfOk, OnOk};
 ghost use Rattle.gx_growing_parts.specs.Shown.{shown_run};
-ghost use Rattle.gx_additions.specs.Merging.{AddsRows, AreKept, AreTakenIn, ReadsRows};
+ghost use Rattle.gx_additions.specs.Merging.{AddsRows, AreKept, AreTakenIn, Fits, ReadsRows};
 
 use crate::fault::AdditionFault;
 use gx_at::{ReadAt, fill_at};
@@ -41,7 +41,8 @@ fn kept_runs(runs: &[Run], new: u64, most: u64) -> usize
 /// Whether a run of so many rows is taken in where those of others are, beside new ones.
 fn is_taken_in(count: u64, rows: u64, new: u64, most: u64) -> bool
     requires { rows ≤ most }
-    ensures { result ≡ (nat_le (rows + count) most && nat_le count (2 * (rows + new))) }
+    ensures fits { result ≡ true → Fits new most rows count }
+    ensures too_many { result ≡ false → Fits new most rows count → ⊥ }
 {
     if count > most - rows {
         return false;

@@ -27,7 +27,8 @@ pub(crate) fn new_objects<S: ReadAt, N: Namer, A: Allocator + Copy>(
     held: usize,
 ) -> Result<Addition<A>, AdditionFault>
     ensures { IfOk result (λ made.
-        BringsObjects (S.text source.now) ending repo.now.1 held made.segment.items made.slot.items) }
+        BringsObjects (S.text source.now) ending.entry repo.now.1 held
+        made.segment.items made.slot.items) }
 {
     let store = repo.store();
     let new = store.len().saturating_sub(held);

@@ -26,12 +26,14 @@ pub fn refs_alone<A: Allocator + Copy>(
 ) -> Result<Addition<A>, AllocError>
     ensures segment { IfOk result (λ made. (named : List (Bytes × Bytes))
         → AreLines named count refs.now
-        → made.segment.items ≡ segment_text (refs_alone (map shown_run ending.runs.now) named)) }
+        → made.segment.items
+        ≡ segment_text (refs_alone (map shown_run ending.entry.runs.now) named)) }
     ensures slot { IfOk result (λ made. (named : List (Bytes × Bytes))
         → AreLines named count refs.now
         → made.slot.items ≡ slot_text
-        (next_slot sha256 ending.ends (refs_alone (map shown_run ending.runs.now) named))) }
-    ensures short { IfOk result (λ made. ending.ends + length made.segment.items < 2 ^ 63) }
+        (next_slot sha256 ending.entry.ends
+        (refs_alone (map shown_run ending.entry.runs.now) named))) }
+    ensures short { IfOk result (λ made. ending.entry.ends + length made.segment.items < 2 ^ 63) }
 {
     let segment = segment_of(alloc, ending.runs, count, refs)?;
     with_slot(alloc, ending.ends, segment, 18)

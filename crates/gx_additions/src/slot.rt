@@ -26,7 +26,7 @@ pub(crate) fn with_slot<A: Allocator + Copy>(
     ensures segment { IfOk result (λ made. made.segment.items ≡ segment.items) }
     ensures slot { IfOk result (λ made.
         made.slot.items ≡ slot_text (slot_of ends segment.items front)) }
-    ensures short { IfOk result (λ made. ends + length segment.items < 2 ^ 63) }
+    ensures short { IfOk result (λ made. ends + length made.segment.items < 2 ^ 63) }
 {
     let Some(slot) = slot_behind(ends, segment.as_slice(), front) else {
         return Err(AllocError);

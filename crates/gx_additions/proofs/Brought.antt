@@ -15,9 +15,9 @@ use Rattle.gx_growing_parts.specs.declared.runs.Run.{Run as GivenRun}
 use Rattle.gx_growing_rows.specs.declared.laying.Table.{Table}
 use Rattle.gx_growing_rows.specs.NextTable.{next_place, next_rows}
 use Rattle.gx_growing_rows.proofs.RisingRows.{rows_long}
-use Rattle.gx_additions.specs.Merging.{ReadsRows, rows_told}
-use Rattle.gx_additions.specs.NewObjects.{BringsObjects, IsLaidOut, laid_out, new_objects, run_of}
-use Rattle.gx_additions.specs.Parts.{front_text, slot_of}
+use Rattle.gx_additions.specs.Merging.{ReadsRows, rows_shown}
+use Rattle.gx_additions.specs.NewObjects.{BringsObjects, IsLaidOut, laid_out, new_objects, new_run}
+use Rattle.gx_additions.specs.Parts.{before_tail, slot_of}
 use Rattle.gx_additions.proofs.Spelled.{front_told, next_told}
 
 -- so many rows are those of the new records and those that are taken in
@@ -27,11 +27,11 @@ many_rows ends taken new =
 
 module _ {A : Type 0} (ends : ℕ) (records : List Record) (refs : List (Bytes × Bytes)) (kept : List Run) (count : ℕ) (table : Table A) where
   -- The bytes of the parts are those of a segment, and the slot is its own.
-  pub parts_laid_out : (runs : List Run) (front : ℕ) (bytes segment slot : Bytes) → runs ≡ kept ++ run_of sha256 table.place count table.digests.items → front ≡ length (front_text records count table.rows.items table.digests.items)
-      → bytes ≡ front_text records count table.rows.items table.digests.items ++ tail_text runs refs → segment ≡ bytes → slot ≡ slot_text (slot_of ends bytes front) → ends + length segment < 2 ^ 63
+  pub parts_laid_out : (runs : List Run) (front : ℕ) (bytes segment slot : Bytes) → runs ≡ kept ++ new_run sha256 table.place count table.digests.items → front ≡ length (before_tail records count table.rows.items table.digests.items)
+      → bytes ≡ before_tail records count table.rows.items table.digests.items ++ tail_text runs refs → segment ≡ bytes → slot ≡ slot_text (slot_of ends bytes front) → ends + length segment < 2 ^ 63
       → IsLaidOut ends records refs kept count table segment slot
   parts_laid_out runs front bytes segment slot r f b s t short =
-      let before = front_text records count table.rows.items table.digests.items in
+      let before = before_tail records count table.rows.items table.digests.items in
       let whole = laid_out records refs kept count table in
       let parts : bytes ≡ before ++ tail_text whole.runs refs = b ∙ ap (λ z. before ++ tail_text z refs) r in
       let is : bytes ≡ segment_text whole = parts ∙ front_told records count table.rows.items table.digests.items whole.runs refs in
@@ -44,7 +44,7 @@ module _ {A : Type 0} (ends : ℕ) (records : List Record) (refs : List (Bytes �
       let many = counted ∙ ap (λ k. k + length records) (sym long) ∙ sym (many_rows ends taken records) in
       let place = p ∙ ap (next_place ends records) (sym long) in
       let digests = d ∙ ap (page_digests sha256) r in
-      λ i. record { records = records; count = many i; table = r i ++ digests i; runs = kept ++ run_of sha256 (place i) (many i) (digests i); refs = refs }
+      λ i. record { records = records; count = many i; table = r i ++ digests i; runs = kept ++ new_run sha256 (place i) (many i) (digests i); refs = refs }
 
 module _ {A : Type 0} (ending : Ending) (new : Records) (held : ℕ) (kept taken : List GivenRun) (rows : Bytes) (count many : ℕ) (table : Table A) (segment slot : Bytes) where
   abbrev news : List Record
@@ -55,7 +55,7 @@ module _ {A : Type 0} (ending : Ending) (new : Records) (held : ℕ) (kept taken
       → count ≡ length rows / 28 + many → many ≡ length new.records - held → IsLaidOut ending.ends news new.refs (map shown_run kept) count table segment slot → BringsObjects told ending new held segment slot
   brought None runs read place rows_are digests counted few laid = tt
   brought (Some file) runs read place rows_are digests counted few laid =
-      let n = rows_told (map shown_run taken) in
+      let n = rows_shown (map shown_run taken) in
       let live = live_rows file (map shown_run taken) in
       let long : length live ≡ n = ap length (sym read.1) ∙ rows_long n rows in
       let is = rows_laid_out ending.ends news new.refs (map shown_run kept) count table n live long (sums count (length rows) many n (length new.records) (length news) read.0 counted few (length-drop held new.records)) (place n read.0)

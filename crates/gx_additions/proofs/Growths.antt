@@ -5,6 +5,7 @@ use Rattle.sha2.specs.Sha256.{sha256}
 use Rattle.gx_model.specs.declared.objects.Kind.{Kind}
 use Rattle.gx_model.specs.Texts.{Bytes}
 use Rattle.gx_model.specs.Histories.{Records}
+use Rattle.gx_model.specs.Laws.RepositoryLaws.{with_refs}
 use Rattle.gx_model.specs.Records.Sound.{IsSound}
 use Rattle.gx_model.specs.Objects.{IsNamer}
 use Rattle.gx_growing.specs.GrowingText.{live_rows, segment_text, slot_text}
@@ -15,7 +16,7 @@ use Rattle.gx_growing_parts.proofs.Digesters.{digester}
 use Rattle.gx_append.specs.Appending as appends
 use Rattle.gx_append.specs.Appending.{IsAsked, IsGrowth, IsReadAs, Shows}
 use Rattle.gx_append.proofs.Readings.{before_read, growth_asked, segments_of}
-use Rattle.gx_additions.specs.Additions.{GivesRefs, IsCutBack, refs_alone, with_refs}
+use Rattle.gx_additions.specs.Additions.{GivesRefs, IsCutBack, refs_alone}
 use Rattle.gx_additions.specs.NewObjects.{BringsObjects, GivesObjects, IsBrought, new_objects}
 use Rattle.gx_additions.proofs.NewRuns.{additions_taken}
 use Rattle.gx_additions.proofs.OtherRefs.{refs_taken}

@@ -1,7 +1,6 @@
 mod Brought
 mod Growths
 mod MergedRows
-mod Merging
 mod NewRuns
 mod OldTexts
 mod OtherRefs

@@ -8,7 +8,7 @@ use Rattle.std.proofs.lemmas.List.Sums.{sum_by-append, sum_by-cons}
 use Rattle.gx_model.specs.Texts.{Bytes}
 use Rattle.gx_growing.specs.GrowingText.{Run, live_rows, part, rows_in, run_rows}
 use Rattle.gx_growing_rows.proofs.RisingRows.{rows_cut}
-use Rattle.gx_additions.specs.Merging.{AddsRows, ReadsRows, rows_told}
+use Rattle.gx_additions.specs.Merging.{AddsRows, ReadsRows, rows_shown}
 
 -- rows of bytes, and of more behind them
 rows_both : (n m : ℕ) (x y : Bytes) → length x ≡ 28 * n → rows_in (n + m) (x ++ y) ≡ rows_in n x ++ rows_in m y
@@ -32,8 +32,8 @@ none_read (Some text) = (refl, refl)
 pub one_read : (told : Option Bytes) (runs : List Run) (run : Run) (old new : Bytes) → ReadsRows told runs old → AddsRows told run old new → ReadsRows told (runs ++ run ∷ []) new
 one_read None runs run old new h a = tt
 one_read (Some text) runs run old new h a =
-    let n = rows_told runs in
-    let sum : rows_told (runs ++ run ∷ []) ≡ n + run.count = plus (rows_told (runs ++ run ∷ [])) n (rows_told (run ∷ [])) run.count (rows_told []) (sum_by-append (λ (r : Run). r.count) runs (run ∷ [])) (sum_by-cons (λ (r : Run). r.count) run []) refl in
+    let n = rows_shown runs in
+    let sum : rows_shown (runs ++ run ∷ []) ≡ n + run.count = plus (rows_shown (runs ++ run ∷ [])) n (rows_shown (run ∷ [])) run.count (rows_shown []) (sum_by-append (λ (r : Run). r.count) runs (run ∷ [])) (sum_by-cons (λ (r : Run). r.count) run []) refl in
     let bytes : a.bytes ≡ take (28 * run.count) (drop run.place text) = a.there ∙ ap (λ k. take k (drop run.place text)) a.long in
     let more : rows_in run.count a.bytes ≡ run_rows text run = ap (rows_in run.count) bytes ∙ rows_cut run.count (drop run.place text) in (
       ap length a.added ∙ length-append old a.bytes ∙ (λ i. h.0 i + a.long i) ∙ times n run.count ∙ ap (λ k. 28 * k) (sym sum),

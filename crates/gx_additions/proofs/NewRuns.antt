@@ -24,7 +24,7 @@ use Rattle.gx_growing.proofs.StandingRuns.{IsRow, pages_long, rows_long, run_has
 use Rattle.gx_growing_rows.specs.NextTable.{next_place, next_rows}
 use Rattle.gx_growing_rows.proofs.JoinedRows.{held_apart, joined_rise, joined_told}
 use Rattle.gx_append.specs.Appending.{Takes}
-use Rattle.gx_additions.specs.NewObjects.{new_objects, run_of}
+use Rattle.gx_additions.specs.NewObjects.{new_objects, new_run}
 use Rattle.gx_additions.proofs.OldTexts.{all_rows, all_stand, last_is, old_part, segments_of, up_to}
 use Rattle.gx_additions.proofs.RowLists.{Names, all_behind, named_rows, names_both, placed_named, records_within, rows_named}
 
@@ -35,13 +35,13 @@ all_both P (x ∷ xs) ys h g = (h.0, all_both P xs ys h.1 g)
 
 -- what holds of a run of some rows holds of the run of rows, if there are any
 run_all : (digest : Bytes → Bytes) (P : Run → Type 0) (place : ℕ) (rows : List Row) (digests : Bytes) → P (record { place = place; count = length rows; digest = digest digests })
-    → AllByRecursion P (run_of digest place (length rows) digests)
+    → AllByRecursion P (new_run digest place (length rows) digests)
 run_all digest P place [] digests p = tt
 run_all digest P place (x ∷ xs) digests p = (p, tt)
 
 -- so it is with its rows
 run_live : (digest : Bytes → Bytes) (text : Bytes) (place : ℕ) (rows : List Row) (digests : Bytes) → run_rows text (record { place = place; count = length rows; digest = digest digests }) ≡ rows
-    → live_rows text (run_of digest place (length rows) digests) ≡ rows
+    → live_rows text (new_run digest place (length rows) digests) ≡ rows
 run_live digest text place [] digests e = refl
 run_live digest text place (x ∷ xs) digests e = append-nil (run_rows text (record { place = place; count = length (x ∷ xs); digest = digest digests })) ∙ e
 
@@ -197,7 +197,7 @@ module _ (name : Kind → Bytes → Bytes) (namer : IsNamer name) (digest : Byte
         subst (λ z. StandsIn digest z run) (sym split)
         (subst (StandsIn digest (table_text digest digester front (10 ∷ tail) rows rows_are)) (sym run_is) (run_stands digest digester front (10 ∷ tail) rows rows_are (omega (arith, a, b)) rows_rise))
 
-    rows_there : live_rows grown (run_of digest place (length rows) pages) ≡ rows
+    rows_there : live_rows grown (new_run digest place (length rows) pages) ≡ rows
     rows_there = run_live digest grown place rows pages ((λ i. run_rows (split i) (run_is i)) ∙ run_has digest digester front (10 ∷ tail) rows rows_are)
 
     -- ---- all runs
@@ -209,14 +209,14 @@ module _ (name : Kind → Bytes → Bytes) (namer : IsNamer name) (digest : Byte
 
     live : AllByRecursion (StandsIn digest grown) segment.runs
     live =
-        all_both (StandsIn digest grown) kept (run_of digest place (length rows) pages)
+        all_both (StandsIn digest grown) kept (new_run digest place (length rows) pages)
         (subst (λ z. AllByRecursion (StandsIn digest (head_text pick first second ++ (z ++ segment_text segment))) kept) (sym (old_part name digest text repository old))
         (all_stand digest old_head (head_text pick first second) segments (segment_text segment) old_long (head_long pick first second head) kept (all_left (StandsIn digest (old_head ++ segments)) kept taken live_before)))
         (run_all digest (StandsIn digest grown) place rows pages stands)
 
     told : sorted_rows (live_rows grown segment.runs) ≡ sorted_rows in_order
     told =
-        ap sorted_rows (flat_map-append (run_rows grown) kept (run_of digest place (length rows) pages) ∙ (λ i. in_grown i ++ rows_there i))
+        ap sorted_rows (flat_map-append (run_rows grown) kept (new_run digest place (length rows) pages) ∙ (λ i. in_grown i ++ rows_there i))
         ∙ joined_told (live_rows (old_head ++ segments) kept) (live_rows text taken) (placed_rows head_length all) new_rows told_apart
 
   -- ---- the segment
@@ -243,7 +243,7 @@ module _ (name : Kind → Bytes → Bytes) (namer : IsNamer name) (digest : Byte
   whole : IsSegment segment
   whole = record {
     table = table_long;
-    runs = all_both IsRun kept (run_of digest place (length rows) pages) (all_left IsRun kept taken (subst (AllByRecursion IsRun) (sym runs_are) (last_is name [] old.before old.last old.segments).runs)) (run_all digest IsRun place rows pages is_run);
+    runs = all_both IsRun kept (new_run digest place (length rows) pages) (all_left IsRun kept taken (subst (AllByRecursion IsRun) (sym runs_are) (last_is name [] old.before old.last old.segments).runs)) (run_all digest IsRun place rows pages is_run);
   }
 
   pub additions_taken : Takes name digest text repository new old segment

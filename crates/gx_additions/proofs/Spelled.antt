@@ -15,7 +15,7 @@ use Rattle.gx_model.specs.Stores.StoreText.{stored_record, stored_ref}
 use Rattle.gx_growing.specs.GrowingLaws.{next_slot}
 use Rattle.gx_growing.specs.GrowingText.{Run, Segment, long_number, records_text, rows_text, run_text, segment_text, tail_text}
 use Rattle.gx_additions.specs.Additions.{AreLines, refs_alone, tail_with}
-use Rattle.gx_additions.specs.Parts.{front_text, records_front, slot_of, table_front}
+use Rattle.gx_additions.specs.Parts.{before_tail, records_front, slot_of, table_front}
 
 -- ---- slots
 
@@ -88,7 +88,7 @@ segment_put n live refs a b c d a_is b_is c_is d_is =
 
 -- a segment with its tail behind the rest
 pub front_told : (records : List Record) (count : ℕ) (rows digests : Bytes) (runs : List Run) (refs : List (Bytes × Bytes))
-    → front_text records count rows digests ++ tail_text runs refs ≡ segment_text (record { records = records; count = count; table = rows ++ digests; runs = runs; refs = refs })
+    → before_tail records count rows digests ++ tail_text runs refs ≡ segment_text (record { records = records; count = count; table = rows ++ digests; runs = runs; refs = refs })
 front_told records count rows digests runs refs =
     let counted = line (codes "objects") (number_text (length records)) in
     let held = flat_map (stored_record Two) records in
@@ -101,9 +101,9 @@ front_told records count rows digests runs refs =
 -- the bytes of a segment, put one behind the other
 pub objects_put : (records : List Record) (count : ℕ) (rows digests : Bytes) (runs : List Run) (refs : List (Bytes × Bytes)) (a b c d e f : Bytes) → a ≡ [] → b ≡ a ++ records_front records → c ≡ b ++ table_front count rows digests
     → d ≡ c ++ (line (codes "runs") (number_text (length runs)) ++ flat_map run_text runs) → e ≡ d ++ (line (codes "refs") (number_text (length refs)) ++ flat_map stored_ref refs) → f ≡ e ++ (codes "end" ++ 10 ∷ [])
-    → (c ≡ front_text records count rows digests) × (f ≡ front_text records count rows digests ++ tail_text runs refs)
+    → (c ≡ before_tail records count rows digests) × (f ≡ before_tail records count rows digests ++ tail_text runs refs)
 objects_put records count rows digests runs refs a b c d e f a_is b_is c_is d_is e_is f_is =
-    let front = front_text records count rows digests in
+    let front = before_tail records count rows digests in
     let counted = line (codes "runs") (number_text (length runs)) in
     let live = flat_map run_text runs in
     let more = line (codes "refs") (number_text (length refs)) in

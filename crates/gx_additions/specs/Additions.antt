@@ -5,6 +5,7 @@ use Rattle.sha2.specs.Sha256.{sha256}
 use Rattle.gx_model.specs.declared.objects.Kind.{Kind}
 use Rattle.gx_model.specs.Texts.{Bytes}
 use Rattle.gx_model.specs.Histories.{Records}
+use Rattle.gx_model.specs.Laws.RepositoryLaws.{with_refs}
 use Rattle.gx_model.specs.Records.Sound.{IsSound}
 use Rattle.gx_model.specs.Texts.Numbers.{number_text}
 use Rattle.gx_model.specs.Objects.{line}
@@ -38,10 +39,6 @@ tail_with runs count refs =
     line (codes "runs") (number_text (length runs)) ++ (flat_map run_text runs ++ (line (codes "refs") (number_text count) ++ (refs ++ (codes "end" ++ 10 ∷ []))))
 
 -- ---- appending them
-
--- a repository with other refs
-abbrev pub with_refs : Records → List (Bytes × Bytes) → Records
-with_refs repository refs = record { records = repository.records; refs = refs }
 
 -- A file is told that is a growing text of a repository, with this ending, and the lines are given of refs that the repository may
 -- have.

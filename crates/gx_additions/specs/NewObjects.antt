@@ -17,9 +17,9 @@ use Rattle.gx_append.specs.Appending.{Takes}
 
 module _ (digest : Bytes → Bytes) where
   -- the run of so many rows at a place, whose pages have these digests, and none where there are no rows
-  abbrev pub run_of : ℕ → ℕ → Bytes → List Run
-  run_of place zero digests = []
-  run_of place (suc rows) digests = record { place = place; count = suc rows; digest = digest digests } ∷ []
+  abbrev pub new_run : ℕ → ℕ → Bytes → List Run
+  new_run place zero digests = []
+  new_run place (suc rows) digests = record { place = place; count = suc rows; digest = digest digests } ∷ []
 
   -- The segment behind a place that brings these records and refs. Its rows are those of the records and of runs that it takes in;
   -- the other live runs stay.
@@ -30,7 +30,7 @@ module _ (digest : Bytes → Bytes) where
         records = new;
         count = length rows;
         table = flat_map row_text rows ++ page_digests digest (flat_map row_text rows);
-        runs = kept ++ run_of (next_place ends new (length taken)) (length rows) (page_digests digest (flat_map row_text rows));
+        runs = kept ++ new_run (next_place ends new (length taken)) (length rows) (page_digests digest (flat_map row_text rows));
         refs = refs;
       }
 
@@ -45,7 +45,7 @@ pub record AdditionsAreTaken (name : Kind → Bytes → Bytes) : Type 0 where
 -- the segment with a table of so many rows
 abbrev pub laid_out : {A : Type 0} → List Record → List (Bytes × Bytes) → List Run → ℕ → Table A → Segment
 laid_out records refs kept count table =
-    record { records = records; count = count; table = table.rows.items ++ table.digests.items; runs = kept ++ run_of sha256 table.place count table.digests.items; refs = refs }
+    record { records = records; count = count; table = table.rows.items ++ table.digests.items; runs = kept ++ new_run sha256 table.place count table.digests.items; refs = refs }
 
 -- ---- appending them
 

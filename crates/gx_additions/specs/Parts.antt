@@ -2,7 +2,6 @@
 use Rattle.std.specs.Prelude.{ℕ, ◌+◌, List, [], ◌∷◌, ◌++◌, drop, length}
 use Rattle.std.specs.List.{flat_map}
 use Rattle.sha2.specs.Sha256.{sha256}
-use Rattle.gx_model.specs.declared.objects.Kind.{Kind}
 use Rattle.gx_model.specs.declared.store_versions.Version.TheVariants.{Two}
 use Rattle.gx_model.specs.Histories.{Record}
 use Rattle.gx_model.specs.Texts.{Bytes}
@@ -10,10 +9,6 @@ use Rattle.gx_model.specs.Objects.{line}
 use Rattle.gx_model.specs.Stores.StoreText.{length_text, stored_record}
 use Rattle.gx_object.specs.declared.name.Name.{Name}
 use Rattle.gx_growing.specs.GrowingText.{Slot, records_text, rows_text}
-
--- a record of this name
-abbrev pub record_called : Name → Kind → Bytes → Bytes
-record_called name kind body = stored_record Two (record { name = name.bytes; kind = kind; body = body })
 
 -- a body behind its line, which begins with this word
 abbrev pub body_called : Bytes → Name → Bytes → Bytes
@@ -28,8 +23,8 @@ abbrev pub table_front : ℕ → Bytes → Bytes → Bytes
 table_front count rows digests = rows_text count (rows ++ digests) []
 
 -- what stands before the tail of a segment
-abbrev pub front_text : List Record → ℕ → Bytes → Bytes → Bytes
-front_text records count rows digests = records_front records ++ table_front count rows digests
+abbrev pub before_tail : List Record → ℕ → Bytes → Bytes → Bytes
+before_tail records count rows digests = records_front records ++ table_front count rows digests
 
 -- the slot of a segment behind a place, of which so many bytes stand before its tail
 abbrev pub slot_of : ℕ → Bytes → ℕ → Slot

@@ -1,8 +1,9 @@
 //! The live runs that a new one takes in.
 
-ghost use Rattle.std.specs.Prelude.{◌≡◌, ◌++◌, ◌≤◌, drop, length, map, take, true, false, IfOk, OnOk};
+ghost use Rattle.std.specs.Prelude.{◌≡◌, ◌++◌, ◌≤◌, drop, length, map, take, true, false, IfErr, IfOk, OnOk};
 ghost use Rattle.gx_growing_parts.specs.Shown.{shown_run};
-ghost use Rattle.gx_additions.specs.Merging.{AddsRows, AreKept, AreTakenIn, Fits, ReadsRows};
+ghost use Rattle.gx_additions.specs.Faults.{IsOfDevice};
+ghost use Rattle.gx_additions.specs.Merging.{AddsRows, StayLive, AreTakenIn, Fits, ReadsRows};
 
 use crate::fault::AdditionFault;
 use gx_at::{ReadAt, fill_at};
@@ -14,7 +15,7 @@ use std::alloc::Allocator;
 pub(crate) fn split_runs(runs: &[Run], new: u64, most: u64) -> (&[Run], &[Run])
     ensures runs { result.0.now ++ result.1.now ≡ runs.now }
     ensures taken { AreTakenIn new most result.1.now }
-    ensures kept { AreKept new most result.0.now result.1.now }
+    ensures kept { StayLive new most result.0.now result.1.now }
 {
     runs.split_at(kept_runs(runs, new, most))
 }
@@ -23,7 +24,7 @@ pub(crate) fn split_runs(runs: &[Run], new: u64, most: u64) -> (&[Run], &[Run])
 fn kept_runs(runs: &[Run], new: u64, most: u64) -> usize
     ensures runs { result ≤ length runs.now }
     ensures taken { AreTakenIn new most (drop result runs.now) }
-    ensures kept { AreKept new most (take result runs.now) (drop result runs.now) }
+    ensures kept { StayLive new most (take result runs.now) (drop result runs.now) }
 {
     let mut kept = runs.len();
     let mut rows = 0;
@@ -62,8 +63,9 @@ pub(crate) fn read_rows<S: ReadAt, A: Allocator + Copy>(
     source: &S,
     runs: &[Run],
 ) -> Result<Vec<u8, A>, AdditionFault>
-    ensures { IfOk result (λ rows.
+    ensures rows { IfOk result (λ rows.
         ReadsRows (S.text source.now) (map shown_run runs.now) rows.items) }
+    ensures fault { IfErr result (λ fault. IsOfDevice fault → ⊥) }
 {
     let mut rows = Vec::new(alloc);
     for run in runs {
@@ -78,8 +80,9 @@ fn read_run<S: ReadAt, A: Allocator + Copy>(
     run: &Run,
     rows: &mut Vec<u8, A>,
 ) -> Result<(), AdditionFault>
-    ensures { OnOk result
+    ensures rows { OnOk result
         (AddsRows (S.text source.now) (shown_run run.now) rows.old.items rows.new.items) }
+    ensures fault { IfErr result (λ fault. IsOfDevice fault → ⊥) }
 {
     let done = rows.len();
     let Some(length) = run.count.checked_mul(28) else {

@@ -1,11 +1,12 @@
 //! The segment by which a growing text has new objects.
 
-ghost use Rattle.std.specs.Prelude.{◌≡◌, ◌++◌, drop, length, map, IfOk};
+ghost use Rattle.std.specs.Prelude.{◌≡◌, ◌++◌, drop, length, map, IfErr, IfOk};
 ghost use Rattle.sha2.specs.Sha256.{sha256};
 ghost use Rattle.gx_growing.specs.GrowingText.{tail_text};
 ghost use Rattle.gx_growing_parts.specs.Shown.{shown_run};
-ghost use Rattle.gx_additions.specs.NewObjects.{BringsObjects, IsLaidOut, run_of};
-ghost use Rattle.gx_additions.specs.Parts.{front_text};
+ghost use Rattle.gx_additions.specs.Faults.{IsOfDevice};
+ghost use Rattle.gx_additions.specs.NewObjects.{BringsObjects, IsLaidOut, new_run};
+ghost use Rattle.gx_additions.specs.Parts.{before_tail};
 
 use crate::fault::AdditionFault;
 use crate::merging::{read_rows, split_runs};
@@ -26,9 +27,10 @@ pub(crate) fn new_objects<S: ReadAt, N: Namer, A: Allocator + Copy>(
     repo: &Repo<N, A>,
     held: usize,
 ) -> Result<Addition<A>, AdditionFault>
-    ensures { IfOk result (λ made.
+    ensures objects { IfOk result (λ made.
         BringsObjects (S.text source.now) ending.entry repo.now.1 held
         made.segment.items made.slot.items) }
+    ensures fault { IfErr result (λ fault. IsOfDevice fault → ⊥) }
 {
     let store = repo.store();
     let new = store.len().saturating_sub(held);
@@ -68,7 +70,7 @@ fn runs_with<A: Allocator + Copy>(
     table: &Table<A>,
 ) -> Result<Vec<Run, A>, AllocError>
     ensures { IfOk result (λ runs. map shown_run runs.items ≡ map shown_run kept.now
-        ++ run_of sha256 table.now.place count table.now.digests.items) }
+        ++ new_run sha256 table.now.place count table.now.digests.items) }
 {
     let mut runs = Vec::from_slice(alloc, kept)?;
     if count > 0 {
@@ -93,9 +95,9 @@ fn segment_of<N: Namer, A: Allocator + Copy>(
     table: &Table<A>,
     runs: &[Run],
 ) -> Result<(Vec<u8, A>, usize), AllocError>
-    ensures front { IfOk result (λ made. made.1 ≡ length (front_text
+    ensures front { IfOk result (λ made. made.1 ≡ length (before_tail
         (drop held repo.now.1.records) count table.now.rows.items table.now.digests.items)) }
-    ensures segment { IfOk result (λ made. made.0.items ≡ front_text
+    ensures segment { IfOk result (λ made. made.0.items ≡ before_tail
         (drop held repo.now.1.records) count table.now.rows.items table.now.digests.items
         ++ tail_text (map shown_run runs.now) repo.now.1.refs) }
 {

@@ -2,12 +2,13 @@
 
 ghost use Rattle.std.specs.Prelude.{◌≡◌, ◌++◌, codes, drop, length, map, OnOk};
 ghost use Rattle.std.specs.List.{flat_map};
+ghost use Rattle.gx_model.specs.declared.store_versions.Version.TheVariants.{Two};
 ghost use Rattle.gx_model.specs.Objects.{line};
 ghost use Rattle.gx_model.specs.Texts.Numbers.{number_text};
-ghost use Rattle.gx_model.specs.Stores.StoreText.{stored_ref};
+ghost use Rattle.gx_model.specs.Stores.StoreText.{stored_record, stored_ref};
 ghost use Rattle.gx_growing.specs.GrowingText.{run_text};
 ghost use Rattle.gx_growing_parts.specs.Shown.{shown_run};
-ghost use Rattle.gx_additions.specs.Parts.{body_called, record_called, records_front, table_front};
+ghost use Rattle.gx_additions.specs.Parts.{body_called, records_front, table_front};
 
 use gx_growing_parts::{Run, digest_digits};
 use gx_growing_rows::Table;
@@ -44,8 +45,8 @@ fn put_record<A: Allocator>(
     kind: Kind,
     body: &[u8],
 ) -> Result<(), AllocError>
-    ensures { OnOk result
-        (bytes.new.items ≡ bytes.old.items ++ record_called name.now kind body.now) }
+    ensures { OnOk result (bytes.new.items ≡ bytes.old.items ++ stored_record Two
+        (record { name = name.now.bytes; kind = kind; body = body.now })) }
 {
     put_body(bytes, kind.word().as_bytes(), name, body)
 }
@@ -96,7 +97,7 @@ pub(crate) fn put_table<A: Allocator>(
 /// Puts the number of runs, and their lines.
 pub(crate) fn put_runs<A: Allocator>(bytes: &mut Vec<u8, A>, runs: &[Run]) -> Result<(), AllocError>
     ensures { OnOk result (bytes.new.items ≡ bytes.old.items
-        ++ (line (codes "runs") (number_text (length runs.now))
+        ++ (line (codes "runs") (number_text (length (map shown_run runs.now)))
         ++ flat_map run_text (map shown_run runs.now))) }
 {
     put_count(bytes, b"runs", runs.len() as u64)?;

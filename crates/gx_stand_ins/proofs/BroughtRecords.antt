@@ -46,7 +46,8 @@ use Rattle.gx_stand_ins.proofs.EachValue.{each, each_lookup}
 use Rattle.gx_stand_ins.proofs.LedNames.{found_put}
 use Rattle.gx_stand_ins.proofs.LedReplays.{told}
 use Rattle.gx_stand_ins.proofs.SmallAsked.{asked_alike, is_small, small_ref, whole_ref}
-use Rattle.gx_stand_ins.proofs.StoodFor.{stand_is_namer, stand_trees}
+use Rattle.gx_stand_ins.proofs.StoodFor.{stand_trees}
+use Rattle.gx_stand_ins.specs.StandInNames.{stand_is_namer}
 use Rattle.gx_stand_ins.proofs.WholeNames.{value_alike}
 
 -- ---- replays give histories, whatever features are asked for

@@ -15,3 +15,4 @@ pub mod StoodFor
 pub mod SmallHistories
 pub mod SmallAsked
 pub mod BroughtRecords
+pub mod ReadNames

@@ -30,7 +30,8 @@ use Rattle.gx_stand_ins.specs.StandIns.{AreOwnBytes, AreOwnTexts, StandIns, Valu
 use Rattle.gx_stand_ins.specs.StandInLaws.{IsSmall}
 use Rattle.gx_stand_ins.proofs.EachValue.{each_lookup}
 use Rattle.gx_stand_ins.proofs.SmallHistories.{IsGood, small_good, told}
-use Rattle.gx_stand_ins.proofs.StoodFor.{IsOwnText, commit_stood_for, named_own, no_stand_in, none_behind, stand_is_namer, stand_trees, stood_by, text_proper}
+use Rattle.gx_stand_ins.proofs.StoodFor.{IsOwnText, commit_stood_for, named_own, no_stand_in, none_behind, stand_trees, stood_by, text_proper}
+use Rattle.gx_stand_ins.specs.StandInNames.{stand_is_namer}
 use Rattle.gx_stand_ins.proofs.WholeNames.{value_alike}
 
 -- ---- what holds of commands, where more holds of what they ask for and bring

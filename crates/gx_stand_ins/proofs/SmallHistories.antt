@@ -37,7 +37,8 @@ use Rattle.gx_stand_ins.specs.StandIns.{CommitsKeepNames, FilesKeepNames, LeafKe
 use Rattle.gx_stand_ins.proofs.EachTree.{each_subs}
 use Rattle.gx_stand_ins.proofs.EachValue.{each, each_all}
 use Rattle.gx_stand_ins.proofs.GrownTogether.{made_of, tag_may, tree_may}
-use Rattle.gx_stand_ins.proofs.StoodFor.{commit_stood_for, named_by, named_own, stand_is_namer, stand_trees, stood_by}
+use Rattle.gx_stand_ins.proofs.StoodFor.{commit_stood_for, named_by, named_own, stand_trees, stood_by}
+use Rattle.gx_stand_ins.specs.StandInNames.{stand_is_namer}
 use Rattle.gx_stand_ins.proofs.WholeNames.{parents_alike, tree_named_alike}
 
 -- ---- forms of files whose contents are changed

@@ -1,13 +1,13 @@
 -- Which bodies stand for others.
-use Rattle.std.proofs.Common.{◌≡◌, ℕ, zero, suc, Bool, true, false, cond, List, [], ◌∷◌, ◌++◌, length, take, drop, append_assoc, Option, None, Some, refl, sym, ap, subst, ◌∙◌}
-use Rattle.std.specs.Prelude.{IsTrue, ◌&&◌, codes, nat_lt, replicate}
+use Rattle.std.proofs.Common.{◌≡◌, suc, true, false, cond, List, [], ◌∷◌, ◌++◌, length, take, drop, append_assoc, Option, None, Some, refl, sym, ap, ◌∙◌}
+use Rattle.std.specs.Prelude.{IsTrue, ◌&&◌, codes, replicate}
 use Rattle.std.specs.Bool.{passes}
-use Rattle.std.specs.List.{flat_map, list_all}
+use Rattle.std.specs.List.{flat_map}
 use Rattle.std.specs.Option.{unwrap_or}
 use Rattle.gx_model.specs.declared.objects.Kind.{Kind}
 use Rattle.gx_model.specs.declared.objects.Kind.TheVariants as kind
 use Rattle.gx_model.specs.Texts.{Bytes, cut_at, same_bytes}
-use Rattle.gx_model.specs.Objects.{CommitParts, IsNamer, commit_text, hex, is_name, line, text_lines}
+use Rattle.gx_model.specs.Objects.{CommitParts, commit_text, hex, is_name, line, text_lines}
 use Rattle.gx_model.specs.Histories.Values.{CommitText, is_optional_ident, is_proper_text}
 use Rattle.gx_model.specs.Records.HistoryOf.{commit_parts_in}
 use Rattle.gx_model.specs.Replay.{text_made}
@@ -15,45 +15,28 @@ use Rattle.gx_model.specs.Replay.ProperReplays.{IsProperCommit}
 use Rattle.gx_model.specs.Streams.Commands as command
 use Rattle.gx_model.specs.Texts.Idents.{is_ident}
 use Rattle.gx_model.proofs.ObjectTexts.NameDigits.{name_long}
-use Rattle.gx_model.proofs.ObjectTexts.BodiesReadBack.{bytes_name, commit_read, long_name}
-use Rattle.gx_model.proofs.ObjectTexts.TreePaths.{name_is_name}
+use Rattle.gx_model.proofs.ObjectTexts.BodiesReadBack.{commit_read}
 use Rattle.gx_model.proofs.Records.OneHistory.{line_flat}
-use Rattle.gx_model.proofs.Texts.PathTests.{both, is_same, is_true, same_is}
+use Rattle.gx_model.proofs.Texts.PathTests.{both, is_same, is_true}
 use Rattle.gx_stand_ins.specs.SmallRepositories.{commit_front, name_behind, stand_in_text, stand_name, stood_for}
+use Rattle.gx_stand_ins.specs.StandInNames.{behind_is}
 use Rattle.gx_stand_ins.specs.StandIns.{AreNamers}
 
 -- ---- texts behind others
 
-taken : (x r : Bytes) → take (length x) (x ++ r) ≡ x
+-- the first part of two
+pub taken : (x r : Bytes) → take (length x) (x ++ r) ≡ x
 taken [] r = refl
 taken (b ∷ x) r = ap (λ z. b ∷ z) (taken x r)
 
-dropped : (x r : Bytes) → drop (length x) (x ++ r) ≡ r
+-- and the second
+pub dropped : (x r : Bytes) → drop (length x) (x ++ r) ≡ r
 dropped [] r = refl
 dropped (b ∷ x) r = dropped x r
-
-both_parts : (n : ℕ) (x : Bytes) → x ≡ take n x ++ drop n x
-both_parts zero x = refl
-both_parts (suc n) [] = refl
-both_parts (suc n) (b ∷ x) = ap (λ z. b ∷ z) (both_parts n x)
 
 -- a text that begins otherwise is no name behind these
 pub none_behind : (front text : Bytes) → same_bytes (take (length front) text) front ≡ false → name_behind front text ≡ None
 none_behind front text e = ap (λ b. cond (b && is_name (drop (length front) text)) (Some (drop (length front) text)) None) e
-
--- a name behind these is what follows them
-pub behind_is : (front text n : Bytes) → name_behind front text ≡ Some n → (text ≡ front ++ n) × IsTrue (is_name n)
-behind_is front text n e =
-    elim (same_bytes (take (length front) text) front) as (λ b. same_bytes (take (length front) text) front ≡ b → cond (b && is_name (drop (length front) text)) (Some (drop (length front) text)) None ≡ Some n → (text ≡ front ++ n) × IsTrue (is_name n)) [
-      | true ↦ λ k l. by (is_name (drop (length front) text)) refl k l
-      | false ↦ λ k l. absurd (cc)
-    ] refl e
-  where
-    by : (b : Bool) → is_name (drop (length front) text) ≡ b → same_bytes (take (length front) text) front ≡ true → cond b (Some (drop (length front) text)) None ≡ Some n → (text ≡ front ++ n) × IsTrue (is_name n)
-    by true j k l =
-        let rest : drop (length front) text ≡ n = cc in
-        (both_parts (length front) text ∙ (λ i. same_is (take (length front) text) front (passes _ k) i ++ rest i), subst (λ x. IsTrue (is_name x)) rest j)
-    by false j k l = absurd (cc)
 
 -- ---- texts of commits
 
@@ -139,29 +122,3 @@ module _ (nonce : Bytes) where
     -- and what does has that of the other
     pub named_by : (k : Kind) (body n : Bytes) → stood_for nonce k body ≡ Some n → stand_name nonce name k body ≡ n
     named_by k body n e = ap (λ o. unwrap_or o (name k body)) e
-
-    stood_is_name : (k : Kind) (body n : Bytes) → stood_for nonce k body ≡ Some n → IsTrue (is_name n)
-    stood_is_name kind.Blob body n e = (behind_is nonce body n e).1
-    stood_is_name kind.Commit body n e = (behind_is (commit_front nonce) (drop 46 body) n e).1
-    stood_is_name kind.Tree body n e = absurd (cc)
-    stood_is_name kind.Tag body n e = absurd (cc)
-
-    stand_is_name : IsNamer name → (k : Kind) (body : Bytes) → IsTrue (is_name (stand_name nonce name k body))
-    stand_is_name namer k body = by (stood_for nonce k body) (λ n e. stood_is_name k body n e)
-      where
-        by : (o : Option Bytes) → ((n : Bytes) → o ≡ Some n → IsTrue (is_name n)) → IsTrue (is_name (unwrap_or o (name k body)))
-        by None h = is_true _ (name_is_name name namer k body)
-        by (Some n) h = h n refl
-
-    -- names of a small repository are names
-    pub stand_is_namer : IsNamer name → IsNamer (stand_name nonce name)
-    stand_is_namer namer = record {
-      long = λ k body. length_of (stand_name nonce name k body) (stand_is_name namer k body);
-      bytes = λ k body. bytes_of (stand_name nonce name k body) (stand_is_name namer k body);
-    }
-      where
-        length_of : (n : Bytes) → IsTrue (is_name n) → length n ≡ 20
-        length_of n h = long_name n (passes _ h)
-
-        bytes_of : (n : Bytes) → IsTrue (is_name n) → IsTrue (list_all (λ byte. nat_lt byte 256) n)
-        bytes_of n h = is_true _ (bytes_name n (passes _ h))

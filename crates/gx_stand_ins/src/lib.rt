@@ -2,4 +2,7 @@
 //! into the whole. As in gx_model, a law is the contract of a public function with an empty body.
 #![tactic(auto)]
 
+mod stand_in;
 pub mod stand_in_laws;
+
+pub use stand_in::StandIn;

@@ -1,4 +1,4 @@
-use Rattle.gx_additions.specs.Additions.{with_refs}
+use Rattle.gx_model.specs.Laws.RepositoryLaws.{with_refs}
 use Rattle.gx_additions.proofs.Growths.{refs_growth}
 use Rattle.gx_additions.proofs.Puts.{so_of_done, so_of_err}
 use Rattle.gx_additions.proofs.appending.append_refs.Goals as goal

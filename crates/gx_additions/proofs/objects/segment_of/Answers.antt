@@ -10,7 +10,7 @@ returns-clause-front g c =
     let put = objects_put (drop c.args.held c.args.repo.now.1.records) c.args.count c.args.table.now.rows.items c.args.table.now.digests.items (map shown_run c.args.runs.now) c.args.repo.now.1.refs
     c.new-segment.result.items c.put_records.new.bytes.items c.put_table.new.bytes.items c.put_runs.new.bytes.items c.put_refs.new.bytes.items c.extend_from_slice.new.self.items
     c.new-segment.ensures.items records c.in_ok-put_table.ensures c.in_ok-put_runs.ensures c.in_ok-put_refs.ensures c.in_ok-extend_from_slice.ensures.items in
-    c.len-front.ensures ∙ ap length put.0
+    c.len-front.ensures ∙ c.put_table.new.bytes.ok.0 ∙ ap length put.0
 
 pub returns-clause-segment : goal.returns-clause-segment
 returns-clause-segment g c =

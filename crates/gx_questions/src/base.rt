@@ -11,8 +11,11 @@ use gx_objects::Objects;
 use gx_rev::{RevFault, is_abbreviation};
 use gx_store::Prefix;
 
-/// What a base gives. No body is read.
-pub(crate) fn eval_base<O: Objects>(objects: &O, base: &[u8]) -> Result<Name, AskFault>
+/// The object that the base of a revision gives. No body is read.
+///
+/// UnknownRef, UnknownObject and Ambiguous are the base's. ReadFailed: a read failed. Damaged: this is no repository.
+/// Cost: a look-up. Takes no memory. Source: gitrevisions(7), "Specifying Revisions".
+pub fn eval_base<O: Objects>(objects: &O, base: &[u8]) -> Result<Name, AskFault>
     ensures value { Answers (O.told objects.now) value_at
         (λ r. base_value (O.name_of objects.now) (history_of r) base.now) result }
     ensures held { IsOfTold (O.told objects.now) IsHeld result }

@@ -9,6 +9,7 @@ mod places;
 mod shown;
 mod suffix;
 
+pub use base::eval_base;
 pub use fault::AskFault;
 pub use objects::{body, commit_in, commit_of, entries};
 pub use shown::{commit, eval, eval_text, tree};

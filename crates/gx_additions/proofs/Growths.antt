@@ -1,23 +1,24 @@
 -- What is appended is a segment that the text takes.
-use Rattle.std.proofs.Common.{◌≡◌, ◌^◌, inl, inr, ℕ, ◌+◌, ◌<◌, Bool, List, ◌++◌, length, map, drop, sym, ap, subst, ◌∙◌, Option}
+use Rattle.std.proofs.Common.{◌≡◌, ◌^◌, inl, inr, ℕ, ◌+◌, ◌<◌, Bool, List, ◌++◌, length, map, drop, sym, ap, subst, ◌∙◌, Option, Some}
 use Rattle.std.proofs.lemmas.List.{take-append-drop}
 use Rattle.sha2.specs.Sha256.{sha256}
 use Rattle.gx_model.specs.declared.objects.Kind.{Kind}
 use Rattle.gx_model.specs.Texts.{Bytes}
-use Rattle.gx_model.specs.Histories.{Records}
+use Rattle.gx_model.specs.Histories.{Record, Records}
 use Rattle.gx_model.specs.Laws.RepositoryLaws.{with_refs}
 use Rattle.gx_model.specs.Records.Sound.{IsSound}
 use Rattle.gx_model.specs.Objects.{IsNamer}
-use Rattle.gx_growing.specs.GrowingText.{live_rows, segment_text, slot_text}
+use Rattle.gx_growing.specs.GrowingText.{IsGrowingText, live_rows, segment_text, slot_text}
 use Rattle.gx_growing.specs.GrowingLaws.{next_slot}
+use Rattle.gx_growing_parts.specs.Endings.{IsEnding}
 use Rattle.gx_growing_parts.specs.Shown.{shown_run}
 use Rattle.gx_growing_parts.specs.declared.ending.Ending.{Ending}
 use Rattle.gx_growing_parts.proofs.Digesters.{digester}
 use Rattle.gx_append.specs.Appending as appends
 use Rattle.gx_append.specs.Appending.{IsAsked, IsGrowth, IsReadAs, Shows}
 use Rattle.gx_append.proofs.Readings.{before_read, growth_asked, segments_of}
-use Rattle.gx_additions.specs.Additions.{GivesRefs, IsCutBack, refs_alone}
-use Rattle.gx_additions.specs.NewObjects.{BringsObjects, GivesObjects, IsBrought, new_objects}
+use Rattle.gx_additions.specs.Additions.{AreLines, GivesRefs, IsCutBack, refs_alone}
+use Rattle.gx_additions.specs.NewObjects.{BringsObjects, GivesAdditions, GivesObjects, IsBrought, new_objects}
 use Rattle.gx_additions.proofs.NewRuns.{additions_taken}
 use Rattle.gx_additions.proofs.OtherRefs.{refs_taken}
 
@@ -42,26 +43,34 @@ refs_growth name told ending count refs bytes slot repository named g b s short 
     }
 
 -- new objects, and other refs
-pub objects_growth : (name : Kind → Bytes → Bytes) → IsNamer name → (told : Option Bytes) (ending : Ending) (bytes slot : Bytes) (repository new : Records) (held : ℕ)
-    → GivesObjects name told ending repository new held → IsSound name new → BringsObjects told ending new held bytes slot
-    → IsGrowth name sha256 told ending.is_first ending.ends bytes slot repository new
-objects_growth name namer told ending bytes slot repository new held g sound brings =
-    let b : IsBrought ending new held bytes slot g.file = subst (λ t. BringsObjects t ending new held bytes slot) g.is brings in
-    let news = drop held new.records in
-    let at = λ (n : ℕ). new_objects sha256 n b.kept (live_rows g.file b.taken) news new.refs in
-    let records = sym (take-append-drop held new.records) ∙ ap (λ z. z ++ news) g.front in
-    let is = b.segment_is ∙ ap (λ n. segment_text (at n)) g.ends.ends in
-    record {
-      file = g.file;
-      is = g.is;
-      old = g.old;
-      picks = g.ends.picks;
-      ends_are = g.ends.ends;
-      segment = at g.old.slot.ends;
-      takes = additions_taken name namer sha256 digester g.file repository new g.old b.kept b.taken news (b.runs ∙ g.ends.runs) records sound g.short (subst (λ n. n + length (segment_text (at g.old.slot.ends)) < 2 ^ 63) g.ends.ends (subst (λ z. ending.ends + length z < 2 ^ 63) is b.short));
-      bytes_are = is;
-      slot_is = b.slot_is ∙ ap (λ n. slot_text (next_slot sha256 n (at n))) g.ends.ends;
-    }
+module _ (name : Kind → Bytes → Bytes) (namer : IsNamer name) (told : Option Bytes) (ending : Ending) (bytes slot : Bytes) (repository new : Records) where
+  brought_growth : (records : List Record) (file : Bytes) → told ≡ Some file → (old : IsGrowingText name sha256 file repository) → IsEnding old ending → new.records ≡ repository.records ++ records → IsSound name new
+      → length file < 2 ^ 63 → BringsObjects told ending records new.refs bytes slot → IsGrowth name sha256 told ending.is_first ending.ends bytes slot repository new
+  brought_growth records file is old ends more sound short brings =
+      let b : IsBrought ending records new.refs bytes slot file = subst (λ t. BringsObjects t ending records new.refs bytes slot) is brings in
+      let at = λ (n : ℕ). new_objects sha256 n b.kept (live_rows file b.taken) records new.refs in
+      let spelled = b.segment_is ∙ ap (λ n. segment_text (at n)) ends.ends in
+      record {
+        file = file;
+        is = is;
+        old = old;
+        picks = ends.picks;
+        ends_are = ends.ends;
+        segment = at old.slot.ends;
+        takes = additions_taken name namer sha256 digester file repository new old b.kept b.taken records (b.runs ∙ ends.runs) more sound short
+            (subst (λ n. n + length (segment_text (at old.slot.ends)) < 2 ^ 63) ends.ends (subst (λ z. ending.ends + length z < 2 ^ 63) spelled b.short));
+        bytes_are = spelled;
+        slot_is = b.slot_is ∙ ap (λ n. slot_text (next_slot sha256 n (at n))) ends.ends;
+      }
+
+  pub objects_growth : (held : ℕ) → GivesObjects name told ending repository new held → IsSound name new → BringsObjects told ending (drop held new.records) new.refs bytes slot
+      → IsGrowth name sha256 told ending.is_first ending.ends bytes slot repository new
+  objects_growth held g sound brings =
+      brought_growth (drop held new.records) g.file g.is g.old g.ends (sym (take-append-drop held new.records) ∙ ap (λ z. z ++ drop held new.records) g.front) sound g.short brings
+
+  pub additions_growth : (records : List Record) (count : ℕ) (refs : Bytes) → GivesAdditions name told ending records count refs repository new
+      → ((named : List (Bytes × Bytes)) → AreLines named count refs → BringsObjects told ending records named bytes slot) → IsGrowth name sha256 told ending.is_first ending.ends bytes slot repository new
+  additions_growth records count refs g brings = brought_growth records g.file g.is g.old g.ends g.more g.sound g.short (brings new.refs g.lines)
 
 -- bytes that are those of a growth are one
 pub same_growth : (name : Kind → Bytes → Bytes) (told : Option Bytes) (is_first : Bool) (ends : ℕ) (bytes other slot another : Bytes) (repository new : Records) → bytes ≡ other → slot ≡ another

@@ -1,5 +1,5 @@
 -- A growing text takes a segment that brings objects, and whose run takes in the rows of some live runs.
-use Rattle.std.proofs.Common.{◌≡◌, ℕ, suc, ◌+◌, ◌*◌, ◌-◌, ◌≤◌, ◌<◌, ◌^◌, refl, sym, ap, subst, ◌∙◌, List, [], ◌∷◌, ◌++◌, length, map, take, codes, arith, append_assoc, append-nil, length-append}
+use Rattle.std.proofs.Common.{◌≡◌, ℕ, suc, ◌+◌, ◌*◌, ◌-◌, ◌≤◌, ◌<◌, ◌^◌, refl, sym, ap, subst, ◌∙◌, List, [], ◌∷◌, ◌++◌, length, map, codes, arith, append_assoc, append-nil, length-append}
 use Rattle.std.specs.Prelude.{IsTrue}
 use Rattle.std.specs.List.{AllByRecursion, AllZip, flat_map}
 use Rattle.std.specs.List.Sorted.{IsPermutation}
@@ -15,7 +15,7 @@ use Rattle.gx_model.specs.Histories.{AreDistinct, Record, Records}
 use Rattle.gx_model.specs.Records.Sound.{IsSound}
 use Rattle.gx_model.specs.Stores.StoreText.{stored_record}
 use Rattle.gx_model.proofs.ObjectTexts.OneTree.{all_left, all_right}
-use Rattle.gx_growing.specs.GrowingText.{IsDigester, IsGrowingText, IsHead, IsRun, IsSegment, Row, Run, Segment, StandsIn, first_place, head_length, head_text, live_rows, page_digests, part, placed, placed_rows, records_of, row_text, run_rows, segment_text, sorted_rows, table_length, tail_text}
+use Rattle.gx_growing.specs.GrowingText.{IsDigester, IsGrowingText, IsHead, IsRun, IsSegment, Row, Run, Segment, StandsIn, first_place, head_length, head_text, live_rows, page_digests, placed, placed_rows, records_of, row_text, run_rows, segment_text, sorted_rows, table_length, tail_text}
 use Rattle.gx_growing.specs.GrowingLaws.{grown_text}
 use Rattle.gx_growing.proofs.ReadFronts.{head_long}
 use Rattle.gx_growing.proofs.RowsTell.{same_sorted}

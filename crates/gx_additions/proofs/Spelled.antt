@@ -1,5 +1,5 @@
 -- How segments and slots are spelled.
-use Rattle.std.proofs.Common.{◌≡◌, ℕ, ◌+◌, ◌-◌, ◌<◌, ◌^◌, refl, sym, ap, ◌∙◌, List, [], ◌∷◌, ◌++◌, length, map, drop, codes, arith, append_assoc, append-nil, length-append}
+use Rattle.std.proofs.Common.{◌≡◌, ℕ, ◌+◌, ◌-◌, ◌<◌, ◌^◌, refl, sym, ap, ◌∙◌, List, [], ◌∷◌, ◌++◌, length, drop, codes, arith, append_assoc, append-nil, length-append}
 use Rattle.std.specs.Prelude.{replicate}
 use Rattle.std.specs.Fmt.{decimal}
 use Rattle.std.specs.List.{flat_map}
@@ -8,14 +8,14 @@ use Rattle.sha2.specs.Sha256.{sha256}
 use Rattle.gx_model.specs.declared.store_versions.Version.TheVariants.{Two}
 use Rattle.gx_model.specs.Texts.{Bytes}
 use Rattle.gx_model.specs.Texts.Numbers.{number_text}
-use Rattle.gx_model.specs.Histories.{Record}
 use Rattle.gx_model.specs.Objects.{line}
 use Rattle.gx_model.proofs.Texts.Decimals.{text_is_decimal}
 use Rattle.gx_model.specs.Stores.StoreText.{stored_record, stored_ref}
 use Rattle.gx_growing.specs.GrowingLaws.{next_slot}
 use Rattle.gx_growing.specs.GrowingText.{Run, Segment, long_number, records_text, rows_text, run_text, segment_text, tail_text}
 use Rattle.gx_additions.specs.Additions.{AreLines, refs_alone, tail_with}
-use Rattle.gx_additions.specs.Parts.{before_tail, records_front, slot_of, table_front}
+use Rattle.gx_additions.specs.NewObjects.{IsFront}
+use Rattle.gx_additions.specs.Parts.{before_tail, records_front, refs_front, runs_front, slot_of, table_front}
 
 -- ---- slots
 
@@ -87,30 +87,39 @@ segment_put n live refs a b c d a_is b_is c_is d_is =
 -- ---- segments with objects
 
 -- a segment with its tail behind the rest
-pub front_told : (records : List Record) (count : ℕ) (rows digests : Bytes) (runs : List Run) (refs : List (Bytes × Bytes))
-    → before_tail records count rows digests ++ tail_text runs refs ≡ segment_text (record { records = records; count = count; table = rows ++ digests; runs = runs; refs = refs })
-front_told records count rows digests runs refs =
-    let counted = line (codes "objects") (number_text (length records)) in
-    let held = flat_map (stored_record Two) records in
-    let more = line (codes "rows") (number_text count) in
-    ap (λ z. ((counted ++ z) ++ (more ++ ((rows ++ digests) ++ (10 ∷ [])))) ++ tail_text runs refs) (append-nil held) ∙ regroup counted held more (rows ++ digests) (tail_text runs refs)
+pub front_told : (s : Segment) → before_tail s ++ tail_text s.runs s.refs ≡ segment_text s
+front_told s =
+    let counted = line (codes "objects") (number_text (length s.records)) in
+    let held = flat_map (stored_record Two) s.records in
+    let more = line (codes "rows") (number_text s.count) in
+    ap (λ z. ((counted ++ z) ++ (more ++ (s.table ++ (10 ∷ [])))) ++ tail_text s.runs s.refs) (append-nil held) ∙ regroup counted held more s.table (tail_text s.runs s.refs)
   where
     regroup : (k h m t l : Bytes) → ((k ++ h) ++ (m ++ (t ++ (10 ∷ [])))) ++ l ≡ k ++ (h ++ (m ++ (t ++ (10 ∷ l))))
     regroup k h m t l = simp append_assoc
 
--- the bytes of a segment, put one behind the other
-pub objects_put : (records : List Record) (count : ℕ) (rows digests : Bytes) (runs : List Run) (refs : List (Bytes × Bytes)) (a b c d e f : Bytes) → a ≡ [] → b ≡ a ++ records_front records → c ≡ b ++ table_front count rows digests
-    → d ≡ c ++ (line (codes "runs") (number_text (length runs)) ++ flat_map run_text runs) → e ≡ d ++ (line (codes "refs") (number_text (length refs)) ++ flat_map stored_ref refs) → f ≡ e ++ (codes "end" ++ 10 ∷ [])
-    → (c ≡ before_tail records count rows digests) × (f ≡ before_tail records count rows digests ++ tail_text runs refs)
-objects_put records count rows digests runs refs a b c d e f a_is b_is c_is d_is e_is f_is =
-    let front = before_tail records count rows digests in
-    let counted = line (codes "runs") (number_text (length runs)) in
-    let live = flat_map run_text runs in
-    let more = line (codes "refs") (number_text (length refs)) in
-    let named = flat_map stored_ref refs in
-    let last : Bytes = codes "end" ++ 10 ∷ [] in
-    let c_front = c_is ∙ ap (λ z. z ++ table_front count rows digests) (b_is ∙ ap (λ z. z ++ records_front records) a_is) in
-    (c_front, f_is ∙ ap (λ z. z ++ last) (e_is ∙ ap (λ z. z ++ (more ++ named)) (d_is ∙ ap (λ z. z ++ (counted ++ live)) c_front)) ∙ regroup front counted live more named last)
+-- what stands in front of a segment's refs, put one behind the other
+pub front_put : (s : Segment) (runs : List Run) (a b c d : Bytes) (front : ℕ) → a ≡ [] → b ≡ a ++ records_front s.records → c ≡ b ++ table_front s.count s.table → front ≡ length c → runs ≡ s.runs → d ≡ c ++ runs_front runs
+    → IsFront s d front
+front_put s runs a b c d front a_is b_is c_is f r d_is =
+    let before = c_is ∙ ap (λ z. z ++ table_front s.count s.table) (b_is ∙ ap (λ z. z ++ records_front s.records) a_is) in
+    (d_is ∙ (λ i. before i ++ runs_front (r i)), f ∙ ap length before)
+
+-- the refs behind it
+pub refs_put : (s : Segment) (bytes put last : Bytes) (front : ℕ) → IsFront s bytes front → put ≡ bytes ++ refs_front s.refs → last ≡ put ++ (codes "end" ++ 10 ∷ []) → last ≡ before_tail s ++ tail_text s.runs s.refs
+refs_put s bytes put last front is p l =
+    let counted = line (codes "runs") (number_text (length s.runs)) in
+    let more = line (codes "refs") (number_text (length s.refs)) in
+    l ∙ ap (λ z. z ++ (codes "end" ++ 10 ∷ [])) (p ∙ ap (λ z. z ++ refs_front s.refs) is.0) ∙ regroup (before_tail s) counted (flat_map run_text s.runs) more (flat_map stored_ref s.refs) (codes "end" ++ 10 ∷ [])
   where
     regroup : (x k r m n l : Bytes) → ((x ++ (k ++ r)) ++ (m ++ n)) ++ l ≡ x ++ (k ++ (r ++ (m ++ (n ++ l))))
     regroup x k r m n l = simp append_assoc
+
+-- a number and lines are those of refs
+pub lines_put : (named : List (Bytes × Bytes)) (count : ℕ) (refs bytes put last : Bytes) → AreLines named count refs → put ≡ bytes ++ line (codes "refs") (number_text count) → last ≡ put ++ (refs ++ (codes "end" ++ 10 ∷ []))
+    → last ≡ (bytes ++ refs_front named) ++ (codes "end" ++ 10 ∷ [])
+lines_put named count refs bytes put last lines p l =
+    let counted = p ∙ ap (λ n. bytes ++ line (codes "refs") (number_text n)) lines.counted in
+    l ∙ (λ i. counted i ++ (lines.of_refs i ++ (codes "end" ++ 10 ∷ []))) ∙ regroup bytes (line (codes "refs") (number_text (length named))) (flat_map stored_ref named) (codes "end" ++ 10 ∷ [])
+  where
+    regroup : (b c r e : Bytes) → (b ++ c) ++ (r ++ e) ≡ (b ++ (c ++ r)) ++ e
+    regroup b c r e = simp append_assoc

@@ -11,17 +11,18 @@ ghost use Rattle.gx_append.specs.Devices.{LeavesOnly, most_faults};
 ghost use Rattle.gx_additions.specs.Additions as additions;
 ghost use Rattle.gx_additions.specs.Additions.{GivesRefs};
 ghost use Rattle.gx_additions.specs.Faults.{IsOfDevice, IsUnwritten};
-ghost use Rattle.gx_additions.specs.NewObjects.{GivesObjects};
+ghost use Rattle.gx_additions.specs.NewObjects.{GivesAdditions, GivesObjects};
 ghost use Rattle.gx_additions.specs.declared.fault.AdditionFault.TheVariants.{OutOfMemory, ReadFailed};
 
 use crate::fault::AdditionFault;
-use crate::objects::new_objects;
+use crate::objects::{new_additions, new_objects};
 use crate::refs::refs_alone;
 use crate::slot::Addition;
 use gx_append::{Device, append};
 use gx_growing_parts::Ending;
 use gx_object::Namer;
 use gx_repo::Repo;
+use gx_store::Store;
 use std::alloc::Allocator;
 
 /// Appends to a growing text, which has an ending, what a repository has more: its objects, of which the text holds the first ones,
@@ -64,6 +65,52 @@ pub fn append_objects<D: Device, N: Namer, A: Allocator + Copy>(
 {
     repo.sound();
     let added = new_objects(alloc, device, ending, repo, held)?;
+    append_addition(device, ending, &added)
+}
+
+/// Appends to a growing text, which has an ending, the objects of a store, none of which it holds, and gives it other refs, so many
+/// of them, by their lines. How many objects it holds is how many rows are taken in at most.
+///
+/// The new run takes in live ones as that of `append_objects` does. Whatever a stop of the machine leaves is read as the repository
+/// before, or as the one with these objects and refs. Each fault leaves what it leaves there.
+/// Cost: the store's objects and the lines, the rows that are taken in, which are sorted, and three syncs. Memory: at most twice the
+/// segment, and its rows a few times. Source: this project's own format.
+pub fn append_additions<D: Device, N: Namer, A: Allocator + Copy>(
+    alloc: A,
+    device: &mut D,
+    ending: Ending<'_>,
+    held: u64,
+    store: &Store<N, A>,
+    count: u64,
+    refs: &[u8],
+) -> Result<(), AdditionFault>
+    ensures reads { ForEachNamer (λ name. (old new : Records)
+        → GivesAdditions name (D.text device.old) ending.entry store.now.1 count refs.now old new
+        → LeavesOnly D.moment D.left_since D.may_leave device.old device.new
+        (IsReadAsEither name sha256 old new)) }
+    ensures read { OnOk result (ForEachNamer (λ name. (old new : Records)
+        → GivesAdditions name (D.text device.old) ending.entry store.now.1 count refs.now old new
+        → IsDurable (D.text device.new) (D.may_leave device.new)
+        (IsReadAs name sha256 new))) }
+    ensures unwritten { IfErr result (λ fault. IsUnwritten fault → ForEachNamer (λ name.
+        (old new : Records)
+        → GivesAdditions name (D.text device.old) ending.entry store.now.1 count refs.now old new
+        → LeavesOnly D.moment D.left_since D.may_leave device.old device.new
+        (IsReadAs name sha256 old))) }
+    ensures cut { IfErr result (λ fault. IsUnwritten fault → ForEachNamer (λ name.
+        (old new : Records)
+        → GivesAdditions name (D.text device.old) ending.entry store.now.1 count refs.now old new
+        → D.faults device.new ≤ D.faults device.old + 1 → D.faults device.new < most_faults
+        → additions.IsCutBack name (D.text device.old) (D.text device.new)
+        ending.entry.ends old)) }
+    ensures cause { IfErr result (λ fault. IsOfDevice fault → ForEachNamer (λ name.
+        (old new : Records)
+        → GivesAdditions name (D.text device.old) ending.entry store.now.1 count refs.now old new
+        → D.faults device.new < most_faults → D.faults device.old < D.faults device.new)) }
+    ensures memory { IsErrOf result OutOfMemory → device.new ≡ device.old }
+    ensures unread { IsErrOf result ReadFailed → device.new ≡ device.old }
+{
+    let added = new_additions(alloc, device, ending, held, store, count, refs)?;
     append_addition(device, ending, &added)
 }
 

@@ -10,7 +10,7 @@ mod parts;
 mod refs;
 mod slot;
 
-pub use appending::{append_objects, append_refs};
+pub use appending::{append_additions, append_objects, append_refs};
 pub use fault::AdditionFault;
 pub use refs::refs_alone;
 pub use slot::Addition;

@@ -1,6 +1,6 @@
 //! The parts of a segment, put one behind the other.
 
-ghost use Rattle.std.specs.Prelude.{◌≡◌, ◌++◌, codes, drop, length, map, OnOk};
+ghost use Rattle.std.specs.Prelude.{◌≡◌, ◌++◌, drop, map, OnOk};
 ghost use Rattle.std.specs.List.{flat_map};
 ghost use Rattle.gx_model.specs.declared.store_versions.Version.TheVariants.{Two};
 ghost use Rattle.gx_model.specs.Objects.{line};
@@ -8,7 +8,7 @@ ghost use Rattle.gx_model.specs.Texts.Numbers.{number_text};
 ghost use Rattle.gx_model.specs.Stores.StoreText.{stored_record, stored_ref};
 ghost use Rattle.gx_growing.specs.GrowingText.{run_text};
 ghost use Rattle.gx_growing_parts.specs.Shown.{shown_run};
-ghost use Rattle.gx_additions.specs.Parts.{body_called, records_front, table_front};
+ghost use Rattle.gx_additions.specs.Parts.{body_called, records_front, refs_front, runs_front, table_front};
 
 use gx_growing_parts::{Run, digest_digits};
 use gx_growing_rows::Table;
@@ -84,8 +84,8 @@ pub(crate) fn put_table<A: Allocator>(
     count: u64,
     table: &Table<A>,
 ) -> Result<(), AllocError>
-    ensures { OnOk result (bytes.new.items
-        ≡ bytes.old.items ++ table_front count table.now.rows.items table.now.digests.items) }
+    ensures { OnOk result (bytes.new.items ≡ bytes.old.items
+        ++ table_front count (table.now.rows.items ++ table.now.digests.items)) }
 {
     put_count(bytes, b"rows", count)?;
     put_all(
@@ -96,9 +96,8 @@ pub(crate) fn put_table<A: Allocator>(
 
 /// Puts the number of runs, and their lines.
 pub(crate) fn put_runs<A: Allocator>(bytes: &mut Vec<u8, A>, runs: &[Run]) -> Result<(), AllocError>
-    ensures { OnOk result (bytes.new.items ≡ bytes.old.items
-        ++ (line (codes "runs") (number_text (length (map shown_run runs.now)))
-        ++ flat_map run_text (map shown_run runs.now))) }
+    ensures { OnOk result
+        (bytes.new.items ≡ bytes.old.items ++ runs_front (map shown_run runs.now)) }
 {
     put_count(bytes, b"runs", runs.len() as u64)?;
     for run in runs {
@@ -132,9 +131,7 @@ pub(crate) fn put_refs<N: Namer, A: Allocator + Copy>(
     bytes: &mut Vec<u8, A>,
     repo: &Repo<N, A>,
 ) -> Result<(), AllocError>
-    ensures { OnOk result (bytes.new.items ≡ bytes.old.items
-        ++ (line (codes "refs") (number_text (length repo.now.1.refs))
-        ++ flat_map stored_ref repo.now.1.refs)) }
+    ensures { OnOk result (bytes.new.items ≡ bytes.old.items ++ refs_front repo.now.1.refs) }
 {
     put_count(bytes, b"refs", repo.refs().count() as u64)?;
     for (name, object) in repo.refs() {

@@ -1,6 +1,7 @@
 pub mod StandIns
 pub mod Asked
 pub mod SmallRepositories
+pub mod Bodies
 pub mod StandInNames
 pub mod StandInLaws
 pub mod Rows

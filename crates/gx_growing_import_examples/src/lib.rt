@@ -1,0 +1,5 @@
+//! Imports over small repositories, beside those over the whole ones. There are tests alone here.
+#![tactic(auto)]
+
+#[cfg(test)]
+mod imports;

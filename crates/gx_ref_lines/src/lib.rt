@@ -1,0 +1,6 @@
+//! The refs of a repository, by the lines that list them. Source: git-show-ref(1).
+#![tactic(auto)]
+
+mod ref_lines;
+
+pub use ref_lines::{RefLines, put_ref, ref_names};

@@ -1,0 +1,9 @@
+//! The small repository over which an import runs: of a whole one it has what a stream's texts ask for, and what stands for others.
+#![tactic(auto)]
+
+mod fault;
+mod small;
+mod wanted;
+
+pub use fault::SmallFault;
+pub use small::small_repository;

@@ -3,26 +3,23 @@
 ghost use Rattle.std.specs.Prelude.{◌≡◌, ◌++◌, length, take, IfOk};
 ghost use Rattle.gx_model.specs.Texts.{same_bytes};
 ghost use Rattle.gx_stand_ins.specs.Bodies.{StandsForCommit};
-ghost use Rattle.gx_stand_ins.specs.declared.TheConstants.{NONCE};
+ghost use Rattle.gx_stand_ins.specs.declared.bodies.TheConstants.{NONCE};
 
-use gx_object::{CommitParts, Name, encode_commit};
-use gx_text::Ident;
-use std::alloc::Allocator;
+use crate::stand_in::HEADER;
+use gx_object::Name;
+use std::alloc::{AllocError, Allocator};
 
 /// What stands before the name in a blob and in the message of a commit that stand for others.
 pub const NONCE: [u8; 16] = *b"gx: stands for: ";
 
-/// Who makes and commits a commit that stands for another.
-const MAKER: &[u8] = b"stand-in <stand-in> 0 +0000";
-
-/// Whether bytes may be those of what stands for another.
+/// Whether a blob of these bytes, or a commit of this message, may be one that stands for another. Takes no memory.
 pub fn may_stand_in(bytes: &[u8]) -> bool
     ensures { result ≡ same_bytes (take (length NONCE) bytes.now) NONCE }
 {
     bytes.starts_with(&NONCE)
 }
 
-/// The body of the blob that stands for the one of a name.
+/// The body of the blob that stands for the one of a name. Takes no memory.
 pub fn blob_body(name: &Name) -> [u8; 36]
     ensures { result ≡ NONCE ++ name.now.bytes }
 {
@@ -32,27 +29,19 @@ pub fn blob_body(name: &Name) -> [u8; 36]
     body
 }
 
-/// The body of the commit that stands for the one of a name, and has its tree.
+/// The body of the commit that stands for the one of a name, and has its tree. Cost: its length.
 pub fn commit_body<A: Allocator + Copy>(
     alloc: A,
     tree: Name,
     name: &Name,
-) -> Result<Vec<u8, A>, WholeWay>
+) -> Result<Vec<u8, A>, AllocError>
     ensures { IfOk result (λ body. StandsForCommit tree.bytes name.now.bytes body.items) }
 {
-    let Ok(maker) = Ident::read(MAKER) else {
-        return Err(WholeWay::NotTaken);
-    };
-    let message = blob_body(name);
-    Ok(encode_commit(
-        alloc,
-        &CommitParts {
-            tree,
-            parents: &[],
-            author: maker,
-            committer: maker,
-            encoding: None,
-            message: &message,
-        },
-    )?)
+    let mut body = Vec::new(alloc);
+    body.extend_from_slice(b"tree ")?;
+    body.extend_from_slice(&tree.hex())?;
+    body.push(b'\n')?;
+    body.extend_from_slice(HEADER)?;
+    body.extend_from_slice(&blob_body(name))?;
+    Ok(body)
 }

@@ -1,14 +1,12 @@
 //! Why a stream goes the whole way.
 
+use gx_asked::AskedFault;
+use gx_brought::BroughtFault;
 use gx_command::CommandFault;
 use gx_import::ImportFault;
-use gx_object::BadObject;
 use gx_objects::LookFault;
-use gx_questions::AskFault;
-use gx_repo::{AddFault, PublishFault};
-use gx_rev::RevFault;
-use gx_store::StoreFault;
-use std::alloc::{AllocError, AllocFailed};
+use gx_small_repo::SmallFault;
+use std::alloc::AllocError;
 
 /// Why a stream isn't imported so: it goes the whole way, over all of the repository, which tells what comes of it.
 #[derive(Clone, Copy, Debug, Drop)]
@@ -41,12 +39,6 @@ impl From<AllocError> for WholeWay {
     }
 }
 
-impl<T: Drop> From<AllocFailed<T>> for WholeWay {
-    fn from(_error: AllocFailed<T>) -> WholeWay {
-        WholeWay::OutOfMemory
-    }
-}
-
 impl From<LookFault> for WholeWay {
     fn from(fault: LookFault) -> WholeWay {
         match fault {
@@ -57,61 +49,24 @@ impl From<LookFault> for WholeWay {
     }
 }
 
-impl From<AskFault> for WholeWay {
-    fn from(fault: AskFault) -> WholeWay {
+impl From<AskedFault> for WholeWay {
+    fn from(fault: AskedFault) -> WholeWay {
         match fault {
-            AskFault::OutOfMemory => WholeWay::OutOfMemory,
-            AskFault::ReadFailed => WholeWay::ReadFailed,
-            AskFault::Damaged => WholeWay::Damaged,
-            AskFault::Revision(_) => WholeWay::Differs,
+            AskedFault::OutOfMemory => WholeWay::OutOfMemory,
+            AskedFault::Unread(fault) => WholeWay::Unread(fault),
+            AskedFault::StandsForAnother => WholeWay::StandsForAnother,
         }
     }
 }
 
-impl From<RevFault> for WholeWay {
-    fn from(fault: RevFault) -> WholeWay {
+impl From<SmallFault> for WholeWay {
+    fn from(fault: SmallFault) -> WholeWay {
         match fault {
-            RevFault::OutOfMemory => WholeWay::OutOfMemory,
-            _ => WholeWay::Differs,
-        }
-    }
-}
-
-impl From<BadObject> for WholeWay {
-    fn from(_error: BadObject) -> WholeWay {
-        WholeWay::Damaged
-    }
-}
-
-impl From<CommandFault> for WholeWay {
-    fn from(fault: CommandFault) -> WholeWay {
-        WholeWay::Unread(fault)
-    }
-}
-
-impl From<AddFault> for WholeWay {
-    fn from(fault: AddFault) -> WholeWay {
-        match fault {
-            AddFault::OutOfMemory => WholeWay::OutOfMemory,
-            _ => WholeWay::NotTaken,
-        }
-    }
-}
-
-impl From<PublishFault> for WholeWay {
-    fn from(fault: PublishFault) -> WholeWay {
-        match fault {
-            PublishFault::OutOfMemory => WholeWay::OutOfMemory,
-            _ => WholeWay::NotTaken,
-        }
-    }
-}
-
-impl From<StoreFault> for WholeWay {
-    fn from(fault: StoreFault) -> WholeWay {
-        match fault {
-            StoreFault::OutOfMemory => WholeWay::OutOfMemory,
-            StoreFault::NameHeld => WholeWay::NameHeld,
+            SmallFault::OutOfMemory => WholeWay::OutOfMemory,
+            SmallFault::ReadFailed => WholeWay::ReadFailed,
+            SmallFault::Damaged => WholeWay::Damaged,
+            SmallFault::TooMany => WholeWay::TooMany,
+            SmallFault::NotTaken => WholeWay::NotTaken,
         }
     }
 }
@@ -119,5 +74,17 @@ impl From<StoreFault> for WholeWay {
 impl From<ImportFault> for WholeWay {
     fn from(fault: ImportFault) -> WholeWay {
         WholeWay::Refused(fault)
+    }
+}
+
+impl From<BroughtFault> for WholeWay {
+    fn from(fault: BroughtFault) -> WholeWay {
+        match fault {
+            BroughtFault::OutOfMemory => WholeWay::OutOfMemory,
+            BroughtFault::ReadFailed => WholeWay::ReadFailed,
+            BroughtFault::Damaged => WholeWay::Damaged,
+            BroughtFault::NotTaken => WholeWay::NotTaken,
+            BroughtFault::NameHeld => WholeWay::NameHeld,
+        }
     }
 }

@@ -1,51 +1,43 @@
 //! Why it isn't told what an import over a small repository brings.
 
+ghost use Rattle.std.specs.Prelude.{◌≡◌};
+ghost use Rattle.gx_brought.specs.Brought.{of_look};
+ghost use Rattle.gx_brought.specs.declared.fault.BroughtFault.TheVariants.{OutOfMemory};
+
 use gx_objects::LookFault;
-use gx_store::StoreFault;
-use std::alloc::{AllocError, AllocFailed};
+use std::alloc::AllocError;
 
 /// Why it isn't told what an import over a small repository brings.
-#[derive(Clone, Copy, Debug, Drop)]
+#[derive(Clone, Copy, Debug, PartialEq, Eq, Drop)]
 pub enum BroughtFault {
     /// A growth was refused.
     OutOfMemory,
     /// A read failed.
     ReadFailed,
-    /// What is asked is no repository.
+    /// What is asked is no repository's.
     Damaged,
-    /// An object isn't taken as the one that it is.
+    /// A new object has another's name.
     NotTaken,
-    /// The name of a new object is another object's.
+    /// The whole repository holds another object under the name of a new one.
     NameHeld,
 }
 
 impl From<AllocError> for BroughtFault {
+    ghost from_gives = { λ _ fault. fault ≡ OutOfMemory };
+
     fn from(_error: AllocError) -> BroughtFault {
         BroughtFault::OutOfMemory
     }
 }
 
-impl<T: Drop> From<AllocFailed<T>> for BroughtFault {
-    fn from(_error: AllocFailed<T>) -> BroughtFault {
-        BroughtFault::OutOfMemory
-    }
-}
-
 impl From<LookFault> for BroughtFault {
+    ghost from_gives = { λ from fault. fault ≡ of_look from };
+
     fn from(fault: LookFault) -> BroughtFault {
         match fault {
             LookFault::OutOfMemory => BroughtFault::OutOfMemory,
             LookFault::ReadFailed => BroughtFault::ReadFailed,
             LookFault::Damaged => BroughtFault::Damaged,
-        }
-    }
-}
-
-impl From<StoreFault> for BroughtFault {
-    fn from(fault: StoreFault) -> BroughtFault {
-        match fault {
-            StoreFault::OutOfMemory => BroughtFault::OutOfMemory,
-            StoreFault::NameHeld => BroughtFault::NameHeld,
         }
     }
 }

@@ -4,6 +4,8 @@
 mod fault;
 mod new_objects;
 mod next_refs;
+#[cfg(test)]
+mod tests;
 
 pub use fault::BroughtFault;
 pub use new_objects::new_objects;

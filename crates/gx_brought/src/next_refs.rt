@@ -1,64 +1,93 @@
 //! The refs that a repository has after an import over a small one.
 
-ghost use Rattle.std.specs.Prelude.{IfOk, IsTrue};
-ghost use Rattle.std.specs.FinMap.Entries.{is_sorted};
-ghost use Rattle.gx_model.specs.Texts.{byte_cmp};
+ghost use Rattle.std.specs.Prelude.{◌≡◌, ◌++◌, ◌∷◌, ◌+◌, ◌≤◌, length, IfOk, IsTrue, OnOk};
+ghost use Rattle.std.specs.FinMap.Entries.{is_sorted, put};
+ghost use Rattle.std.specs.List.{flat_map};
 ghost use Rattle.gx_model.specs.Records.Publishing.{with_changes};
-ghost use Rattle.gx_ref_lines.specs.Refs.{AreLines, shown_refs};
+ghost use Rattle.gx_model.specs.Stores.StoreText.{stored_ref};
+ghost use Rattle.gx_model.specs.Texts.{Bytes, byte_cmp};
+ghost use Rattle.gx_ref_lines.specs.Refs.{shown_refs};
 
 use gx_object::{Name, Namer};
 use gx_ref_lines::{RefLines, put_ref};
 use gx_repo::Repo;
 use std::alloc::{AllocError, Allocator};
-use std::cmp::Ordering;
 
-/// The lines of a repository's refs with those of a small one set, and how many there are.
+/// Lines of refs, and how many they are.
+#[derive(Drop)]
+struct Next<A: Allocator> {
+    lines: Vec<u8, A>,
+    count: u64,
+}
+
+/// The lines of a repository's refs with those of a small one set, in the byte order of their names, and how many they are.
+///
+/// An error: a growth was refused.
+/// Cost: the lines, and a binary search for each ref that is set. Memory: the lines. Source: git-show-ref(1).
 pub fn next_refs<N: Namer, A: Allocator + Copy>(
     alloc: A,
     lines: &RefLines<'_, A>,
     small: &Repo<N, A>,
 ) -> Result<(Vec<u8, A>, u64), AllocError>
     requires sorted { IsTrue (is_sorted byte_cmp (shown_refs lines.now.refs.items)) }
-    ensures lines { IfOk result (λ next. AreLines (with_changes
-        (shown_refs lines.now.refs.items) small.now.1.refs) next.1 next.0.items) }
+    ensures lines { IfOk result (λ next. next.0.items
+        ≡ flat_map stored_ref (with_changes (shown_refs lines.now.refs.items) small.now.1.refs)) }
+    ensures count { IfOk result (λ next. next.1
+        ≡ length (with_changes (shown_refs lines.now.refs.items) small.now.1.refs)) }
 {
-    let mut next = Vec::new(alloc);
-    let mut count = 0;
+    let mut next = Next {
+        lines: Vec::new(alloc),
+        count: 0,
+    };
     let mut rest = lines.refs.as_slice();
     for (name, object) in small.refs() {
-        while let Some((held, behind)) = first_before(rest, name) {
-            put_ref(&mut next, held.0, &held.1)?;
-            count += 1;
-            rest = behind;
-        }
-        rest = without(rest, name);
-        put_ref(&mut next, name, &object)?;
-        count += 1;
+        let (before, behind) = parted(rest, name);
+        put_all(&mut next, before)?;
+        put(&mut next, name, &object)?;
+        rest = behind;
     }
-    for held in rest {
-        put_ref(&mut next, held.0, &held.1)?;
-        count += 1;
-    }
-    Ok((next, count))
+    put_all(&mut next, rest)?;
+    Ok((next.lines, next.count))
 }
 
-/// The first of some refs, where it stands before a name, and the others.
-fn first_before<'a, 'b>(
+/// The refs before a name, and those behind it.
+fn parted<'a, 'b>(
     refs: &'b [(&'a [u8], Name)],
     name: &[u8],
-) -> Option<((&'a [u8], Name), &'b [(&'a [u8], Name)])> {
-    let (first, behind) = refs.split_first()?;
-    if first.0.cmp(name) == Ordering::Less {
-        Some((*first, behind))
-    } else {
-        None
+) -> (&'b [(&'a [u8], Name)], &'b [(&'a [u8], Name)])
+    requires sorted { IsTrue (is_sorted byte_cmp (shown_refs refs.now)) }
+    ensures { (object : Bytes) → put byte_cmp name.now object (shown_refs refs.now)
+        ≡ shown_refs result.0.now ++ (name.now, object) ∷ shown_refs result.1.now }
+{
+    match refs.binary_search_by(|held| held.0.cmp(name)) {
+        Ok(place) => (&refs[..place], &refs[place + 1..]),
+        Err(place) => (&refs[..place], &refs[place..]),
     }
 }
 
-/// Refs without the first one, where it has this name.
-fn without<'a, 'b>(refs: &'b [(&'a [u8], Name)], name: &[u8]) -> &'b [(&'a [u8], Name)] {
-    match refs.split_first() {
-        Some((first, behind)) if first.0 == name => behind,
-        _ => refs,
+/// Puts the lines of refs.
+fn put_all<A: Allocator>(next: &mut Next<A>, refs: &[(&[u8], Name)]) -> Result<(), AllocError>
+    requires bound { next.old.count ≤ length next.old.lines.items }
+    ensures lines { OnOk result (next.new.lines.items
+        ≡ next.old.lines.items ++ flat_map stored_ref (shown_refs refs.now)) }
+    ensures count { OnOk result (next.new.count ≡ next.old.count + length refs.now) }
+    ensures bound { OnOk result (next.new.count ≤ length next.new.lines.items) }
+{
+    for held in refs {
+        put(next, held.0, &held.1)?;
     }
+    Ok(())
+}
+
+/// Puts the line of a ref.
+fn put<A: Allocator>(next: &mut Next<A>, name: &[u8], object: &Name) -> Result<(), AllocError>
+    requires bound { next.old.count ≤ length next.old.lines.items }
+    ensures lines { OnOk result (next.new.lines.items
+        ≡ next.old.lines.items ++ stored_ref (name.now, object.now.bytes)) }
+    ensures count { OnOk result (next.new.count ≡ next.old.count + 1) }
+    ensures bound { OnOk result (next.new.count ≤ length next.new.lines.items) }
+{
+    put_ref(&mut next.lines, name, object)?;
+    next.count += 1;
+    Ok(())
 }

@@ -2,5 +2,9 @@
 #![tactic(auto)]
 
 mod ref_lines;
+mod ref_names;
+#[cfg(test)]
+mod tests;
 
-pub use ref_lines::{RefLines, put_ref, ref_names};
+pub use ref_lines::{RefLines, put_ref};
+pub use ref_names::ref_names;

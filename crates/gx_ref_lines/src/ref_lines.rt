@@ -1,99 +1,84 @@
-//! The refs of a repository, by their lines. Source: git-show-ref(1), and gitrevisions(7), "refname".
+//! Refs by their lines. Source: git-show-ref(1).
 
-ghost use Rattle.std.specs.Prelude.{◌≡◌, ◌++◌, List, map, IfOk, IsTrue, OnOk};
+ghost use Rattle.std.specs.Prelude.{◌≡◌, ◌++◌, List, IfOk, IfSome, IsTrue, OnOk, Err, Some};
 ghost use Rattle.std.specs.FinMap.Entries.{is_sorted};
 ghost use Rattle.std.specs.List.{flat_map};
-ghost use Rattle.std.specs.Map.{lookup};
-ghost use Rattle.gx_model.specs.Revisions.Denotation.{ref_names};
+ghost use Rattle.std.specs.Option.{option_map};
+ghost use Rattle.gx_model.specs.Objects.{is_name};
 ghost use Rattle.gx_model.specs.Stores.StoreText.{stored_ref};
-ghost use Rattle.gx_model.specs.Texts.{Bytes, byte_cmp, same_bytes};
-ghost use Rattle.gx_object.specs.Parts.{bytes_if};
+ghost use Rattle.gx_model.specs.Texts.{Bytes, byte_cmp};
+ghost use Rattle.gx_model.specs.Texts.RefNames.{is_ref_name};
+ghost use Rattle.gx_objects.specs.Answers.{AreRefs, SpellsRefs};
+ghost use Rattle.gx_objects.specs.declared.fault.LookFault.TheVariants as faults;
 ghost use Rattle.gx_ref_lines.specs.Refs.{shown_refs};
+ghost use Rattle.gx_repo.specs.Refs.{FindsObject, shown_lent_ref};
 
 use gx_object::Name;
 use gx_objects::LookFault;
 use gx_text::cut;
 use std::alloc::{AllocError, Allocator};
 
-/// The refs of some lines, in the byte order of their names.
+/// The refs of some lines, in their order.
 #[derive(Drop)]
 pub struct RefLines<'a, A: Allocator> {
     pub refs: Vec<(&'a [u8], Name), A>,
 }
 
 impl<'a, A: Allocator + Copy> RefLines<'a, A> {
-    /// Those of lines.
+    /// The refs of lines.
+    ///
+    /// OutOfMemory: a growth was refused. Damaged: the text isn't that of lines of refs.
+    /// Cost: the text. Takes memory for the refs, whose names are lent. Source: git-show-ref(1).
     pub fn read(alloc: A, lines: &'a [u8]) -> Result<RefLines<'a, A>, LookFault>
         ensures lines { IfOk result
             (λ read. lines.now ≡ flat_map stored_ref (shown_refs read.refs.items)) }
-        ensures all { (refs : List (Bytes × Bytes)) → lines.now ≡ flat_map stored_ref refs → AreRefs refs
-            → IfOk result (λ read. shown_refs read.refs.items ≡ refs) }
+        ensures all { (refs : List (Bytes × Bytes)) → lines.now ≡ flat_map stored_ref refs
+            → AreRefs refs → IfOk result (λ read. shown_refs read.refs.items ≡ refs) }
         ensures damaged { result ≡ Err faults.Damaged → SpellsRefs lines.now → ⊥ }
+        ensures read { result ≡ Err faults.ReadFailed → ⊥ }
     {
         let mut refs = Vec::new(alloc);
         let mut rest = lines;
-        while let Some((line, behind)) = cut(rest, b'\n') {
-            let Some((digits, name)) = cut(line, b' ') else {
+        while !rest.is_empty() {
+            let Some((held, behind)) = first_ref(rest) else {
                 return Err(LookFault::Damaged);
             };
-            let Some(object) = Name::read_lower(digits) else {
-                return Err(LookFault::Damaged);
-            };
-            refs.push((name, object))?;
+            refs.push(held)?;
             rest = behind;
         }
         Ok(RefLines { refs })
     }
 
-    /// The object of the ref of this name.
+    /// The object of the ref of this name, where the refs stand in the byte order of their names.
+    ///
+    /// Cost: a binary search. Takes no memory. Source: gitglossary(7), "ref".
     pub fn find(&self, name: &[u8]) -> Option<Name>
         ensures { IsTrue (is_sorted byte_cmp (shown_refs self.now.refs.items))
-            → bytes_if result ≡ lookup (same_bytes name.now) (shown_refs self.now.refs.items) }
+            → FindsObject (shown_refs self.now.refs.items) name.now result }
     {
-        match self
-            .refs
-            .as_slice()
-            .binary_search_by(|held| held.0.cmp(name))
-        {
-            Ok(place) => Some(self.refs[place].1),
+        let refs = self.refs.as_slice();
+        match refs.binary_search_by(|held| held.0.cmp(name)) {
+            Ok(place) => Some(refs[place].1),
             Err(_) => None,
         }
     }
 }
 
-/// The ref names that the base of a revision may stand for, in their order.
-pub fn ref_names<A: Allocator + Copy>(
-    alloc: A,
-    base: &[u8],
-) -> Result<Vec<Vec<u8, A>, A>, AllocError>
-    ensures { IfOk result (λ names. map (λ name. name.items) names.items ≡ ref_names base.now) }
+/// The ref in the first line, and what follows the line.
+fn first_ref(text: &[u8]) -> Option<((&[u8], Name), &[u8])>
+    ensures spelled { IfSome result
+        (λ first. text.now ≡ stored_ref (shown_lent_ref first.0) ++ first.1.now) }
+    ensures first { (ref : Bytes × Bytes) (rest : Bytes) → text.now ≡ stored_ref ref ++ rest
+        → IsTrue (is_ref_name ref.0) → IsTrue (is_name ref.1)
+        → option_map (λ first. (shown_lent_ref first.0, first.1.now)) result ≡ Some (ref, rest) }
 {
-    let mut names = Vec::new(alloc);
-    names.push(joined(alloc, b"", base, b"")?)?;
-    names.push(joined(alloc, b"refs/", base, b"")?)?;
-    names.push(joined(alloc, b"refs/tags/", base, b"")?)?;
-    names.push(joined(alloc, b"refs/heads/", base, b"")?)?;
-    names.push(joined(alloc, b"refs/remotes/", base, b"")?)?;
-    names.push(joined(alloc, b"refs/remotes/", base, b"/HEAD")?)?;
-    Ok(names)
+    let (line, rest) = cut(text, b'\n')?;
+    let (digits, name) = cut(line, b' ')?;
+    let object = Name::read_lower(digits)?;
+    Some(((name, object), rest))
 }
 
-/// Three texts, one behind the other.
-fn joined<A: Allocator + Copy>(
-    alloc: A,
-    front: &[u8],
-    middle: &[u8],
-    end: &[u8],
-) -> Result<Vec<u8, A>, AllocError>
-    ensures { IfOk result (λ text. text.items ≡ front.now ++ middle.now ++ end.now) }
-{
-    let mut text = Vec::from_slice(alloc, front)?;
-    text.extend_from_slice(middle)?;
-    text.extend_from_slice(end)?;
-    Ok(text)
-}
-
-/// Appends the line of a ref.
+/// Appends the line of a ref. Cost: the line. Source: git-show-ref(1).
 pub fn put_ref<A: Allocator>(
     lines: &mut Vec<u8, A>,
     name: &[u8],

@@ -1,22 +1,55 @@
 -- What is put into a small repository. Source: Pro Git, "Git Objects".
-use Rattle.std.specs.Prelude.{◌≡◌, [], ◌∷◌, ◌++◌, Option, Some, IfSome}
+use Rattle.std.specs.Prelude.{◌≡◌, ◌≢◌, List, [], ◌∷◌, ◌++◌, Option, Some, None, Result, Ok, Err, IfErr, IfSome}
+use Rattle.std.specs.List.{AllByRecursion}
+use Rattle.std.specs.Map.{lookup}
 use Rattle.gx_model.specs.declared.objects.Kind.{Kind}
-use Rattle.gx_model.specs.Texts.{Bytes}
-use Rattle.gx_model.specs.declared.objects.Kind.TheVariants as kind
-use Rattle.gx_model.specs.Histories.{Records}
-use Rattle.gx_model.specs.Records.HistoryOf.{commit_parts_in}
-use Rattle.gx_stand_ins.specs.SmallRepositories.{IsSmallOf, stood_for}
-use Rattle.gx_stand_ins.specs.declared.TheConstants.{NONCE}
+use Rattle.gx_model.specs.Faults.{Given}
+use Rattle.gx_model.specs.Histories.{Record, Records}
+use Rattle.gx_model.specs.Records.Publishing.{Ref}
+use Rattle.gx_model.specs.Texts.{Bytes, same_bytes}
+use Rattle.gx_object.specs.declared.name.Name.{Name}
+use Rattle.gx_rev.specs.RevFaults.{fault_of}
+use Rattle.gx_rev.specs.declared.fault.RevFault.{RevFault}
+use Rattle.gx_small_repo.specs.declared.fault.SmallFault.{SmallFault}
+use Rattle.gx_small_repo.specs.declared.fault.SmallFault.TheVariants.{Damaged}
+use Rattle.gx_stand_ins.specs.SmallRepositories.{IsSmallOf, base_name, stand_name}
+use Rattle.gx_stand_ins.specs.declared.bodies.TheConstants.{NONCE}
 
 -- a repository is a small one of what is told
 abbrev pub IsSmallOfTold : Option Records → Records → Type 0
 IsSmallOfTold told small = IfSome told (λ whole. IsSmallOf NONCE whole small)
 
--- a record of this kind and body came last, and the namer of small repositories gives it this name
-pub record PutsAs (old new : Records) (called : Bytes) (of_kind : Kind) (body : Bytes) : Type 0 where
+-- these are the refs of what is told
+abbrev pub AreRefsOfTold : Option Records → List Ref → Type 0
+AreRefsOfTold told refs = IfSome told (λ whole. refs ≡ whole.refs)
+
+-- a record of this kind and body came last, under the name that it has in small repositories
+pub record PutsAs (name : Kind → Bytes → Bytes) (old new : Records) (called : Bytes) (of_kind : Kind) (body : Bytes) : Type 0 where
+  pub named : stand_name NONCE name of_kind body ≡ called
   pub records : new.records ≡ old.records ++ (record { name = called; kind = of_kind; body = body }) ∷ []
   pub refs : new.refs ≡ old.refs
 
--- each ref that came to some refs is one of others
-abbrev pub AreAmong : List (Bytes × Bytes) → List (Bytes × Bytes) → List (Bytes × Bytes) → Type 0
-AreAmong whole old new = AllByRecursion (λ ref. lookup (same_bytes ref.0) whole ≡ Some ref.1) old → AllByRecursion (λ ref. lookup (same_bytes ref.0) whole ≡ Some ref.1) new
+-- only of what tells no repository it is answered that it is damaged
+abbrev pub TellsDamage : {X : Type 0} → Option Records → Result X SmallFault → Type 0
+TellsDamage told result = IfErr result (λ fault. fault ≡ Damaged → told ≡ None)
+
+-- it isn't answered that something is damaged
+abbrev pub IsNotOfDamage : {X : Type 0} → Result X SmallFault → Type 0
+IsNotOfDamage result = IfErr result (λ fault. fault ≢ Damaged)
+
+-- a ref is one of these
+abbrev pub IsRefOf : List Ref → Ref → Type 0
+IsRefOf refs ref = lookup (same_bytes ref.0) refs ≡ Some ref.1
+
+-- where all refs were among these, all are
+abbrev pub StayAmong : List Ref → List Ref → List Ref → Type 0
+StayAmong refs old new = AllByRecursion (IsRefOf refs) old → AllByRecursion (IsRefOf refs) new
+
+-- the name of what a base gives, or why it gives nothing
+abbrev pub given_name : Result Name RevFault → Given Bytes
+given_name (Ok name) = Ok name.bytes
+given_name (Err fault) = Err (fault_of fault)
+
+-- so the base of a revision gives
+abbrev pub GivesBase : (Kind → Bytes → Bytes) → Bytes → Records → Result Name RevFault → Type 0
+GivesBase name base repository given = base_name name repository base ≡ given_name given

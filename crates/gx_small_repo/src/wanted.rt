@@ -1,16 +1,18 @@
 //! The objects of a repository that an import is to have at hand. Nothing rests on which these are: where one is missing, the
 //! stream goes the whole way.
 
+ghost use Rattle.gx_small_repo.specs.Small.{TellsDamage};
+
 use crate::SmallFault;
+use crate::base::base_given;
+use crate::commits::{enter, enter_parents, first_without, peeled};
 use gx_asked::Asked;
-use gx_ref_lines::{RefLines, ref_names};
 use gx_object::{Kind, Name, decode_commit, decode_tag};
 use gx_objects::Objects;
-use gx_questions::eval_base;
+use gx_ref_lines::{RefLines, ref_names};
 use gx_rev::{Revision, Suffix};
 use std::alloc::Allocator;
 use std::collections::{BTreeMap, BTreeSet};
-use std::mem;
 
 /// So many commits are put into a small repository at most.
 const MOST_COMMITS: usize = 4096;
@@ -24,11 +26,10 @@ pub(crate) struct Wanted<A: Allocator> {
     alloc: A,
     /// The names of refs that are asked for or set, and held.
     pub(crate) refs: BTreeSet<Vec<u8, A>, A>,
-    /// The commits, by their places.
-    pub(crate) commits: BTreeMap<u64, Name, A>,
-    pub(crate) tags: BTreeSet<Name, A>,
-    pub(crate) trees: BTreeSet<Name, A>,
-    pub(crate) blobs: BTreeSet<Name, A>,
+    /// The objects by their places, so that each stands behind what it names.
+    pub(crate) objects: BTreeMap<u64, (Kind, Name), A>,
+    /// So many more commits may be wanted.
+    left: usize,
     /// The commits that the texts give, and those that the branches hold which are set, by their places.
     given: BTreeMap<u64, Name, A>,
     held: BTreeMap<u64, Name, A>,
@@ -41,29 +42,43 @@ impl<A: Allocator + Copy> Wanted<A> {
         objects: &O,
         asked: &Asked<A>,
         lines: &RefLines<'_, A>,
-    ) -> Result<Wanted<A>, SmallFault> {
+    ) -> Result<Wanted<A>, SmallFault>
+        ensures fault { TellsDamage (O.told objects.now) result }
+    {
         let mut wanted = Wanted {
             alloc,
             refs: BTreeSet::new(alloc),
-            commits: BTreeMap::new(alloc),
-            tags: BTreeSet::new(alloc),
-            trees: BTreeSet::new(alloc),
-            blobs: BTreeSet::new(alloc),
+            objects: BTreeMap::new(alloc),
+            left: MOST_COMMITS,
             given: BTreeMap::new(alloc),
             held: BTreeMap::new(alloc),
         };
         let mut room = Vec::new(alloc);
-        for branch in asked.branches.iter() {
-            wanted.want_branch(objects, &mut room, lines, branch.as_slice())?;
-        }
-        for base in asked.bases.iter() {
-            wanted.want_base(objects, &mut room, lines, base.as_slice())?;
-        }
+        wanted.want_refs(objects, &mut room, asked, lines)?;
         for text in asked.texts.iter() {
             wanted.want_way(objects, &mut room, text.as_slice())?;
         }
         wanted.want_between(objects, &mut room)?;
         Ok(wanted)
+    }
+
+    /// Wants what the branches hold that are set, and what bases give.
+    fn want_refs<O: Objects>(
+        &mut self,
+        objects: &O,
+        room: &mut Vec<u8, A>,
+        asked: &Asked<A>,
+        lines: &RefLines<'_, A>,
+    ) -> Result<(), SmallFault>
+        ensures fault { TellsDamage (O.told objects.now) result }
+    {
+        for branch in asked.branches.iter() {
+            self.want_branch(objects, room, lines, branch.as_slice())?;
+        }
+        for base in asked.bases.iter() {
+            self.want_base(objects, room, lines, base.as_slice())?;
+        }
+        Ok(())
     }
 
     /// Wants what a branch holds that is set.
@@ -73,7 +88,9 @@ impl<A: Allocator + Copy> Wanted<A> {
         room: &mut Vec<u8, A>,
         lines: &RefLines<'_, A>,
         name: &[u8],
-    ) -> Result<(), SmallFault> {
+    ) -> Result<(), SmallFault>
+        ensures fault { TellsDamage (O.told objects.now) result }
+    {
         self.want_ref(objects, room, lines, name)?;
         if let Some(object) = lines.find(name) {
             if let Some(commit) = peeled(objects, room, &object)? {
@@ -90,7 +107,9 @@ impl<A: Allocator + Copy> Wanted<A> {
         room: &mut Vec<u8, A>,
         lines: &RefLines<'_, A>,
         name: &[u8],
-    ) -> Result<(), SmallFault> {
+    ) -> Result<(), SmallFault>
+        ensures fault { TellsDamage (O.told objects.now) result }
+    {
         let Some(object) = lines.find(name) else {
             return Ok(());
         };
@@ -105,11 +124,13 @@ impl<A: Allocator + Copy> Wanted<A> {
         room: &mut Vec<u8, A>,
         lines: &RefLines<'_, A>,
         base: &[u8],
-    ) -> Result<(), SmallFault> {
+    ) -> Result<(), SmallFault>
+        ensures fault { TellsDamage (O.told objects.now) result }
+    {
         for name in ref_names(self.alloc, base)? {
             self.want_ref(objects, room, lines, name.as_slice())?;
         }
-        match given(eval_base(objects, base))? {
+        match base_given(objects, base)? {
             Ok(name) => self.want(objects, room, &name),
             Err(_) => Ok(()),
         }
@@ -121,9 +142,13 @@ impl<A: Allocator + Copy> Wanted<A> {
         objects: &O,
         room: &mut Vec<u8, A>,
         text: &[u8],
-    ) -> Result<(), SmallFault> {
-        let revision = Revision::read(self.alloc, text)?;
-        let Ok(mut at) = given(eval_base(objects, revision.base()))? else {
+    ) -> Result<(), SmallFault>
+        ensures fault { TellsDamage (O.told objects.now) result }
+    {
+        let Ok(revision) = Revision::read(self.alloc, text) else {
+            return Err(SmallFault::OutOfMemory);
+        };
+        let Ok(mut at) = base_given(objects, revision.base())? else {
             return Ok(());
         };
         for suffix in revision.suffixes() {
@@ -144,16 +169,17 @@ impl<A: Allocator + Copy> Wanted<A> {
         &mut self,
         objects: &O,
         room: &mut Vec<u8, A>,
-    ) -> Result<(), SmallFault> {
-        let mut front = mem::replace(&mut self.given, BTreeMap::new(self.alloc));
-        let Some(oldest) = first_without(&self.held, &front) else {
+    ) -> Result<(), SmallFault>
+        ensures fault { TellsDamage (O.told objects.now) result }
+    {
+        let Some(oldest) = first_without(&self.held, &self.given) else {
             return Ok(());
         };
         for _step in 0..MOST_BETWEEN {
-            match front.pop_last() {
+            match self.given.pop_last() {
                 Some((place, commit)) if place > oldest => {
-                    self.want_parents(objects, room, &commit, 1)?;
-                    enter_parents(&mut front, objects, room, &commit)?;
+                    self.want_parents(objects, room, &commit, 0)?;
+                    enter_parents(&mut self.given, objects, room, &commit)?;
                 }
                 _ => return Ok(()),
             }
@@ -167,36 +193,40 @@ impl<A: Allocator + Copy> Wanted<A> {
         objects: &O,
         room: &mut Vec<u8, A>,
         name: &Name,
-    ) -> Result<(), SmallFault> {
+    ) -> Result<(), SmallFault>
+        ensures fault { TellsDamage (O.told objects.now) result }
+    {
         let Some(object) = objects.object(name, room)? else {
-            return Err(SmallFault::Damaged);
+            return Ok(());
         };
-        match object.kind {
-            Kind::Blob => {
-                self.blobs.insert(*name)?;
-            }
-            Kind::Tree => {
-                self.trees.insert(*name)?;
-            }
-            Kind::Commit => self.want_commit(objects, name)?,
-            Kind::Tag => {
-                let commit = decode_tag(object.body)?.object();
-                self.tags.insert(*name)?;
-                self.want_commit(objects, &commit)?;
-            }
+        if object.kind == Kind::Tag {
+            let commit = decode_tag(object.body)?.object();
+            self.want_commit(objects, &commit)?;
+        }
+        if object.kind == Kind::Commit {
+            return self.want_commit(objects, name);
+        }
+        if let Some(place) = objects.place(name)? {
+            self.objects.insert(place, (object.kind, *name))?;
         }
         Ok(())
     }
 
     /// Wants a commit.
-    fn want_commit<O: Objects>(&mut self, objects: &O, name: &Name) -> Result<(), SmallFault> {
+    fn want_commit<O: Objects>(&mut self, objects: &O, name: &Name) -> Result<(), SmallFault>
+        ensures fault { TellsDamage (O.told objects.now) result }
+    {
         let Some(place) = objects.place(name)? else {
-            return Err(SmallFault::Damaged);
+            return Ok(());
         };
-        self.commits.insert(place, *name)?;
-        if self.commits.len() > MOST_COMMITS {
+        if self.objects.contains_key(&place) {
+            return Ok(());
+        }
+        if self.left == 0 {
             return Err(SmallFault::TooMany);
         }
+        self.left -= 1;
+        self.objects.insert(place, (Kind::Commit, *name))?;
         Ok(())
     }
 
@@ -207,16 +237,35 @@ impl<A: Allocator + Copy> Wanted<A> {
         room: &mut Vec<u8, A>,
         at: &Name,
         suffix: Suffix,
-    ) -> Result<Option<Name>, SmallFault> {
+    ) -> Result<Option<Name>, SmallFault>
+        ensures fault { TellsDamage (O.told objects.now) result }
+    {
         match suffix {
             Suffix::Itself | Suffix::Tag => Ok(Some(*at)),
             Suffix::Blob | Suffix::Tree => Ok(None),
-            Suffix::Peeled | Suffix::Commit | Suffix::Parent(0) => peeled(objects, room, at),
-            Suffix::Parent(number) => match peeled(objects, room, at)? {
-                Some(commit) => self.want_parents(objects, room, &commit, number),
-                None => Ok(None),
-            },
+            Suffix::Peeled | Suffix::Commit => peeled(objects, room, at),
+            Suffix::Parent(number) => self.want_parent(objects, room, at, number),
             Suffix::Ancestor(number) => self.want_ancestors(objects, room, at, number),
+        }
+    }
+
+    /// Wants the parents of what an object peels to, and answers the one of this number; for 0, what it peels to.
+    fn want_parent<O: Objects>(
+        &mut self,
+        objects: &O,
+        room: &mut Vec<u8, A>,
+        at: &Name,
+        number: u64,
+    ) -> Result<Option<Name>, SmallFault>
+        ensures fault { TellsDamage (O.told objects.now) result }
+    {
+        let commit = peeled(objects, room, at)?;
+        if number == 0 {
+            return Ok(commit);
+        }
+        match commit {
+            Some(commit) => self.want_parents(objects, room, &commit, (number - 1) as usize),
+            None => Ok(None),
         }
     }
 
@@ -227,12 +276,14 @@ impl<A: Allocator + Copy> Wanted<A> {
         room: &mut Vec<u8, A>,
         at: &Name,
         number: u64,
-    ) -> Result<Option<Name>, SmallFault> {
+    ) -> Result<Option<Name>, SmallFault>
+        ensures fault { TellsDamage (O.told objects.now) result }
+    {
         let Some(mut commit) = peeled(objects, room, at)? else {
             return Ok(None);
         };
         for _step in 0..number {
-            let Some(parent) = self.want_parents(objects, room, &commit, 1)? else {
+            let Some(parent) = self.want_parents(objects, room, &commit, 0)? else {
                 return Ok(None);
             };
             commit = parent;
@@ -240,87 +291,28 @@ impl<A: Allocator + Copy> Wanted<A> {
         Ok(Some(commit))
     }
 
-    /// Wants the parents of a commit, and answers the one of this number, from 1.
+    /// Wants the parents of a commit, and answers the one at this place.
     fn want_parents<O: Objects>(
         &mut self,
         objects: &O,
         room: &mut Vec<u8, A>,
         commit: &Name,
-        number: u64,
-    ) -> Result<Option<Name>, SmallFault> {
+        place: usize,
+    ) -> Result<Option<Name>, SmallFault>
+        ensures fault { TellsDamage (O.told objects.now) result }
+    {
         let Some(object) = objects.object(commit, room)? else {
-            return Err(SmallFault::Damaged);
+            return Ok(None);
         };
         if object.kind != Kind::Commit {
             return Ok(None);
         }
         let view = decode_commit(object.body)?;
-        for place in 0..view.parent_count() {
-            if let Some(parent) = view.parent(place) {
+        for number in 0..view.parent_count() {
+            if let Some(parent) = view.parent(number) {
                 self.want_commit(objects, &parent)?;
             }
         }
-        Ok(view.parent((number - 1) as usize))
-    }
-}
-
-/// The first place in a map that doesn't stand in another.
-fn first_without<A: Allocator + Copy>(
-    places: &BTreeMap<u64, Name, A>,
-    others: &BTreeMap<u64, Name, A>,
-) -> Option<u64> {
-    for (place, _) in places.iter() {
-        if !others.contains_key(place) {
-            return Some(*place);
-        }
-    }
-    None
-}
-
-/// Enters a commit at its place.
-fn enter<O: Objects, A: Allocator + Copy>(
-    places: &mut BTreeMap<u64, Name, A>,
-    objects: &O,
-    commit: &Name,
-) -> Result<(), SmallFault> {
-    let Some(place) = objects.place(commit)? else {
-        return Err(SmallFault::Damaged);
-    };
-    places.insert(place, *commit)?;
-    Ok(())
-}
-
-/// Enters the parents of a commit at their places.
-fn enter_parents<O: Objects, A: Allocator + Copy>(
-    places: &mut BTreeMap<u64, Name, A>,
-    objects: &O,
-    room: &mut Vec<u8, A>,
-    commit: &Name,
-) -> Result<(), SmallFault> {
-    let Some(object) = objects.object(commit, room)? else {
-        return Err(SmallFault::Damaged);
-    };
-    let view = decode_commit(object.body)?;
-    for place in 0..view.parent_count() {
-        if let Some(parent) = view.parent(place) {
-            enter(places, objects, &parent)?;
-        }
-    }
-    Ok(())
-}
-
-/// The commit that an object is, or that it names as a tag.
-fn peeled<O: Objects, A: Allocator + Copy>(
-    objects: &O,
-    room: &mut Vec<u8, A>,
-    name: &Name,
-) -> Result<Option<Name>, SmallFault> {
-    match objects.object(name, room)? {
-        Some(object) => match object.kind {
-            Kind::Commit => Ok(Some(*name)),
-            Kind::Tag => Ok(Some(decode_tag(object.body)?.object())),
-            Kind::Blob | Kind::Tree => Ok(None),
-        },
-        None => Err(SmallFault::Damaged),
+        Ok(view.parent(place))
     }
 }

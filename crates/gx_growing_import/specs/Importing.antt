@@ -1,5 +1,6 @@
 -- What an import over a small repository gives the whole one. Source: git-fast-import(1).
-use Rattle.std.specs.Prelude.{◌≡◌, ℕ, Bool, List, ◌++◌, Option, Some, None, ⊤}
+use Rattle.std.specs.Prelude.{◌≡◌, ℕ, Bool, List, ◌++◌, length, Option, Some, None, ⊤}
+use Rattle.std.specs.List.{flat_map}
 use Rattle.gx_model.specs.declared.features.Features.{Features}
 use Rattle.gx_model.specs.declared.objects.Kind.{Kind}
 use Rattle.gx_model.specs.Texts.{Bytes}
@@ -7,9 +8,9 @@ use Rattle.gx_model.specs.Histories.{History, Record, Records, StandsFor}
 use Rattle.gx_model.specs.Records.HistoryOf.{history_of}
 use Rattle.gx_model.specs.Records.Sound.{IsSound}
 use Rattle.gx_model.specs.Replay.{finished, imported_asked}
+use Rattle.gx_model.specs.Stores.StoreText.{stored_ref}
 use Rattle.gx_import.specs.Imports.{report_of}
 use Rattle.gx_import.specs.declared.report.Report.{Report}
-use Rattle.gx_ref_lines.specs.Refs.{AreLines}
 
 -- the import of a text into a repository is accepted, with this progress and report, and makes this repository of it
 pub record TakesText (name : Kind → Bytes → Bytes) (asks : Features) (old new : Records) (text : Bytes) (fails : Bool) (progress : Bytes) (report : Report) : Type 0 where
@@ -21,7 +22,8 @@ pub record TakesText (name : Kind → Bytes → Bytes) (asks : Features) (old ne
 pub record GivesWhole (name : Kind → Bytes → Bytes) (asks : Features) (whole : Records) (text : Bytes) (fails : Bool) (new : List Record)
     (refs : Bytes) (count : ℕ) (progress : Bytes) (report : Report) : Type 0 where
   pub named : List (Bytes × Bytes)
-  pub lines : AreLines named count refs
+  pub lines : refs ≡ flat_map stored_ref named
+  pub counted : count ≡ length named
   pub takes : TakesText name asks whole (record { records = whole.records ++ new; refs = named }) text fails progress report
   pub sound : IsSound name (record { records = whole.records ++ new; refs = named })
 

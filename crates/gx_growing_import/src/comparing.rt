@@ -11,7 +11,6 @@ ghost use Rattle.gx_stand_ins.specs.declared.bodies.TheConstants.{NONCE};
 
 use crate::WholeWay;
 use gx_asked::Asked;
-use gx_model::repository_laws::names_tell_values;
 use gx_object::Namer;
 use gx_objects::Objects;
 use gx_ref_lines::{RefLines, ref_names};
@@ -89,9 +88,6 @@ fn compare_base<O: Objects, N: Namer, A: Allocator + Copy>(
     ensures same { IfSome (O.told objects.now) (λ whole. OnOk result
         (IsSameBaseName (O.name_of objects.now) whole small.now.1 base.now)) }
 {
-    names_tell_values();
-    objects.sound_if_told();
-    small.sound();
     let held = base_given(objects, base)?;
     if base_given(small, base)? == held {
         Ok(())

@@ -2,11 +2,11 @@
 #![tactic(auto)]
 
 mod fault;
-mod new_objects;
-mod next_refs;
+mod objects;
+mod refs;
 #[cfg(test)]
 mod tests;
 
 pub use fault::BroughtFault;
-pub use new_objects::new_objects;
-pub use next_refs::next_refs;
+pub use objects::new_objects;
+pub use refs::next_refs;

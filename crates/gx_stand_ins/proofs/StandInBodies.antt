@@ -4,7 +4,7 @@ use Rattle.std.specs.Prelude.{IsTrue, codes}
 use Rattle.gx_model.specs.declared.objects.Kind.TheVariants as kind
 use Rattle.gx_model.specs.Texts.{Bytes, cut_at}
 use Rattle.gx_model.specs.Texts.Idents.{is_ident}
-use Rattle.gx_model.specs.Objects.{CommitParts, IsCommitText, commit_text, hex, is_name, line, text_lines}
+use Rattle.gx_model.specs.Objects.{CommitParts, commit_text, hex, is_name, line, text_lines}
 use Rattle.gx_model.specs.Histories.Values.{is_proper_text}
 use Rattle.gx_model.proofs.ObjectTexts.BodiesReadBack.{commit_read}
 use Rattle.gx_model.proofs.Records.OneHistory.{line_flat}

@@ -2,9 +2,11 @@
 use Rattle.std.specs.Prelude.{◌≡◌, ◌≢◌, List, [], ◌∷◌, ◌++◌, Option, Some, None, Result, Ok, Err, IfErr, IfSome}
 use Rattle.std.specs.List.{AllByRecursion}
 use Rattle.std.specs.Map.{lookup}
+use Rattle.std.specs.Option.{option_map}
 use Rattle.gx_model.specs.declared.objects.Kind.{Kind}
 use Rattle.gx_model.specs.Faults.{Given}
-use Rattle.gx_model.specs.Histories.{Record, Records}
+use Rattle.gx_model.specs.Histories.{Records, object_of}
+use Rattle.gx_model.specs.Records.Growth.{record_named}
 use Rattle.gx_model.specs.Records.Publishing.{Ref}
 use Rattle.gx_model.specs.Texts.{Bytes, same_bytes}
 use Rattle.gx_object.specs.declared.name.Name.{Name}
@@ -18,6 +20,10 @@ use Rattle.gx_stand_ins.specs.declared.bodies.TheConstants.{NONCE}
 -- a repository is a small one of what is told
 abbrev pub IsSmallOfTold : Option Records → Records → Type 0
 IsSmallOfTold told small = IfSome told (λ whole. IsSmallOf NONCE whole small)
+
+-- the object of this name has this kind and body in what is told
+abbrev pub IsBodyOfTold : Option Records → Kind → Bytes → Bytes → Type 0
+IsBodyOfTold told of_kind called body = IfSome told (λ whole. Some (of_kind, body) ≡ option_map object_of (record_named whole.records called))
 
 -- these are the refs of what is told
 abbrev pub AreRefsOfTold : Option Records → List Ref → Type 0

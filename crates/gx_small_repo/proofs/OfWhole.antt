@@ -1,6 +1,6 @@
 -- A small repository stays one where an object of the whole one is put into it, or one that stands for it.
-use Rattle.std.proofs.Common.{◌≡◌, List, [], ◌∷◌, ◌++◌, Option, None, Some, refl, sym, ap, subst, ◌∙◌}
-use Rattle.std.specs.Prelude.{IfSome, MatchOption}
+use Rattle.std.proofs.Common.{◌≡◌, List, [], ◌∷◌, ◌++◌, Option, None, Some, Result, Ok, Err, sym, ap, subst, ◌∙◌}
+use Rattle.std.specs.Prelude.{IfSome, MatchOption, OnOk}
 use Rattle.std.specs.List.{AllByRecursion}
 use Rattle.std.specs.Map.{lookup}
 use Rattle.std.specs.Option.{unwrap_or}
@@ -17,6 +17,7 @@ use Rattle.gx_model.proofs.Records.HeldObjects.{IsShown, held_shown, is_shown}
 use Rattle.gx_stand_ins.specs.Bodies.{StandsForCommit}
 use Rattle.gx_stand_ins.specs.SmallRepositories.{HasTreeOf, IsOfWhole, StandsForHeld, name_behind, stand_name, stood_for}
 use Rattle.gx_stand_ins.specs.declared.bodies.TheConstants.{NONCE}
+use Rattle.gx_small_repo.specs.declared.fault.SmallFault.{SmallFault}
 use Rattle.gx_small_repo.specs.Small.{IsBodyOfTold, IsSmallOfTold, PutsAs}
 
 all_push : {X : Type 0} (P : X → Type 0) (xs : List X) (x : X) → AllByRecursion P xs → P x → AllByRecursion P (xs ++ x ∷ [])
@@ -71,24 +72,33 @@ module _ (whole : Records) (called body : Bytes) where
         tree = ap (λ b. (commit_parts_in b).tree) h.of_body ∙ ap (λ (p : CommitParts). p.tree) (commit_read parts own text) ∙ sym s.tree_is;
       })
 
-module _ (told : Option Records) (name : Kind → Bytes → Bytes) (old new : Records) (called body : Bytes) (small : IsSmallOfTold told old) where
-  pub own_stays : (of_kind : Kind) → IsBodyOfTold told of_kind called body → PutsAs name old new called of_kind body → IsSmallOfTold told new
-  own_stays of_kind held puts = stays told name old new called of_kind body small (by told held) puts
-    where
-      by : (o : Option Records) → IsBodyOfTold o of_kind called body → IfSome o (λ whole. IsOfWhole NONCE whole (made called of_kind body))
-      by None h = tt
-      by (Some whole) h = own_is whole called body name of_kind (is_shown whole.records called of_kind body h) puts.named
+module _ (told : Option Records) (name : Kind → Bytes → Bytes) (old new : Records) (called body : Bytes) (result : Result (Unit {0}) SmallFault) (small : IsSmallOfTold told old) where
+  Puts : Kind → Type 0
+  Puts of_kind = OnOk result (PutsAs name old new called of_kind body)
 
-  pub blob_stays : IfSome told (λ whole. Holds whole.records kind.Blob called) → stood_for NONCE kind.Blob body ≡ Some called → PutsAs name old new called kind.Blob body → IsSmallOfTold told new
-  blob_stays held e puts = stays told name old new called kind.Blob body small (by told held) puts
+  put_stays : (of_kind : Kind) → (stand_name NONCE name of_kind body ≡ called → IfSome told (λ whole. IsOfWhole NONCE whole (made called of_kind body))) → Puts of_kind → OnOk result (IsSmallOfTold told new)
+  put_stays of_kind is puts = by result puts
+    where
+      by : (r : Result (Unit {0}) SmallFault) → OnOk r (PutsAs name old new called of_kind body) → OnOk r (IsSmallOfTold told new)
+      by (Ok tt) p = stays told name old new called of_kind body small (is p.named) p
+      by (Err fault) p = tt
+
+  pub own_stays : (of_kind : Kind) → IsBodyOfTold told of_kind called body → Puts of_kind → OnOk result (IsSmallOfTold told new)
+  own_stays of_kind held puts = put_stays of_kind (by told held) puts
+    where
+      by : (o : Option Records) → IsBodyOfTold o of_kind called body → stand_name NONCE name of_kind body ≡ called → IfSome o (λ whole. IsOfWhole NONCE whole (made called of_kind body))
+      by None h e = tt
+      by (Some whole) h e = own_is whole called body name of_kind (is_shown whole.records called of_kind body h) e
+
+  pub blob_stays : IfSome told (λ whole. Holds whole.records kind.Blob called) → stood_for NONCE kind.Blob body ≡ Some called → Puts kind.Blob → OnOk result (IsSmallOfTold told new)
+  blob_stays held e puts = put_stays kind.Blob (λ _. by told held) puts
     where
       by : (o : Option Records) → IfSome o (λ whole. Holds whole.records kind.Blob called) → IfSome o (λ whole. IsOfWhole NONCE whole (made called kind.Blob body))
       by None h = tt
       by (Some whole) h = blob_is whole called body h e
 
-  pub commit_stays : (own : Bytes) → IsBodyOfTold told kind.Commit called own → (parts : CommitParts) → IsCommitText parts own → StandsForCommit parts.tree called body → PutsAs name old new called kind.Commit body
-      → IsSmallOfTold told new
-  commit_stays own held parts text s puts = stays told name old new called kind.Commit body small (by told held) puts
+  pub commit_stays : (own : Bytes) → IsBodyOfTold told kind.Commit called own → (parts : CommitParts) → IsCommitText parts own → StandsForCommit parts.tree called body → Puts kind.Commit → OnOk result (IsSmallOfTold told new)
+  commit_stays own held parts text s puts = put_stays kind.Commit (λ _. by told held) puts
     where
       by : (o : Option Records) → IsBodyOfTold o kind.Commit called own → IfSome o (λ whole. IsOfWhole NONCE whole (made called kind.Commit body))
       by None h = tt

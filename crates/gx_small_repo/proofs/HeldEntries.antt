@@ -10,10 +10,11 @@ use Rattle.gx_model.specs.Texts.{Bytes, same_bytes}
 use Rattle.gx_model.specs.Objects.{Entry, IsTreeText}
 use Rattle.gx_model.specs.Histories.{Record, Records}
 use Rattle.gx_model.specs.Records.Growth.{record_named}
-use Rattle.gx_model.specs.Records.Sound.{AnyByRecursion, Holds, IsHeldAs, IsLinked, IsLinkedAfter, IsSound, IsTree}
+use Rattle.gx_model.specs.Records.Sound.{AnyByRecursion, IsHeldAs, IsLinked, IsLinkedAfter, IsSound, IsTree}
 use Rattle.gx_model.proofs.ObjectTexts.BodiesReadBack.{entries_read}
 use Rattle.gx_model.proofs.Records.HeldObjects.{is_shown}
-use Rattle.gx_small_repo.specs.Small.{IsBodyOfTold}
+use Rattle.gx_object.specs.declared.name.Name.{Name}
+use Rattle.gx_small_repo.specs.Small.{IsBodyOfTold, IsHeldByTold}
 
 some_left : {X : Type 0} (P : X → Type 0) (xs ys : List X) → AnyByRecursion P xs → AnyByRecursion P (xs ++ ys)
 some_left P [] ys h = absurd h
@@ -64,8 +65,8 @@ rest_held None before left e h steps = tt
 rest_held (Some whole) before left e h steps = (subst (AllByRecursion (λ e. IsHeldAs whole.records e.mode e.name)) steps h).1
 
 -- what a file names is a blob
-pub blob_held : (told : Option Records) (m : Mode) (n : Bytes) → (m ≡ File) ⊎ (m ≡ Exec) ⊎ (m ≡ Link) → IfSome told (λ whole. IsHeldAs whole.records m n) → IfSome told (λ whole. Holds whole.records kind.Blob n)
+pub blob_held : (told : Option Records) (m : Mode) (n : Name) → (m ≡ File) ⊎ (m ≡ Exec) ⊎ (m ≡ Link) → IsHeldByTold told m n → IsHeldByTold told File n
 blob_held None m n is h = tt
-blob_held (Some whole) m n (inl e) h = subst (λ k. IsHeldAs whole.records k n) e h
-blob_held (Some whole) m n (inr (inl e)) h = subst (λ k. IsHeldAs whole.records k n) e h
-blob_held (Some whole) m n (inr (inr e)) h = subst (λ k. IsHeldAs whole.records k n) e h
+blob_held (Some whole) m n (inl e) h = subst (λ k. IsHeldAs whole.records k n.bytes) e h
+blob_held (Some whole) m n (inr (inl e)) h = subst (λ k. IsHeldAs whole.records k n.bytes) e h
+blob_held (Some whole) m n (inr (inr e)) h = subst (λ k. IsHeldAs whole.records k n.bytes) e h

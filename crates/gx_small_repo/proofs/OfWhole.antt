@@ -1,24 +1,27 @@
 -- A small repository stays one where an object of the whole one is put into it, or one that stands for it.
 use Rattle.std.proofs.Common.{◌≡◌, List, [], ◌∷◌, ◌++◌, Option, None, Some, Result, Ok, Err, sym, ap, subst, ◌∙◌}
-use Rattle.std.specs.Prelude.{IfSome, MatchOption, OnOk}
+use Rattle.std.specs.Prelude.{IfSome, IsTrue, MatchOption, OnOk}
+use Rattle.std.specs.FinMap.Entries.{is_sorted}
 use Rattle.std.specs.List.{AllByRecursion}
 use Rattle.std.specs.Map.{lookup}
 use Rattle.std.specs.Option.{unwrap_or}
 use Rattle.gx_model.specs.declared.objects.Kind.{Kind}
 use Rattle.gx_model.specs.declared.objects.Kind.TheVariants as kind
-use Rattle.gx_model.specs.Texts.{Bytes, same_bytes}
+use Rattle.gx_model.specs.declared.objects.Mode.TheVariants.{File}
+use Rattle.gx_model.specs.Texts.{Bytes, byte_cmp, same_bytes}
 use Rattle.gx_model.specs.Objects.{CommitParts, IsCommitText}
 use Rattle.gx_model.specs.Histories.{Record, Records}
 use Rattle.gx_model.specs.Records.Growth.{record_named}
 use Rattle.gx_model.specs.Records.HistoryOf.{commit_parts_in}
-use Rattle.gx_model.specs.Records.Sound.{Holds}
+use Rattle.gx_model.specs.Records.Publishing.{Ref}
+use Rattle.gx_model.specs.Records.Sound.{Holds, IsHeldAs, IsSound}
 use Rattle.gx_model.proofs.ObjectTexts.BodiesReadBack.{commit_read}
 use Rattle.gx_model.proofs.Records.HeldObjects.{IsShown, held_shown, is_shown}
 use Rattle.gx_stand_ins.specs.Bodies.{StandsForCommit}
-use Rattle.gx_stand_ins.specs.SmallRepositories.{HasTreeOf, IsOfWhole, StandsForHeld, name_behind, stand_name, stood_for}
+use Rattle.gx_stand_ins.specs.SmallRepositories.{HasTreeOf, IsOfWhole, IsSmallOf, StandsForHeld, name_behind, stand_name, stood_for}
 use Rattle.gx_stand_ins.specs.declared.bodies.TheConstants.{NONCE}
 use Rattle.gx_small_repo.specs.declared.fault.SmallFault.{SmallFault}
-use Rattle.gx_small_repo.specs.Small.{IsBodyOfTold, IsSmallOfTold, PutsAs}
+use Rattle.gx_small_repo.specs.Small.{AreRefsOfTold, IsBodyOfTold, IsRefOf, IsSmallOfTold, PutsAs, StayAmong}
 
 all_push : {X : Type 0} (P : X → Type 0) (xs : List X) (x : X) → AllByRecursion P xs → P x → AllByRecursion P (xs ++ x ∷ [])
 all_push P [] x h p = (p, tt)
@@ -63,13 +66,14 @@ module _ (whole : Records) (called body : Bytes) where
       subst (λ o. MatchOption o (record_named whole.records called ≡ Some (made called kind.Blob body)) (λ n. StandsForHeld NONCE whole kind.Blob n body)) (sym e) held
 
   -- a commit that stands for one that is held, and has its tree
-  commit_is : (own : Bytes) → IsShown whole.records called kind.Commit own → (parts : CommitParts) → IsCommitText parts own → StandsForCommit parts.tree called body → IsOfWhole NONCE whole (made called kind.Commit body)
-  commit_is own h parts text s =
-      subst (λ o. MatchOption o (record_named whole.records called ≡ Some (made called kind.Commit body)) (λ n. StandsForHeld NONCE whole kind.Commit n body)) (sym s.stands) (record {
+  commit_is : (own : Bytes) → IsShown whole.records called kind.Commit own → (parts : CommitParts) → IsCommitText parts own → stood_for NONCE kind.Commit body ≡ Some called → (commit_parts_in body).tree ≡ parts.tree
+      → IsOfWhole NONCE whole (made called kind.Commit body)
+  commit_is own h parts text stands tree =
+      subst (λ o. MatchOption o (record_named whole.records called ≡ Some (made called kind.Commit body)) (λ n. StandsForHeld NONCE whole kind.Commit n body)) (sym stands) (record {
         held = h.held;
         found = h.found;
         commit = h.of_kind;
-        tree = ap (λ b. (commit_parts_in b).tree) h.of_body ∙ ap (λ (p : CommitParts). p.tree) (commit_read parts own text) ∙ sym s.tree_is;
+        tree = ap (λ b. (commit_parts_in b).tree) h.of_body ∙ ap (λ (p : CommitParts). p.tree) (commit_read parts own text) ∙ sym tree;
       })
 
 module _ (told : Option Records) (name : Kind → Bytes → Bytes) (old new : Records) (called body : Bytes) (result : Result (Unit {0}) SmallFault) (small : IsSmallOfTold told old) where
@@ -90,16 +94,38 @@ module _ (told : Option Records) (name : Kind → Bytes → Bytes) (old new : Re
       by None h e = tt
       by (Some whole) h e = own_is whole called body name of_kind (is_shown whole.records called of_kind body h) e
 
-  pub blob_stays : IfSome told (λ whole. Holds whole.records kind.Blob called) → stood_for NONCE kind.Blob body ≡ Some called → Puts kind.Blob → OnOk result (IsSmallOfTold told new)
+  pub blob_stays : IfSome told (λ whole. IsHeldAs whole.records File called) → stood_for NONCE kind.Blob body ≡ Some called → Puts kind.Blob → OnOk result (IsSmallOfTold told new)
   blob_stays held e puts = put_stays kind.Blob (λ _. by told held) puts
     where
-      by : (o : Option Records) → IfSome o (λ whole. Holds whole.records kind.Blob called) → IfSome o (λ whole. IsOfWhole NONCE whole (made called kind.Blob body))
+      by : (o : Option Records) → IfSome o (λ whole. IsHeldAs whole.records File called) → IfSome o (λ whole. IsOfWhole NONCE whole (made called kind.Blob body))
       by None h = tt
       by (Some whole) h = blob_is whole called body h e
 
-  pub commit_stays : (own : Bytes) → IsBodyOfTold told kind.Commit called own → (parts : CommitParts) → IsCommitText parts own → StandsForCommit parts.tree called body → Puts kind.Commit → OnOk result (IsSmallOfTold told new)
-  commit_stays own held parts text s puts = put_stays kind.Commit (λ _. by told held) puts
+  -- what is put is the body of a commit that stands for this one, and has its tree
+  pub commit_stays : (own : Bytes) → IsBodyOfTold told kind.Commit called own → (parts : CommitParts) → IsCommitText parts own → (tree items : Bytes) → tree ≡ parts.tree → body ≡ items → StandsForCommit tree called items
+      → Puts kind.Commit → OnOk result (IsSmallOfTold told new)
+  commit_stays own held parts text tree items same e s puts = put_stays kind.Commit (λ _. by told held) puts
     where
       by : (o : Option Records) → IsBodyOfTold o kind.Commit called own → IfSome o (λ whole. IsOfWhole NONCE whole (made called kind.Commit body))
       by None h = tt
-      by (Some whole) h = commit_is whole called body own (is_shown whole.records called kind.Commit own h) parts text s
+      by (Some whole) h =
+          commit_is whole called body own (is_shown whole.records called kind.Commit own h) parts text (ap (stood_for NONCE kind.Commit) e ∙ s.stands)
+          (ap (λ b. (commit_parts_in b).tree) e ∙ s.tree_is ∙ same)
+
+-- ---- the whole of it
+
+-- nothing is a small repository of whatever is told
+pub none_small : (told : Option Records) (r : Records) → r ≡ record { records = []; refs = [] } → IsSmallOfTold told r
+none_small None r e = tt
+none_small (Some whole) r e = subst (IsSmallOf NONCE whole) (sym e) (record { records = tt; refs = tt })
+
+-- and so is one with refs that the whole one has
+pub refs_stay : (told : Option Records) (name : Kind → Bytes → Bytes) → IfSome told (IsSound name) → (refs : List Ref) → AreRefsOfTold told refs → (old new : Records) → IsSmallOfTold told old → new.records ≡ old.records
+    → (IsTrue (is_sorted byte_cmp refs) → StayAmong refs old.refs new.refs) → IsSmallOfTold told new
+refs_stay None name sound refs are old new small same stay = tt
+refs_stay (Some whole) name sound refs are old new small same stay = record {
+  records = subst (AllByRecursion (IsOfWhole NONCE whole)) (sym same) small.records;
+  refs =
+      let sorted = subst (λ rs. IsTrue (is_sorted byte_cmp rs)) (sym are) sound.sorted in
+      subst (λ rs. AllByRecursion (IsRefOf rs) new.refs) are (stay sorted (subst (λ rs. AllByRecursion (IsRefOf rs) old.refs) (sym are) small.refs));
+}

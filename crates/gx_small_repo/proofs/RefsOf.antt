@@ -15,7 +15,7 @@ use Rattle.gx_repo.specs.declared.fault.PublishFault.{PublishFault}
 use Rattle.gx_repo.specs.declared.publishing.RefChange.{RefChange}
 use Rattle.gx_repo.specs.Publishing.{fault_of}
 use Rattle.gx_repo.specs.Refs.{shown_update}
-use Rattle.gx_small_repo.specs.Small.{IsRefOf, StayAmong}
+use Rattle.gx_small_repo.specs.Small.{AreOf, IsRefOf, StayAmong}
 
 module _ (refs : List Ref) where
   put_stays : (n object : Bytes) (es : List Ref) → IsRefOf refs (n, object) → AllByRecursion (IsRefOf refs) es → AllByRecursion (IsRefOf refs) (put byte_cmp n object es)
@@ -35,10 +35,6 @@ module _ (refs : List Ref) where
   set_stays r changes new e is h =
       let set = are_set r changes new e in
       subst (AllByRecursion (IsRefOf refs)) (sym set.are) (all_stay changes r.refs is h)
-
--- changes to these refs, where they stand in order
-abbrev pub AreOf : List Ref → List RefChange → Type 0
-AreOf refs changes = IsTrue (is_sorted byte_cmp refs) → AllByRecursion (IsRefOf refs) (map shown_update changes)
 
 pub push_of : (refs : List Ref) (changes new : List RefChange) (change : RefChange) → new ≡ changes ++ change ∷ []
     → (IsTrue (is_sorted byte_cmp refs) → Some change.target.bytes ≡ lookup (same_bytes change.name.now) refs) → AreOf refs changes → AreOf refs new

@@ -1,13 +1,12 @@
 //! Objects that are put into a small repository. Source: Pro Git, "Git Objects".
 
-ghost use Rattle.std.specs.Prelude.{◌≡◌, IfOk, IfSome, OnOk};
-ghost use Rattle.gx_model.specs.declared.objects.Kind.TheVariants as kinds;
-ghost use Rattle.gx_model.specs.Records.Sound.{Holds};
-ghost use Rattle.gx_small_repo.specs.Small.{IsBodyOfTold, IsNotOfDamage, IsSmallOfTold, PutsAs, TellsDamage};
+ghost use Rattle.std.specs.Prelude.{◌≡◌, IfOk, OnOk};
+ghost use Rattle.gx_model.specs.declared.objects.Mode.TheVariants.{File};
+ghost use Rattle.gx_small_repo.specs.Small.{IsBodyOfTold, IsHeldByTold, IsNotOfDamage, IsSmallOfTold, PutsAs, TellsDamage};
 ghost use Rattle.gx_stand_ins.specs.declared.bodies.TheConstants.{NONCE};
 
 use crate::SmallFault;
-use gx_object::{CommitView, Kind, Mode, Name, Namer, decode_commit, decode_tree};
+use gx_object::{CommitView, Entry, Kind, Mode, Name, Namer, decode_commit, decode_tree};
 use gx_objects::Objects;
 use gx_repo::Repo;
 use gx_stand_ins::{StandIn, blob_body, commit_body};
@@ -60,12 +59,12 @@ fn put_commit<O: Objects, N: Namer, A: Allocator + Copy>(
     let mut room = Vec::new(origin.alloc);
     let body = body_of(origin.objects, &mut room, Kind::Commit, name)?;
     let view = decode_commit(body)?;
-    let tree = view.tree();
-    put_tree(origin, repo, &tree, MOST_PATH)?;
+    let root = view.tree();
+    put_tree(origin, repo, &root, MOST_PATH)?;
     if are_parents_held(repo, &view) {
         return put(repo, Kind::Commit, body, name);
     }
-    let stand_in = commit_body(origin.alloc, tree, name)?;
+    let stand_in = commit_body(origin.alloc, root, name)?;
     put(repo, Kind::Commit, stand_in.as_slice(), name)
 }
 
@@ -89,36 +88,39 @@ fn put_tree<O: Objects, N: Namer, A: Allocator + Copy>(
     let mut room = Vec::new(origin.alloc);
     let body = body_of(origin.objects, &mut room, Kind::Tree, name)?;
     origin.objects.sound_if_told();
-    for entry in decode_tree(body)? {
-        match entry.mode {
-            Mode::Gitlink => {}
-            Mode::Dir => put_below(origin, repo, &entry.name, entry.component, most)?,
-            Mode::File | Mode::Exec | Mode::Link => put_blob(origin, repo, &entry.name)?,
-        }
+    let entries = decode_tree(body)?;
+    for entry in entries {
+        put_entry(origin, repo, &entry, most)?;
     }
     put(repo, Kind::Tree, body, name)
 }
 
-/// Puts the tree of an entry with this component, whose paths have at most so many bytes with it.
+/// Puts what an entry names, which isn't a submodule's commit. Its paths have at most so many bytes.
 #[cycle(trees)]
-fn put_below<O: Objects, N: Namer, A: Allocator + Copy>(
+fn put_entry<O: Objects, N: Namer, A: Allocator + Copy>(
     origin: &Origin<'_, O, A>,
     repo: &mut Repo<StandIn<N>, A>,
-    name: &Name,
-    component: &[u8],
+    entry: &Entry<'_>,
     most: usize,
 ) -> Result<(), SmallFault>
     requires nonce { repo.now.0.nonce ≡ NONCE }
+    requires held { IsHeldByTold (O.told origin.now.objects.now) entry.now.mode entry.now.name }
     requires small { IsSmallOfTold (O.told origin.now.objects.now) repo.now.1 }
     ensures small { OnOk result (IsSmallOfTold (O.told origin.now.objects.now) repo.new.1) }
     ensures namer { repo.new.0 ≡ repo.old.0 }
     ensures fault { TellsDamage (O.told origin.now.objects.now) result }
 {
-    let used = component.len();
-    if used >= most {
-        return Err(SmallFault::NotTaken);
+    match entry.mode {
+        Mode::Gitlink => Ok(()),
+        Mode::File | Mode::Exec | Mode::Link => put_blob(origin, repo, &entry.name),
+        Mode::Dir => {
+            let used = entry.component.len();
+            if used >= most {
+                return Err(SmallFault::NotTaken);
+            }
+            put_tree(origin, repo, &entry.name, most - used - 1)
+        }
     }
-    put_tree(origin, repo, name, most - used - 1)
 }
 
 /// Puts a blob: with its own bytes where the stream brings it, and else what stands for it.
@@ -128,8 +130,7 @@ fn put_blob<O: Objects, N: Namer, A: Allocator + Copy>(
     name: &Name,
 ) -> Result<(), SmallFault>
     requires nonce { repo.now.0.nonce ≡ NONCE }
-    requires held { IfSome (O.told origin.now.objects.now)
-        (λ whole. Holds whole.records kinds.Blob name.now.bytes) }
+    requires held { IsHeldByTold (O.told origin.now.objects.now) File name.now }
     requires small { IsSmallOfTold (O.told origin.now.objects.now) repo.now.1 }
     ensures small { OnOk result (IsSmallOfTold (O.told origin.now.objects.now) repo.new.1) }
     ensures namer { repo.new.0 ≡ repo.old.0 }

@@ -6,8 +6,8 @@ use Rattle.gx_small_repo.proofs.putting.+trees.Given as goal
 abbrev pub decreases-put_tree : goal.decreases-put_tree
 decreases-put_tree g l = 2 * l.most + 1
 
-abbrev pub decreases-put_below : goal.decreases-put_below
-decreases-put_below g l = 2 * l.most
+abbrev pub decreases-put_entry : goal.decreases-put_entry
+decreases-put_entry g l = 2 * l.most
 
 abbrev pub invariant-put_tree-loop-entry : goal.invariant-put_tree-loop-entry
 invariant-put_tree-loop-entry g l = record {

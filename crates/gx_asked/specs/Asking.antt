@@ -1,5 +1,5 @@
 -- What a stream asks of the repository that it begins with. Source: git-fast-import(1), "Commands".
-use Rattle.std.specs.Prelude.{◌≡◌, ℕ, Bool, List, map, Some, IsTrue, ⊤}
+use Rattle.std.specs.Prelude.{◌≡◌, ℕ, Bool, List, map, None, Some, IsTrue, ⊤}
 use Rattle.std.specs.declared.vec.Vec.{Vec}
 use Rattle.std.specs.List.{AllByRecursion, list_any}
 use Rattle.gx_model.specs.declared.features.Features.{Features}
@@ -36,6 +36,10 @@ AsksAmong branches bases = OfCommand (IsAmong branches) (IsAmong bases) (BeginsO
 -- so do the commands of a text
 abbrev pub AskAmong : List Bytes → List Bytes → Features → Bytes → Bool → Type 0
 AskAmong branches bases asks text fails = AllByRecursion (AsksAmong branches bases) (commands_asked asks (items_of text fails)).list
+
+-- the commands of a text end without a fault
+abbrev pub HasNoFault : Features → Bytes → Bool → Type 0
+HasNoFault asks text fails = (commands_asked asks (items_of text fails)).fault ≡ None
 
 -- what a command brings begins otherwise than what stands for others, whatever it asks for
 abbrev pub BringsOther : Command → Type 0

@@ -1,7 +1,7 @@
 //! What a stream asks of the repository that it begins with, and what it brings. Source: git-fast-import(1), "Commands".
 
-ghost use Rattle.std.specs.Prelude.{IfErr, IfOk};
-ghost use Rattle.gx_asked.specs.Asking.{AskAmong, IsCause, texts_of};
+ghost use Rattle.std.specs.Prelude.{IfErr, IfOk, OnOk};
+ghost use Rattle.gx_asked.specs.Asking.{AskAmong, HasNoFault, IsCause, texts_of};
 
 use crate::AskedFault;
 use gx_command::{CommandReader, Features};
@@ -41,6 +41,7 @@ impl<A: Allocator + Copy> Asked<A> {
     ) -> Result<Asked<A>, AskedFault>
         ensures asked { IfOk result (λ asked. AskAmong (texts_of asked.branches.keys)
             (texts_of asked.bases.keys) features stream.now fails) }
+        ensures whole { OnOk result (HasNoFault features stream.now fails) }
         ensures fault { IfErr result (IsCause features stream.now fails) }
     {
         let mut asked = Asked {

@@ -43,7 +43,11 @@ impl<A: Allocator + Copy> Asked<A> {
         ensures kept { Keeps self.old self.new }
         ensures asked { OnOk result (Asks self.new (shown_reset reset.now)) }
     {
-        enter_text(self.alloc, &mut self.branches, reset.branch.bytes.as_slice())?;
+        enter_text(
+            self.alloc,
+            &mut self.branches,
+            reset.branch.bytes.as_slice(),
+        )?;
         self.ask_where(&reset.from)
     }
 
@@ -56,7 +60,11 @@ impl<A: Allocator + Copy> Asked<A> {
         if may_stand_in(commit.message.as_slice()) {
             return Err(AskedFault::StandsForAnother);
         }
-        enter_text(self.alloc, &mut self.branches, commit.branch.bytes.as_slice())?;
+        enter_text(
+            self.alloc,
+            &mut self.branches,
+            commit.branch.bytes.as_slice(),
+        )?;
         self.ask_where(&commit.from)?;
         self.ask_all(commit.merges.as_slice())?;
         self.enter_changes(namer, commit.changes.as_slice())

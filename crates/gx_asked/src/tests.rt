@@ -56,7 +56,13 @@ fn all_that_a_stream_asks_for_is_told(rt: HostRuntime) -> Result<(), Fail> {
     let texts = [b"@".as_slice(), b"main^2", b"refs/heads/old~1", b"topic"];
     assert!(rt; are(&asked.texts, &texts));
     let digits = b"d670460b4b4aece5915caf5c68d12f560a9fe3e4".as_slice();
-    let bases = [b"HEAD".as_slice(), b"main", b"refs/heads/old", b"topic", digits];
+    let bases = [
+        b"HEAD".as_slice(),
+        b"main",
+        b"refs/heads/old",
+        b"topic",
+        digits,
+    ];
     assert!(rt; are(&asked.bases, &bases));
     assert!(rt; are(&asked.branches, &[b"refs/heads/a", b"refs/heads/b"]));
     assert!(rt; asked.brought.len() == 2);

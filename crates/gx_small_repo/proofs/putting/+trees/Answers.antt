@@ -8,7 +8,7 @@ pub put_tree-loop-entry-init : goal.put_tree-loop-entry-init
 put_tree-loop-entry-init g t c =
     let told = g.O.Objects.told c.args.origin.now.objects.now in
     let held = entries_held told (g.O.Objects.name_of c.args.origin.now.objects.now) c.sound_if_told.ensures.sound c.args.name.now.bytes c.in_ok-body.body.now c.in_ok-body.ensures.held c.in_ok-entries.entries c.in_ok-entries.ensures.found in
-    record { small = c.requires.small; namer = refl; held = subst (AreHeld told) (sym c.into_iter-entry-iterator.ensures.into_iter_gives) held }
+    record { small = c.requires.small; namer = refl {a = c.args.repo.now.0}; held = subst (AreHeld told) (sym c.into_iter-entry-iterator.ensures.into_iter_gives) held }
 
 pub put_tree-returns-clause-small : goal.put_tree-returns-clause-small
 put_tree-returns-clause-small g t c =

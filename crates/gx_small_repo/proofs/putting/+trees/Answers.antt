@@ -1,4 +1,4 @@
-use Rattle.std.proofs.Common.{◌≡◌, refl, subst, sym}
+use Rattle.std.proofs.Common.{refl, subst, sym}
 use Rattle.gx_model.specs.declared.objects.Kind.TheVariants as kinds
 use Rattle.gx_small_repo.proofs.HeldEntries.{AreHeld, entries_held}
 use Rattle.gx_small_repo.proofs.OfWhole.{own_stays}

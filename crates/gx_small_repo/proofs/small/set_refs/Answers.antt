@@ -1,7 +1,7 @@
-use Rattle.std.proofs.Common.{◌≡◌, refl, subst, sym, map}
+use Rattle.std.proofs.Common.{refl, subst, sym, map}
 use Rattle.gx_repo.specs.Refs.{shown_update}
 use Rattle.gx_ref_lines.specs.Refs.{shown_refs}
-use Rattle.gx_small_repo.specs.Small.{AreOf, StayAmong}
+use Rattle.gx_small_repo.specs.Small.{AreOf}
 use Rattle.gx_small_repo.proofs.RefsOf.{set_stays}
 use Rattle.gx_small_repo.proofs.small.set_refs.Goals as goal
 

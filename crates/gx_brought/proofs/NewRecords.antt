@@ -228,11 +228,11 @@ pub nothing : (told : Option Records) → IfSome told (λ whole. ⊤)
 nothing None = tt
 nothing (Some whole) = tt
 
-pub never : {P : Type 0} {Q : Records → Type 0} (told : Option Records) → (P → ⊥) → IfSome told (λ whole. P → Q whole)
-never None none = tt
-never (Some whole) none = λ p. absurd (none p)
+pub never : (P : Type 0) (told : Option Records) (rs : List Record) (held : ℕ) → (P → ⊥) → IfSome told (λ whole. P → put_all whole.records (drop held rs) ≡ None)
+never P None rs held none = tt
+never P (Some whole) rs held none = λ p. absurd (none p)
 
-module _ {X : Type 0} (fault : BroughtFault) where
+module _ (X : Type 0) (fault : BroughtFault) where
   pub none_at : (name : Kind → Bytes → Bytes) (told : Option Records) (rs : List Record) (held place : ℕ) (r : Record) (new : List Record) → slice_get rs place ≡ Some r → AreLeft name told rs held place new
       → IfSome told (λ whole. IsLookedFor r whole (Err fault)) → IfSome told (λ whole. ◌≡◌ {A = Result X BroughtFault} (Err fault) (Err faults.NameHeld) → put_all whole.records (drop held rs) ≡ None)
   none_at name None rs held place r new at a found = tt

@@ -1,3 +1,4 @@
 pub mod AlikeTexts
 pub mod RefsTold
+pub mod TakenTexts
 pub mod WholeImports

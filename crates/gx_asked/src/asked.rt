@@ -51,9 +51,10 @@ impl<A: Allocator + Copy> Asked<A> {
             branches: BTreeSet::new(alloc),
             brought: BTreeSet::new(alloc),
         };
-        let mut reader = CommandReader::asking(alloc, Bytes::new(stream, PIECE, fails), features);
+        let source = Bytes::new(stream, PIECE, fails);
+        let mut reader = CommandReader::asking(alloc, source, features);
         while let Some(command) = reader.next()? {
-            asked.enter(namer, &command)?;
+            asked.enter(namer, command)?;
         }
         Ok(asked)
     }

@@ -7,7 +7,7 @@ use Rattle.gx_model.specs.declared.features.Features.{Features}
 use Rattle.gx_model.specs.Texts.{Bytes}
 use Rattle.gx_model.specs.Streams.Commands as model
 use Rattle.gx_model.specs.Streams.Commands.{Commands}
-use Rattle.gx_model.specs.Streams.Grammar.{commands_asked, stops, with_command}
+use Rattle.gx_model.specs.Streams.Grammar.{commands_asked, stops}
 use Rattle.gx_model.specs.Streams.Items.{items_of}
 use Rattle.gx_text.specs.Devices.{Coming}
 use Rattle.gx_stream.specs.Heard.{heard_upto}

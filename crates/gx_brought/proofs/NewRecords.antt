@@ -1,5 +1,5 @@
 -- Records of a small repository, put behind those of the whole one.
-use Rattle.std.proofs.Common.{◌≡◌, ℕ, zero, suc, ◌+◌, ◌<◌, ◌≤◌, Bool, true, false, cond, refl, sym, ap, subst, ◌∙◌, arith, List, [], ◌∷◌, ◌++◌, length, length-append, map, take, drop, Option, Some, None, Ok, Err, append_assoc, append-nil}
+use Rattle.std.proofs.Common.{◌≡◌, ℕ, zero, suc, ◌+◌, ◌≤◌, Bool, true, false, cond, refl, sym, ap, subst, ◌∙◌, arith, List, [], ◌∷◌, ◌++◌, length, length-append, map, take, drop, Option, Some, None, Ok, Err, append_assoc, append-nil}
 use Rattle.std.specs.Prelude.{IfSome, Result, not, ◌||◌, slice_get, ⊤}
 use Rattle.std.specs.Bool.{passes}
 use Rattle.std.specs.List.{list_any}
@@ -11,10 +11,9 @@ use Rattle.std.proofs.Math.Numerals.{suc-eq-add-one}
 use Rattle.std.proofs.Math.Seq.{take-suc}
 use Rattle.std.proofs.lemmas.Option.{get_or_from_slice_get, slice_get_within}
 use Rattle.gx_model.specs.declared.objects.Kind.{Kind}
-use Rattle.gx_model.specs.Histories.{AreDistinct, Record, Records, object_of}
+use Rattle.gx_model.specs.Histories.{AreDistinct, Record, Records}
 use Rattle.gx_model.specs.Records.Growth.{put, put_all, put_under, record_named, same_object}
 use Rattle.gx_model.specs.Texts.{Bytes, same_bytes}
-use Rattle.gx_model.proofs.Records.GrownRecords.{put_held}
 use Rattle.gx_model.proofs.Records.TakenRecords.{new_name}
 use Rattle.gx_model.proofs.Texts.PathTests.{same_is}
 use Rattle.gx_brought.specs.Brought.{IsLookedFor, has_stand_in}

@@ -1,4 +1,4 @@
-use Rattle.std.proofs.Common.{◌≡◌, ◌+◌, ◌-◌, ◌≤◌, ◌∷◌, ◌++◌, sym, ap, subst, ◌∙◌, arith, length, length-drop, take, drop}
+use Rattle.std.proofs.Common.{◌≡◌, ◌+◌, ◌∷◌, ◌++◌, sym, ap, subst, ◌∙◌, arith, length, length-drop, take, drop}
 use Rattle.std.specs.FinMap.Entries.{put}
 use Rattle.std.specs.List.{flat_map}
 use Rattle.std.proofs.lemmas.List.{length-map, take_rest}

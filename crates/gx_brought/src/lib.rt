@@ -1,0 +1,12 @@
+//! What an import over a small repository brings the whole one: objects and refs.
+#![tactic(auto)]
+
+mod fault;
+mod objects;
+mod refs;
+#[cfg(test)]
+mod tests;
+
+pub use fault::BroughtFault;
+pub use objects::new_objects;
+pub use refs::next_refs;

@@ -36,7 +36,7 @@ returns-clause-whole g c =
     let sound = subst (λ nm. IfSome told (IsSound nm)) c.requires.names c.sound_if_told.ensures.sound in
     let small_sound = by_namer (λ nm. IsSound nm small.1) small.0 c.args.namer c.in_ok-small.ensures.namer c.store.ensures.sound in
     let same = told_lines (g.O.Objects.name_of c.args.objects.now) c.sound_if_told.ensures.namer told c.sound_if_told.ensures.sound
-        c.in_ok-ref_lines.field-0.now refs c.in_ok-lines.ensures.all c.in_ok-ref_lines.ensures.lines in
+    c.in_ok-ref_lines.field-0.now refs c.in_ok-lines.ensures.all c.in_ok-ref_lines.ensures.lines in
     let alike = subst (λ nm. IfSome told (λ whole. AreAlike nm whole small.1 c.in_ok-asked.asked)) c.requires.names c.in_ok-compare.ensures.alike in
     let takes = by_namer (λ nm. TakesText nm asks small.1 now text fails progress report) small.0 c.args.namer c.in_ok-small.ensures.namer c.in_ok-report.ensures.takes in
     let held : c.len-held.result ≡ length small.1.records = c.len-held.ensures.count ∙ ap (λ r. length r.1) c.store.ensures.held in

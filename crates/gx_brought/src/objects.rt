@@ -10,7 +10,6 @@ use crate::BroughtFault;
 use gx_object::{Kind, Name, Namer};
 use gx_objects::Objects;
 use gx_repo::Repo;
-use gx_stand_ins::StandIn;
 use gx_store::{Store, StoreFault};
 use std::alloc::Allocator;
 use std::hash::RandomState;
@@ -20,11 +19,11 @@ use std::hash::RandomState;
 /// OutOfMemory: a growth was refused. ReadFailed: a read failed. Damaged: what is asked is no repository's. NotTaken: one of
 /// these objects has another's name. NameHeld: the whole repository holds another object under a name of theirs.
 /// Cost and memory: a look-up for each, and its body. Source: Pro Git, "Git Objects".
-pub fn new_objects<O: Objects, N: Namer + Copy, A: Allocator + Copy>(
+pub fn new_objects<O: Objects, N: Namer, M: Namer, A: Allocator + Copy>(
     alloc: A,
     namer: N,
     objects: &O,
-    small: &Repo<StandIn<N>, A>,
+    small: &Repo<M, A>,
     held: usize,
     state: RandomState,
 ) -> Result<Store<N, A>, BroughtFault>

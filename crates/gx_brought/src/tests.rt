@@ -1,29 +1,40 @@
 //! What a small repository brings: objects that aren't held, and refs beside those that are.
 
 use crate::{BroughtFault, new_objects, next_refs};
-use gx_object::{Kind, Name, Sha1Namer};
+use gx_object::{Kind, Name, Namer, Sha1Namer};
 use gx_ref_lines::{RefLines, put_ref};
 use gx_repo::{RefChange, Repo};
-use gx_stand_ins::{NONCE, StandIn, blob_body};
 use std::hash::RandomState;
 use std::test::Fail;
 
-const NAMER: StandIn<Sha1Namer> = StandIn {
-    namer: Sha1Namer,
-    nonce: NONCE,
-};
+/// Gives all objects one name.
+#[derive(Clone, Copy, Debug)]
+struct OneName;
+
+impl Namer for OneName {
+    ghost use Rattle.std.specs.Prelude.{replicate};
+    ghost use Rattle.std.proofs.Common.{refl};
+
+    ghost name_of = { λ _ kind body. replicate 20 7 };
+
+    ghost is_namer = { λ _. record { long = λ _ _. refl; bytes = λ _ _. refl } };
+
+    fn name(&self, _kind: Kind, _body: &[u8]) -> Name {
+        Name { bytes: [7; 20] }
+    }
+}
 
 const COMMIT: &[u8] = b"tree 4b825dc642cb6eb9a060e54bf8d69288fbee4904\n\
     author A <a@x> 1 +0000\ncommitter A <a@x> 1 +0000\n\nm\n";
 
-const OLD: Name = Name { bytes: [7; 20] };
+const OLD: Name = Name { bytes: [31; 20] };
 
 #[test]
 fn held_objects_are_left_out(rt: HostRuntime) -> Result<(), Fail> {
     let state = RandomState::new(&rt)?;
     let mut whole = Repo::new(rt.alloc(), Sha1Namer, state);
     whole.add_blob(b"x")?;
-    let mut small = Repo::new(rt.alloc(), NAMER, state);
+    let mut small = Repo::new(rt.alloc(), Sha1Namer, state);
     small.add_blob(b"x")?;
     small.add_blob(b"y")?;
     let Ok(new) = new_objects(rt.alloc(), Sha1Namer, &whole, &small, 0, state) else {
@@ -35,12 +46,11 @@ fn held_objects_are_left_out(rt: HostRuntime) -> Result<(), Fail> {
 }
 
 #[test]
-fn stand_ins_and_other_objects_are_refused(rt: HostRuntime) -> Result<(), Fail> {
+fn other_names_and_other_objects_are_refused(rt: HostRuntime) -> Result<(), Fail> {
     let state = RandomState::new(&rt)?;
-    let mut whole = Repo::new(rt.alloc(), NAMER, state);
-    let mut small = Repo::new(rt.alloc(), NAMER, state);
-    let name = small.store().name(Kind::Blob, b"y");
-    small.add_blob(&blob_body(&name))?;
+    let mut whole = Repo::new(rt.alloc(), OneName, state);
+    let mut small = Repo::new(rt.alloc(), OneName, state);
+    small.add_blob(b"x")?;
     let answer = new_objects(rt.alloc(), Sha1Namer, &whole, &small, 0, state);
     assert!(rt; matches!(answer, Err(BroughtFault::NotTaken)));
     let answer = new_objects(rt.alloc(), Sha1Namer, &whole, &small, 1, state);
@@ -61,7 +71,7 @@ fn refs_are_set_beside_others(rt: HostRuntime) -> Result<(), Fail> {
     let Ok(lines) = RefLines::read(rt.alloc(), text.as_slice()) else {
         panic!(rt; "not read");
     };
-    let mut small = Repo::new(rt.alloc(), NAMER, state);
+    let mut small = Repo::new(rt.alloc(), Sha1Namer, state);
     small.add_record(Kind::Tree, b"")?;
     let target = small.add_record(Kind::Commit, COMMIT)?;
     let changes = [

@@ -71,7 +71,7 @@ fn compare_names<N: Namer, A: Allocator + Copy>(
     ensures same { OnOk result
         (AreSameRefs (shown_refs lines.now.refs.items) small.now.1.refs (ref_names base.now)) }
 {
-    for name in ref_names(alloc, base)? {
+    for name in ref_names(alloc, base)?.iter() {
         compare_ref(small, lines, name.as_slice())?;
     }
     Ok(())

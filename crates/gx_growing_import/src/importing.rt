@@ -15,7 +15,7 @@ use gx_objects::Objects;
 use gx_ref_lines::RefLines;
 use gx_repo::Repo;
 use gx_small_repo::small_repository;
-use gx_stand_ins::stand_in_laws::{asked_among, stand_ins_bring};
+use gx_stand_ins::stand_in_laws::stand_ins_bring;
 use gx_store::Store;
 use gx_text::{Bytes, Growing, PIECE};
 use std::alloc::Allocator;
@@ -56,7 +56,6 @@ pub fn import_over<O: Objects, N: Namer + Copy, A: Allocator + Copy>(
         given.objects.1 given.refs.items given.ref_count given.progress.items given.report) }
 {
     histories_of_records();
-    asked_among();
     stand_ins_bring();
     objects.sound_if_told();
     let mut room = Vec::new(alloc);

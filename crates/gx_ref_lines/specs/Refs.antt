@@ -8,3 +8,7 @@ use Rattle.gx_repo.specs.Refs.{shown_lent_ref}
 -- refs as they are lent
 abbrev pub shown_refs : List (Bor Bytes × Name) → List (Bytes × Bytes)
 shown_refs refs = map shown_lent_ref refs
+
+-- a ref in front of a text, and what is behind it, as they are lent
+abbrev pub shown_front : (Bor Bytes × Name) × Bor Bytes → (Bytes × Bytes) × Bytes
+shown_front front = (shown_lent_ref front.0, front.1.now)

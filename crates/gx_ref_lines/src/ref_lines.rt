@@ -10,7 +10,7 @@ ghost use Rattle.gx_model.specs.Texts.{Bytes, byte_cmp};
 ghost use Rattle.gx_model.specs.Texts.RefNames.{is_ref_name};
 ghost use Rattle.gx_objects.specs.Answers.{AreRefs, SpellsRefs};
 ghost use Rattle.gx_objects.specs.declared.fault.LookFault.TheVariants as faults;
-ghost use Rattle.gx_ref_lines.specs.Refs.{shown_refs};
+ghost use Rattle.gx_ref_lines.specs.Refs.{shown_front, shown_refs};
 ghost use Rattle.gx_repo.specs.Refs.{FindsObject, shown_lent_ref};
 
 use gx_object::Name;
@@ -70,7 +70,7 @@ fn first_ref(text: &[u8]) -> Option<((&[u8], Name), &[u8])>
         (λ first. text.now ≡ stored_ref (shown_lent_ref first.0) ++ first.1.now) }
     ensures first { (ref : Bytes × Bytes) (rest : Bytes) → text.now ≡ stored_ref ref ++ rest
         → IsTrue (is_ref_name ref.0) → IsTrue (is_name ref.1)
-        → option_map (λ first. (shown_lent_ref first.0, first.1.now)) result ≡ Some (ref, rest) }
+        → option_map shown_front result ≡ Some (ref, rest) }
 {
     let (line, rest) = cut(text, b'\n')?;
     let (digits, name) = cut(line, b' ')?;

@@ -1,5 +1,6 @@
 pub mod StandIns
 pub mod Asked
+pub mod MoreAsked
 pub mod SmallRepositories
 pub mod Bodies
 pub mod StandInNames

@@ -1,0 +1,3 @@
+pub mod LookedFor
+pub mod MergedRefs
+pub mod NewRecords

@@ -1,0 +1,2 @@
+pub mod AlikeTexts
+pub mod WholeImports

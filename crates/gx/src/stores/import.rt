@@ -10,9 +10,7 @@ use crate::streams::kept::Kept;
 use crate::streams::progress::{Beside, ProgressLine};
 use crate::streams::reports::{tell_changes, tell_import, tell_nameless};
 use crate::streams::traced::Traced;
-use gx_cli::{
-    CliFault, Explanation, Features, ImportReport, Repo, import_opened, report_opened,
-};
+use gx_cli::{CliFault, Explanation, Features, ImportReport, Repo, import_opened, report_opened};
 use gx_object::Sha1Namer;
 use gx_text::{FromRead, IntoWrite};
 use gx_versions::StoreForm;

@@ -13,10 +13,11 @@ use Rattle.gx_model.specs.Revisions.Denotation.{ref_names}
 use Rattle.gx_model.specs.Streams.Commands.{Command}
 use Rattle.gx_model.proofs.Texts.PathTests.{same_is}
 use Rattle.gx_asked.specs.Asking.{AsksAmong, IsAmong, texts_of}
+use Rattle.gx_asked.specs.declared.asked.Asked.{Asked}
 use Rattle.gx_stand_ins.specs.MoreAsked.{commands_more}
 use Rattle.gx_stand_ins.specs.SmallRepositories.{AsksAlike, BeginsOtherwise, IsSameBase, IsSameRef}
 use Rattle.gx_stand_ins.specs.declared.bodies.TheConstants.{NONCE}
-use Rattle.gx_growing_import.specs.Alike.{AreSameRefs, IsSameBaseName}
+use Rattle.gx_growing_import.specs.Alike.{AreAlike, AreSameRefs, IsSameBaseName}
 
 -- ---- loops over texts
 
@@ -24,11 +25,6 @@ use Rattle.gx_growing_import.specs.Alike.{AreSameRefs, IsSameBaseName}
 pub all_lent : {A : Type 0} (P : Bytes → Type 0) (xs : List (Bor (Vec ℕ A))) → AllByRecursion (λ x. P x.now.items) xs → AllByRecursion P (texts_of (map deref xs))
 all_lent P [] h = tt
 all_lent P (x ∷ xs) h = (h.0, all_lent P xs h.1)
-
--- and so of each that is owned
-pub all_owned : {A : Type 0} (P : Bytes → Type 0) (xs : List (Vec ℕ A)) → AllByRecursion (λ x. P x.items) xs → AllByRecursion P (texts_of xs)
-all_owned P [] h = tt
-all_owned P (x ∷ xs) h = (h.0, all_owned P xs h.1)
 
 -- one more
 pub all_next : {X : Type 0} (P : X → Type 0) (xs : List X) (x : X) → AllByRecursion P xs → P x → AllByRecursion P (xs ++ x ∷ [])
@@ -47,10 +43,15 @@ module _ (name : Kind → Bytes → Bytes) (small : Records) where
   base_told None refs base same value names = tt
   base_told (Some whole) refs base same value names = record { refs = subst (λ rs. AreSameRefs rs small.refs (ref_names base)) same names; value = value }
 
-  pub all_told : (told : Option Records) {A : Type 0} (xs : List (Bor (Vec ℕ A))) → AllByRecursion (λ x. IsTold told x.now.items) xs
-      → IfSome told (λ whole. AllByRecursion (IsSameBase name NONCE whole small) (texts_of (map deref xs)))
-  all_told None xs h = tt
-  all_told (Some whole) xs h = all_lent (IsSameBase name NONCE whole small) xs h
+  -- so both tell alike the branches and the bases
+  pub alike_told : (told : Option Records) (refs : List (Bytes × Bytes)) {A : Type 0} (asked : Asked A) → IfSome told (λ whole. refs ≡ whole.refs)
+      → AreSameRefs refs small.refs (texts_of asked.branches.keys) → (xs : List (Bor (Vec ℕ A))) → AllByRecursion (λ x. IsTold told x.now.items) xs → map deref xs ≡ asked.bases.keys
+      → IfSome told (λ whole. AreAlike name whole small asked)
+  alike_told None refs asked same branches xs bases all = tt
+  alike_told (Some whole) refs asked same branches xs bases all = record {
+    branches = subst (λ rs. AreSameRefs rs small.refs (texts_of asked.branches.keys)) same branches;
+    bases = subst (λ keys. AllByRecursion (IsSameBase name NONCE whole small) (texts_of keys)) all (all_lent (IsSameBase name NONCE whole small) xs bases);
+  }
 
 -- ---- what commands ask for
 

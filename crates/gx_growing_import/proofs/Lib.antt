@@ -1,2 +1,3 @@
 pub mod AlikeTexts
+pub mod RefsTold
 pub mod WholeImports

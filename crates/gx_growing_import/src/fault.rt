@@ -3,7 +3,7 @@
 use gx_asked::AskedFault;
 use gx_brought::BroughtFault;
 use gx_command::CommandFault;
-use gx_import::ImportFault;
+use gx_import::{ImportFault, ImportKind};
 use gx_objects::LookFault;
 use gx_small_repo::SmallFault;
 use std::alloc::AllocError;
@@ -53,6 +53,7 @@ impl From<AskedFault> for WholeWay {
     fn from(fault: AskedFault) -> WholeWay {
         match fault {
             AskedFault::OutOfMemory => WholeWay::OutOfMemory,
+            AskedFault::Unread(CommandFault::OutOfMemory) => WholeWay::OutOfMemory,
             AskedFault::Unread(fault) => WholeWay::Unread(fault),
             AskedFault::StandsForAnother => WholeWay::StandsForAnother,
         }
@@ -73,7 +74,10 @@ impl From<SmallFault> for WholeWay {
 
 impl From<ImportFault> for WholeWay {
     fn from(fault: ImportFault) -> WholeWay {
-        WholeWay::Refused(fault)
+        match fault.kind {
+            ImportKind::OutOfMemory => WholeWay::OutOfMemory,
+            _ => WholeWay::Refused(fault),
+        }
     }
 }
 

@@ -1,43 +1,46 @@
-//! Imports over small repositories, of what is new and of what isn't done so.
+//! Imports over small repositories that come to what those over the whole ones come to.
+
+ghost use Rattle.std.specs.Prelude.{◌≡◌};
 
 use gx_growing_import::{Features, Imported, WholeWay, import_over};
 use gx_import::import;
-use gx_object::Sha1Namer;
+use gx_object::{Namer, Sha1Namer};
 use gx_objects::Objects;
 use gx_repo::Repo;
 use gx_text::{Bytes, Growing};
-use std::alloc::Global;
+use std::alloc::{Allocator, Global};
 use std::hash::RandomState;
 use std::test::Fail;
 
 /// Two commits of three files and a submodule, and a tag of the second.
-const BEFORE: &[u8] = b"commit refs/heads/main\ncommitter C <c@x> 1 +0000\ndata 2\nm\n\
+pub(crate) const BEFORE: &[u8] = b"commit refs/heads/main\ncommitter C <c@x> 1 +0000\ndata 2\nm\n\
     M 100644 inline a\ndata 2\nx\nM 100755 inline d/b\ndata 2\ny\n\
     commit refs/heads/main\nmark :1\ncommitter C <c@x> 2 +0000\ndata 2\nm\n\
     M 100644 inline d/e/c\ndata 2\nz\nM 160000 1212121212121212121212121212121212121212 s\n\
     tag v1\nfrom :1\ntagger T <t@x> 3 +0000\ndata 2\nt\n";
 
 /// A commit with a file moved, one copied and one that is there already, from a name; and a branch from a tag's parent.
-const AFTER: &[u8] = b"progress begun\ncommit refs/heads/main\nmark :1\ncommitter C <c@x> 4 +0000\n\
+pub(crate) const AFTER: &[u8] = b"progress begun\ncommit refs/heads/main\nmark :1\ncommitter C <c@x> 4 +0000\n\
     data 2\nn\nfrom refs/heads/main^0\nR a f\nC d g\nM 100644 inline h\ndata 2\nx\n\
     reset refs/heads/old\nfrom v1~1\n\ntag v2\nfrom :1\ndata 0\n";
 
+/// A merge of what was there, a branch that goes on, and one that is set anew.
+const MERGED: &[u8] = b"commit refs/heads/old\ncommitter C <c@x> 5 +0000\ndata 2\no\n\
+    from refs/heads/old^0\nmerge v2\nM 100644 inline k\ndata 2\nk\ncheckpoint\n\
+    commit refs/heads/new\ncommitter C <c@x> 6 +0000\ndata 2\np\nfrom v2^0\nD d\nD s\n\
+    reset refs/heads/main\nfrom refs/heads/main^0\n\nprogress done\n";
+
 /// What a stream gives a repository in memory, over a small one.
-fn over(
-    rt: &HostRuntime,
-    repo: &Repo<Sha1Namer, Global>,
+pub(crate) fn over<N: Namer + Copy, A: Allocator + Copy>(
+    alloc: A,
+    namer: N,
+    repo: &Repo<N, Global>,
     stream: &[u8],
     state: RandomState,
-) -> Result<Imported<Sha1Namer, Global>, WholeWay> {
-    import_over(
-        rt.alloc(),
-        Sha1Namer,
-        repo,
-        stream,
-        false,
-        Features::none(),
-        state,
-    )
+) -> Result<Imported<N, A>, WholeWay>
+    requires { N.name_of repo.now.0 ≡ N.name_of namer }
+{
+    import_over(alloc, namer, repo, stream, false, Features::none(), state)
 }
 
 /// Whether a stream gives a repository in memory the same over a small one as over all of it.
@@ -47,7 +50,7 @@ fn is_same(
     stream: &[u8],
     state: RandomState,
 ) -> bool {
-    let Ok(given) = over(rt, repo, stream, state) else {
+    let Ok(given) = over(rt.alloc(), Sha1Namer, repo, stream, state) else {
         return false;
     };
     let held = repo.store().len();
@@ -56,19 +59,42 @@ fn is_same(
     if import(rt.alloc(), repo, source, &mut sink) != Ok(given.report) {
         return false;
     }
+    sink.into_bytes().as_slice() == given.progress.as_slice()
+        && has_lines(rt, repo, &given)
+        && has_objects(repo, held, &given)
+}
+
+/// Whether a repository has just the refs that are given.
+fn has_lines(
+    rt: &HostRuntime,
+    repo: &Repo<Sha1Namer, Global>,
+    given: &Imported<Sha1Namer, Global>,
+) -> bool {
     let mut room = Vec::new(rt.alloc());
-    let Ok(lines) = repo.ref_lines(&mut room) else {
-        return false;
-    };
-    if lines != given.refs.as_slice() || sink.into_bytes().as_slice() != given.progress.as_slice() {
-        return false;
+    let mut count = 0u64;
+    for byte in &given.refs {
+        if *byte == b'\n' {
+            count = count.saturating_add(1);
+        }
     }
+    match repo.ref_lines(&mut room) {
+        Ok(lines) => lines == given.refs.as_slice() && count == given.ref_count,
+        Err(_) => false,
+    }
+}
+
+/// Whether a repository has just the objects that are given, behind so many.
+fn has_objects(
+    repo: &Repo<Sha1Namer, Global>,
+    held: usize,
+    given: &Imported<Sha1Namer, Global>,
+) -> bool {
     for place in 0..given.objects.len() {
-        if repo.store().record(held + place) != given.objects.record(place) {
+        if repo.store().record(held.saturating_add(place)) != given.objects.record(place) {
             return false;
         }
     }
-    repo.store().len() == held + given.objects.len()
+    repo.store().len() == held.saturating_add(given.objects.len())
 }
 
 #[test]
@@ -77,15 +103,7 @@ fn small_repository_gives_what_the_whole_one_gives(rt: HostRuntime) -> Result<()
     let mut repo = Repo::new(rt.alloc(), Sha1Namer, state);
     assert!(rt; is_same(&rt, &mut repo, BEFORE, state), "into nothing");
     assert!(rt; is_same(&rt, &mut repo, AFTER, state), "what is new");
-    Ok(())
-}
-
-#[test]
-fn stream_that_stands_for_others_goes_the_whole_way(rt: HostRuntime) -> Result<(), Fail> {
-    let state = RandomState::new(&rt)?;
-    let repo = Repo::new(rt.alloc(), Sha1Namer, state);
-    let stream = b"blob\ndata 36\ngx: stands for: 01234567890123456789\n";
-    let answer = over(&rt, &repo, stream, state);
-    assert!(rt; matches!(answer, Err(WholeWay::StandsForAnother)));
+    assert!(rt; is_same(&rt, &mut repo, MERGED, state), "merges");
+    assert!(rt; is_same(&rt, &mut repo, b"", state), "nothing");
     Ok(())
 }

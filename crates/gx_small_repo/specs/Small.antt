@@ -1,13 +1,20 @@
 -- What is put into a small repository. Source: Pro Git, "Git Objects".
-use Rattle.std.specs.Prelude.{◌≡◌, ◌≢◌, List, [], ◌∷◌, ◌++◌, Option, Some, None, Result, Ok, Err, IfErr, IfSome}
+use Rattle.std.specs.Prelude.{◌≡◌, ◌≢◌, List, [], ◌∷◌, ◌++◌, Option, Some, None, Result, Ok, Err, IfErr, IfSome, IsTrue, map}
+use Rattle.std.specs.FinMap.Entries.{is_sorted}
 use Rattle.std.specs.List.{AllByRecursion}
 use Rattle.std.specs.Map.{lookup}
+use Rattle.std.specs.Option.{option_map}
 use Rattle.gx_model.specs.declared.objects.Kind.{Kind}
+use Rattle.gx_model.specs.declared.objects.Mode.{Mode}
 use Rattle.gx_model.specs.Faults.{Given}
-use Rattle.gx_model.specs.Histories.{Record, Records}
+use Rattle.gx_model.specs.Histories.{Records, object_of}
+use Rattle.gx_model.specs.Records.Growth.{record_named}
 use Rattle.gx_model.specs.Records.Publishing.{Ref}
-use Rattle.gx_model.specs.Texts.{Bytes, same_bytes}
+use Rattle.gx_model.specs.Records.Sound.{IsHeldAs}
+use Rattle.gx_model.specs.Texts.{Bytes, byte_cmp, same_bytes}
 use Rattle.gx_object.specs.declared.name.Name.{Name}
+use Rattle.gx_repo.specs.Refs.{shown_update}
+use Rattle.gx_repo.specs.declared.publishing.RefChange.{RefChange}
 use Rattle.gx_rev.specs.RevFaults.{fault_of}
 use Rattle.gx_rev.specs.declared.fault.RevFault.{RevFault}
 use Rattle.gx_small_repo.specs.declared.fault.SmallFault.{SmallFault}
@@ -18,6 +25,14 @@ use Rattle.gx_stand_ins.specs.declared.bodies.TheConstants.{NONCE}
 -- a repository is a small one of what is told
 abbrev pub IsSmallOfTold : Option Records → Records → Type 0
 IsSmallOfTold told small = IfSome told (λ whole. IsSmallOf NONCE whole small)
+
+-- the object of this name has this kind and body in what is told
+abbrev pub IsBodyOfTold : Option Records → Kind → Bytes → Bytes → Type 0
+IsBodyOfTold told of_kind called body = IfSome told (λ whole. Some (of_kind, body) ≡ option_map object_of (record_named whole.records called))
+
+-- what an entry of this mode names is held in what is told
+abbrev pub IsHeldByTold : Option Records → Mode → Name → Type 0
+IsHeldByTold told mode called = IfSome told (λ whole. IsHeldAs whole.records mode called.bytes)
 
 -- these are the refs of what is told
 abbrev pub AreRefsOfTold : Option Records → List Ref → Type 0
@@ -44,6 +59,10 @@ IsRefOf refs ref = lookup (same_bytes ref.0) refs ≡ Some ref.1
 -- where all refs were among these, all are
 abbrev pub StayAmong : List Ref → List Ref → List Ref → Type 0
 StayAmong refs old new = AllByRecursion (IsRefOf refs) old → AllByRecursion (IsRefOf refs) new
+
+-- changes to these refs, where they stand in order
+abbrev pub AreOf : List Ref → List RefChange → Type 0
+AreOf refs changes = IsTrue (is_sorted byte_cmp refs) → AllByRecursion (IsRefOf refs) (map shown_update changes)
 
 -- the name of what a base gives, or why it gives nothing
 abbrev pub given_name : Result Name RevFault → Given Bytes

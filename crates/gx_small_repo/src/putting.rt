@@ -1,13 +1,12 @@
 //! Objects that are put into a small repository. Source: Pro Git, "Git Objects".
 
-ghost use Rattle.std.specs.Prelude.{◌≡◌, IfSome, OnOk};
-ghost use Rattle.gx_model.specs.declared.objects.Kind.TheVariants as kinds;
-ghost use Rattle.gx_model.specs.Records.Sound.{Holds};
-ghost use Rattle.gx_small_repo.specs.Small.{IsNotOfDamage, IsSmallOfTold, PutsAs, TellsDamage};
+ghost use Rattle.std.specs.Prelude.{◌≡◌, IfOk, OnOk};
+ghost use Rattle.gx_model.specs.declared.objects.Mode.TheVariants.{File};
+ghost use Rattle.gx_small_repo.specs.Small.{IsBodyOfTold, IsHeldByTold, IsNotOfDamage, IsSmallOfTold, PutsAs, TellsDamage};
 ghost use Rattle.gx_stand_ins.specs.declared.bodies.TheConstants.{NONCE};
 
 use crate::SmallFault;
-use gx_object::{CommitView, Kind, Mode, Name, Namer, decode_commit, decode_tree};
+use gx_object::{CommitView, Entry, Kind, Mode, Name, Namer, decode_commit, decode_tree};
 use gx_objects::Objects;
 use gx_repo::Repo;
 use gx_stand_ins::{StandIn, blob_body, commit_body};
@@ -39,7 +38,7 @@ pub(crate) fn put_object<O: Objects, N: Namer, A: Allocator + Copy>(
     ensures fault { TellsDamage (O.told origin.now.objects.now) result }
 {
     match kind {
-        Kind::Blob | Kind::Tag => put_own(origin, repo, name),
+        Kind::Blob | Kind::Tag => put_own(origin, repo, kind, name),
         Kind::Tree => put_tree(origin, repo, name, MOST_PATH),
         Kind::Commit => put_commit(origin, repo, name),
     }
@@ -58,20 +57,15 @@ fn put_commit<O: Objects, N: Namer, A: Allocator + Copy>(
     ensures fault { TellsDamage (O.told origin.now.objects.now) result }
 {
     let mut room = Vec::new(origin.alloc);
-    let Some(object) = origin.objects.object(name, &mut room)? else {
-        return Err(SmallFault::NotTaken);
-    };
-    if object.kind != Kind::Commit {
-        return Err(SmallFault::NotTaken);
-    }
-    let view = decode_commit(object.body)?;
-    let tree = view.tree();
-    put_tree(origin, repo, &tree, MOST_PATH)?;
+    let body = body_of(origin.objects, &mut room, Kind::Commit, name)?;
+    let view = decode_commit(body)?;
+    let root = view.tree();
+    put_tree(origin, repo, &root, MOST_PATH)?;
     if are_parents_held(repo, &view) {
-        return put(repo, Kind::Commit, object.body, name);
+        return put(repo, Kind::Commit, body, name);
     }
-    let body = commit_body(origin.alloc, tree, name)?;
-    put(repo, Kind::Commit, body.as_slice(), name)
+    let stand_in = commit_body(origin.alloc, root, name)?;
+    put(repo, Kind::Commit, stand_in.as_slice(), name)
 }
 
 /// Puts a tree, and before it what stands below it. Its paths have at most so many bytes.
@@ -80,7 +74,7 @@ fn put_tree<O: Objects, N: Namer, A: Allocator + Copy>(
     origin: &Origin<'_, O, A>,
     repo: &mut Repo<StandIn<N>, A>,
     name: &Name,
-    room: usize,
+    most: usize,
 ) -> Result<(), SmallFault>
     requires nonce { repo.now.0.nonce ≡ NONCE }
     requires small { IsSmallOfTold (O.told origin.now.objects.now) repo.now.1 }
@@ -91,44 +85,42 @@ fn put_tree<O: Objects, N: Namer, A: Allocator + Copy>(
     if is_held(repo, name) {
         return Ok(());
     }
-    let mut body = Vec::new(origin.alloc);
-    let Some(object) = origin.objects.object(name, &mut body)? else {
-        return Err(SmallFault::NotTaken);
-    };
-    if object.kind != Kind::Tree {
-        return Err(SmallFault::NotTaken);
-    }
+    let mut room = Vec::new(origin.alloc);
+    let body = body_of(origin.objects, &mut room, Kind::Tree, name)?;
     origin.objects.sound_if_told();
-    for entry in decode_tree(object.body)? {
-        match entry.mode {
-            Mode::Gitlink => {}
-            Mode::Dir => put_below(origin, repo, &entry.name, entry.component, room)?,
-            Mode::File | Mode::Exec | Mode::Link => put_blob(origin, repo, &entry.name)?,
-        }
+    let entries = decode_tree(body)?;
+    for entry in entries {
+        put_entry(origin, repo, &entry, most)?;
     }
-    put(repo, Kind::Tree, object.body, name)
+    put(repo, Kind::Tree, body, name)
 }
 
-/// Puts the tree of an entry with this component.
+/// Puts what an entry names, which isn't a submodule's commit. Its paths have at most so many bytes.
 #[cycle(trees)]
-fn put_below<O: Objects, N: Namer, A: Allocator + Copy>(
+fn put_entry<O: Objects, N: Namer, A: Allocator + Copy>(
     origin: &Origin<'_, O, A>,
     repo: &mut Repo<StandIn<N>, A>,
-    name: &Name,
-    component: &[u8],
-    room: usize,
+    entry: &Entry<'_>,
+    most: usize,
 ) -> Result<(), SmallFault>
     requires nonce { repo.now.0.nonce ≡ NONCE }
+    requires held { IsHeldByTold (O.told origin.now.objects.now) entry.now.mode entry.now.name }
     requires small { IsSmallOfTold (O.told origin.now.objects.now) repo.now.1 }
     ensures small { OnOk result (IsSmallOfTold (O.told origin.now.objects.now) repo.new.1) }
     ensures namer { repo.new.0 ≡ repo.old.0 }
     ensures fault { TellsDamage (O.told origin.now.objects.now) result }
 {
-    let used = component.len();
-    if used >= room {
-        return Err(SmallFault::NotTaken);
+    match entry.mode {
+        Mode::Gitlink => Ok(()),
+        Mode::File | Mode::Exec | Mode::Link => put_blob(origin, repo, &entry.name),
+        Mode::Dir => {
+            let used = entry.component.len();
+            if used >= most {
+                return Err(SmallFault::NotTaken);
+            }
+            put_tree(origin, repo, &entry.name, most - used - 1)
+        }
     }
-    put_tree(origin, repo, name, room - used - 1)
 }
 
 /// Puts a blob: with its own bytes where the stream brings it, and else what stands for it.
@@ -138,8 +130,7 @@ fn put_blob<O: Objects, N: Namer, A: Allocator + Copy>(
     name: &Name,
 ) -> Result<(), SmallFault>
     requires nonce { repo.now.0.nonce ≡ NONCE }
-    requires held { IfSome (O.told origin.now.objects.now)
-        (λ whole. Holds whole.records kinds.Blob name.now.bytes) }
+    requires held { IsHeldByTold (O.told origin.now.objects.now) File name.now }
     requires small { IsSmallOfTold (O.told origin.now.objects.now) repo.now.1 }
     ensures small { OnOk result (IsSmallOfTold (O.told origin.now.objects.now) repo.new.1) }
     ensures namer { repo.new.0 ≡ repo.old.0 }
@@ -149,15 +140,16 @@ fn put_blob<O: Objects, N: Namer, A: Allocator + Copy>(
         return Ok(());
     }
     if origin.brought.contains(name) {
-        return put_own(origin, repo, name);
+        return put_own(origin, repo, Kind::Blob, name);
     }
-    put(repo, Kind::Blob, blob_body(name).as_slice(), name)
+    put(repo, Kind::Blob, &blob_body(name), name)
 }
 
-/// Puts an object itself.
+/// Puts an object of this kind itself.
 fn put_own<O: Objects, N: Namer, A: Allocator + Copy>(
     origin: &Origin<'_, O, A>,
     repo: &mut Repo<StandIn<N>, A>,
+    kind: Kind,
     name: &Name,
 ) -> Result<(), SmallFault>
     requires nonce { repo.now.0.nonce ≡ NONCE }
@@ -167,9 +159,24 @@ fn put_own<O: Objects, N: Namer, A: Allocator + Copy>(
     ensures fault { TellsDamage (O.told origin.now.objects.now) result }
 {
     let mut room = Vec::new(origin.alloc);
-    match origin.objects.object(name, &mut room)? {
-        Some(object) => put(repo, object.kind, object.body, name),
-        None => Err(SmallFault::NotTaken),
+    let body = body_of(origin.objects, &mut room, kind, name)?;
+    put(repo, kind, body, name)
+}
+
+/// The body of an object of this kind, lent from where it stands or from the room.
+fn body_of<'a, O: Objects, A: Allocator + Copy>(
+    objects: &'a O,
+    room: &'a mut Vec<u8, A>,
+    kind: Kind,
+    name: &Name,
+) -> Result<&'a [u8], SmallFault>
+    ensures held { IfOk result
+        (λ body. IsBodyOfTold (O.told objects.now) kind name.now.bytes body.now) }
+    ensures fault { TellsDamage (O.told objects.now) result }
+{
+    match objects.object(name, room)? {
+        Some(object) if object.kind == kind => Ok(object.body),
+        _ => Err(SmallFault::NotTaken),
     }
 }
 

@@ -4,7 +4,7 @@ ghost use Rattle.std.specs.Prelude.{◌≡◌, IfOk, IsTrue, OnOk};
 ghost use Rattle.std.specs.FinMap.Entries.{is_sorted};
 ghost use Rattle.gx_model.specs.Texts.{byte_cmp};
 ghost use Rattle.gx_ref_lines.specs.Refs.{shown_refs};
-ghost use Rattle.gx_small_repo.specs.Small.{AreRefsOfTold, IsNotOfDamage, IsSmallOfTold, StayAmong, TellsDamage};
+ghost use Rattle.gx_small_repo.specs.Small.{AreOf, AreRefsOfTold, IsNotOfDamage, IsSmallOfTold, StayAmong, TellsDamage};
 ghost use Rattle.gx_stand_ins.specs.declared.bodies.TheConstants.{NONCE};
 
 use crate::SmallFault;
@@ -68,7 +68,7 @@ fn put_wanted<O: Objects, N: Namer, A: Allocator + Copy>(
     ensures namer { repo.new.0 ≡ repo.old.0 }
     ensures fault { TellsDamage (O.told origin.now.objects.now) result }
 {
-    for (_place, (kind, name)) in wanted.objects.iter() {
+    for (_, (kind, name)) in wanted.objects.iter() {
         put_object(origin, repo, *kind, name)?;
     }
     Ok(())
@@ -89,13 +89,25 @@ fn set_refs<N: Namer, A: Allocator + Copy>(
 {
     let mut changes = Vec::new(alloc);
     for name in wanted.refs.iter() {
-        if let Some(target) = lines.find(name.as_slice()) {
-            changes.push(RefChange {
-                name: name.as_slice(),
-                target,
-            })?;
-        }
+        add_change(&mut changes, lines, name.as_slice())?;
     }
     repo.publish(changes.as_slice())?;
+    Ok(())
+}
+
+/// Adds the change that sets a ref as it is held, where it is.
+fn add_change<'a, A: Allocator + Copy>(
+    changes: &mut Vec<RefChange<'a>, A>,
+    lines: &RefLines<'_, A>,
+    name: &'a [u8],
+) -> Result<(), SmallFault>
+    ensures kept { OnOk result (AreOf (shown_refs lines.now.refs.items) changes.old.items
+        → AreOf (shown_refs lines.now.refs.items) changes.new.items) }
+    ensures fault { IsNotOfDamage result }
+{
+    let Some(target) = lines.find(name) else {
+        return Ok(());
+    };
+    changes.push(RefChange { name, target })?;
     Ok(())
 }

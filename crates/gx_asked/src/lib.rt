@@ -2,7 +2,9 @@
 #![tactic(auto)]
 
 mod asked;
+mod entering;
 mod fault;
+mod tests;
 
 pub use asked::Asked;
 pub use fault::AskedFault;

@@ -79,12 +79,12 @@ one_merged all rest changes ref before behind lines count m is then_lines new_li
     let sorted = sorted_parts before ref behind (subst (λ z. T (is_sorted byte_cmp z)) is (is_sorted-put byte_cmp order ref.0 ref.1 rest m.in_order)) in
     let left = with_changes behind changes in
     let made : with_changes rest (ref ∷ changes) ≡ before ++ ref ∷ left =
-        ap (λ refs. with_changes refs changes) (is ∙ sym (append_assoc before (ref ∷ []) behind))
-        ∙ all_behind changes (before ++ ref ∷ []) behind (before_all changes before ref sorted.0 (first (below_all byte_cmp ref.0 changes) _ m.changes_in_order))
-        ∙ append_assoc before (ref ∷ []) left in
+    ap (λ refs. with_changes refs changes) (is ∙ sym (append_assoc before (ref ∷ []) behind))
+    ∙ all_behind changes (before ++ ref ∷ []) behind (before_all changes before ref sorted.0 (first (below_all byte_cmp ref.0 changes) _ m.changes_in_order))
+    ∙ append_assoc before (ref ∷ []) left in
     record {
       spelled = ap (λ z. z ++ flat_map stored_ref left) (g ∙ ap (λ z. z ++ stored_ref ref) f) ∙ regroup lines (flat_map stored_ref before) (stored_ref ref) (flat_map stored_ref left)
-        ∙ ap (λ z. lines ++ z) (sym (flat_map-append stored_ref before (ref ∷ left)) ∙ ap (flat_map stored_ref) (sym made)) ∙ m.spelled;
+          ∙ ap (λ z. lines ++ z) (sym (flat_map-append stored_ref before (ref ∷ left)) ∙ ap (flat_map stored_ref) (sym made)) ∙ m.spelled;
       counted = total count then_count new_count (length before) (length left) (length (before ++ ref ∷ left)) (length all) h k (length-append before (ref ∷ left)) (ap (λ refs. count + length refs) (sym made) ∙ m.counted);
       bound = bound;
       in_order = sorted.1;

@@ -19,7 +19,7 @@ use std::hash::RandomState;
 /// OutOfMemory: a growth was refused. ReadFailed: a read failed. Damaged: what is asked is no repository's. NotTaken: one of
 /// these objects has another's name. NameHeld: the whole repository holds another object under a name of theirs.
 /// Cost and memory: a look-up for each, and its body. Source: Pro Git, "Git Objects".
-pub fn new_objects<O: Objects, N: Namer, M: Namer, A: Allocator + Copy>(
+pub fn new_objects<O: Objects, N: Namer + Copy, M: Namer, A: Allocator + Copy>(
     alloc: A,
     namer: N,
     objects: &O,

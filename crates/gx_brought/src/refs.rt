@@ -35,11 +35,27 @@ pub fn next_refs<N: Namer, A: Allocator + Copy>(
     ensures count { IfOk result (λ next. next.1
         ≡ length (with_changes (shown_refs lines.now.refs.items) small.now.1.refs)) }
 {
+    let next = merged(alloc, lines.refs.as_slice(), small)?;
+    Ok((next.lines, next.count))
+}
+
+/// The lines of refs with those of a small repository set.
+fn merged<N: Namer, A: Allocator + Copy>(
+    alloc: A,
+    refs: &[(&[u8], Name)],
+    small: &Repo<N, A>,
+) -> Result<Next<A>, AllocError>
+    requires sorted { IsTrue (is_sorted byte_cmp (shown_refs refs.now)) }
+    ensures lines { IfOk result (λ next. next.lines.items
+        ≡ flat_map stored_ref (with_changes (shown_refs refs.now) small.now.1.refs)) }
+    ensures count { IfOk result (λ next. next.count
+        ≡ length (with_changes (shown_refs refs.now) small.now.1.refs)) }
+{
     let mut next = Next {
         lines: Vec::new(alloc),
         count: 0,
     };
-    let mut rest = lines.refs.as_slice();
+    let mut rest = refs;
     for (name, object) in small.refs() {
         let (before, behind) = parted(rest, name);
         put_all(&mut next, before)?;
@@ -47,7 +63,7 @@ pub fn next_refs<N: Namer, A: Allocator + Copy>(
         rest = behind;
     }
     put_all(&mut next, rest)?;
-    Ok((next.lines, next.count))
+    Ok(next)
 }
 
 /// The refs before a name, and those behind it.

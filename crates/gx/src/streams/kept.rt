@@ -14,9 +14,6 @@ use std::io::{self, ErrorKind, Read, Stdin};
 /// So many bytes are kept at most.
 const MOST: usize = 1 << 26;
 
-/// So many bytes are read at once.
-const PIECE: usize = 1 << 16;
-
 /// What was read of the stream and is kept. Once it is to be read again, that is given out first, and then what still comes.
 #[derive(Drop)]
 pub(crate) struct Kept<'a> {
@@ -81,18 +78,17 @@ impl<'a> Kept<'a> {
 
     /// Reads, and keeps what comes. Where no more can be kept, that is a failure of this reading alone.
     fn read_kept(&mut self, buf: &mut [u8]) -> io::Result<usize> {
-        let start = self.front.len();
-        let room = buf.len().min(PIECE).min(MOST.saturating_sub(start));
+        let room = buf.len().min(MOST.saturating_sub(self.front.len()));
         if room == 0 {
             return Err(io::Error::from(ErrorKind::OutOfMemory));
         }
-        self.front.resize(start.saturating_add(room), 0)?;
-        let answer = self.input.read(&mut self.front.as_mut_slice()[start..]);
-        let count = answer.unwrap_or(0).min(room);
-        self.front.truncate(start.saturating_add(count));
+        self.front.reserve(room)?;
+        let answer = self.input.read(&mut buf[..room]);
+        if let Ok(count) = answer {
+            self.front.extend_from_slice(&buf[..count.min(room)])?;
+        }
         self.given = self.front.len();
         self.end = end_of(&answer);
-        buf[..count].copy_from_slice(&self.front.as_slice()[start..]);
         answer
     }
 }
@@ -125,10 +121,12 @@ fn end_of(answer: &io::Result<usize>) -> Option<io::Result<()>> {
 }
 
 /// Reads commands up to the end. Answers whether it was reached, and no `progress` met before it, unless these are taken.
-fn are_read<R: Source + Drop>(mut commands: CommandReader<R, Global>, takes_progress: bool) -> bool
-    requires { commands.entry.most ≤ 2 ^ 63 - 1 }
-{
-    loop {
+fn are_read<R: Source + Drop>(
+    mut commands: CommandReader<R, Global>,
+    takes_progress: bool,
+) -> bool {
+    // no command has less than a byte
+    for _command in 0..MOST {
         match commands.next() {
             Ok(None) => return true,
             Ok(Some(Command::Progress(_))) if !takes_progress => return false,
@@ -136,4 +134,5 @@ fn are_read<R: Source + Drop>(mut commands: CommandReader<R, Global>, takes_prog
             Err(_) => return false,
         }
     }
+    false
 }

@@ -16,7 +16,7 @@ import pytest
 from programs import Done, Program, Word, counted
 from small_streams import NAMES, UNKNOWN, Known, StreamMaker, made_base
 
-NOT_SMALL = Done(1, b"", b"gx: import: not over a small repository\n")
+NOT_SMALL = Done(1, b"", b"gx: no small repository\n")
 Git = Callable[..., bytes]
 
 

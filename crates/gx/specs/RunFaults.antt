@@ -21,7 +21,7 @@ line_of StoreChanged = codes "gx: store changed"
 line_of BadStamp = codes "gx: bad stamp"
 line_of RandomFailed = codes "gx: random bytes failed"
 line_of Damaged = codes "gx: store: Damaged"
-line_of NotSmall = codes "gx: import: not over a small repository"
+line_of NotSmall = codes "gx: no small repository"
 
 -- why a run is refused that can't look into its store
 abbrev pub of_look : LookFault → RunFault

@@ -46,7 +46,7 @@ impl fmt::Display for RunFault {
             RunFault::BadStamp => f.write_str("gx: bad stamp"),
             RunFault::RandomFailed => f.write_str("gx: random bytes failed"),
             RunFault::Damaged => f.write_str("gx: store: Damaged"),
-            RunFault::NotSmall => f.write_str("gx: import: not over a small repository"),
+            RunFault::NotSmall => f.write_str("gx: no small repository"),
         }
     }
 }

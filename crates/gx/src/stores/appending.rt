@@ -81,13 +81,8 @@ impl<'a> InPlace<'a> {
         runs.fold(0u64, |sum, run| sum.saturating_add(run.count))
     }
 
-    /// Whether it has no objects, or new ones have bodies of as many bytes as the whole file. Cost: their number.
-    pub(crate) fn is_outweighed_by(&self, new: &Store<Sha1Namer, Global>) -> bool {
-        let new = (0..new.len()).filter_map(|place| new.record(place));
-        let bytes = new.fold(
-            0u64,
-            |sum, (_, _, body)| sum.saturating_add(body.len() as u64),
-        );
+    /// Whether it has no objects, or not more than so many bytes.
+    pub(crate) fn is_outweighed_by(&self, bytes: u64) -> bool {
         self.held() == 0 || bytes >= self.stamp.size
     }
 

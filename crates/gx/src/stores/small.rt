@@ -1,6 +1,7 @@
 //! Imports over small repositories: of a growing store file no more is read than what the texts of a stream ask for.
 
 use super::appending::InPlace;
+use super::before::body_bytes;
 use super::changed::changed_refs;
 use super::import::{Asks, Told};
 use super::next_text::NextText;
@@ -61,20 +62,18 @@ pub(super) fn import_small(
     }
 }
 
-/// What a stream gives a store file, where that is told by a small repository, and isn't as much as the whole file.
+/// What a stream gives a store file, where that is told by a small repository. What outweighs the file isn't: a whole text takes its
+/// place then.
 fn new_of(run: &Run<'_>, opened: &InPlace<'_>, stream: &Kept<'_>, asks: Asks) -> Option<New> {
-    let (alloc, look) = (run.rt.alloc(), &opened.look);
-    let imported = import_over(
-        alloc,
-        Sha1Namer,
-        look,
-        stream.front(),
-        false,
-        asks.features,
-        asks.state,
-    );
+    let (alloc, look, front) = (run.rt.alloc(), &opened.look, stream.front());
+    if opened.is_outweighed_by(front.len() as u64) {
+        return None;
+    }
+    let (features, state) = (asks.features, asks.state);
+    let imported = import_over(alloc, Sha1Namer, look, front, false, features, state);
     let new = imported.ok()?;
-    (!opened.is_outweighed_by(&new.objects)).then_some(new)
+    let bytes = body_bytes(&new.objects, 0);
+    (!opened.is_outweighed_by(bytes)).then_some(new)
 }
 
 /// Appends what is new to a store file, which stays as it is where nothing is. Answers the lines of the refs that changed, where they

@@ -1,3 +1,2 @@
-pub mod LookedFor
 pub mod MergedRefs
 pub mod NewRecords

@@ -1,5 +1,5 @@
 -- Refs in order, with others set one after the other.
-use Rattle.std.proofs.Common.{◌≡◌, ℕ, ◌+◌, ◌<◌, ◌≤◌, refl, sym, ap, subst, ◌∙◌, arith, List, [], ◌∷◌, ◌++◌, length, length-append, append_assoc, map, take, drop, get_or, set}
+use Rattle.std.proofs.Common.{◌≡◌, ℕ, suc, ◌+◌, ◌<◌, ◌≤◌, refl, sym, ap, subst, ◌∙◌, arith, List, [], ◌∷◌, ◌++◌, length, length-append, append_assoc, map, take, drop, drop-drop, get_or, set}
 use Rattle.std.specs.Prelude.{T}
 use Rattle.std.specs.List.{AllByRecursion, flat_map}
 use Rattle.std.specs.List.Sorted.{IsNonDecreasingBy, IsPartitionPoint}
@@ -69,7 +69,14 @@ pub record AreMerged (all rest changes : List Ref) (lines : Bytes) (count : ℕ)
   pub changes_in_order : T (is_sorted byte_cmp changes)
 
 pub none_merged : (rest changes : List Ref) → T (is_sorted byte_cmp rest) → T (is_sorted byte_cmp changes) → AreMerged (with_changes rest changes) rest changes [] 0
-none_merged rest changes r c = record { spelled = refl; counted = refl; bound = omega arith; in_order = r; changes_in_order = c }
+none_merged rest changes r c = record { spelled = refl; counted = none (length (with_changes rest changes)); bound = omega arith; in_order = r; changes_in_order = c }
+  where
+    none : (n : ℕ) → 0 + n ≡ n
+    none n = omega arith
+
+-- behind refs that are left
+pub left_behind : {X : Type 0} (see : X → Ref) (refs : List X) (at more : ℕ) → map see (drop more (drop at refs)) ≡ map see (drop (at + more) refs)
+left_behind see refs at more = ap (map see) (drop-drop more at refs)
 
 -- the refs before the next change, and that one
 pub one_merged : (all rest changes : List Ref) (ref : Ref) (before behind : List Ref) (lines : Bytes) (count : ℕ) → AreMerged all rest (ref ∷ changes) lines count → put byte_cmp ref.0 ref.1 rest ≡ before ++ ref ∷ behind
@@ -94,7 +101,7 @@ one_merged all rest changes ref before behind lines count m is then_lines new_li
     regroup : (a b c d : Bytes) → ((a ++ b) ++ c) ++ d ≡ a ++ (b ++ (c ++ d))
     regroup a b c d = simp append_assoc
 
-    total : (count then new before left both all : ℕ) → then ≡ count + before → new ≡ then + 1 → both ≡ before + (1 + left) → count + both ≡ all → new + left ≡ all
+    total : (count then new before left both all : ℕ) → then ≡ count + before → new ≡ then + 1 → both ≡ before + suc left → count + both ≡ all → new + left ≡ all
     total count then new before left both all e f g h = omega arith
 
 -- all that are left

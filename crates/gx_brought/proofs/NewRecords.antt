@@ -1,12 +1,13 @@
 -- Records of a small repository, put behind those of the whole one.
-use Rattle.std.proofs.Common.{◌≡◌, ℕ, zero, suc, ◌+◌, ◌<◌, ◌≤◌, Bool, true, false, cond, refl, sym, ap, subst, ◌∙◌, arith, List, [], ◌∷◌, ◌++◌, length, length-append, map, take, drop, Option, Some, None, Ok, Err, append_assoc, append-nil, false≢true, true≢false}
-use Rattle.std.specs.Prelude.{IfSome, not, ◌||◌, slice_get}
+use Rattle.std.proofs.Common.{◌≡◌, ℕ, zero, suc, ◌+◌, ◌<◌, ◌≤◌, Bool, true, false, cond, refl, sym, ap, subst, ◌∙◌, arith, List, [], ◌∷◌, ◌++◌, length, length-append, map, take, drop, Option, Some, None, Ok, Err, append_assoc, append-nil}
+use Rattle.std.specs.Prelude.{IfSome, Result, not, ◌||◌, slice_get, ⊤}
 use Rattle.std.specs.Bool.{passes}
 use Rattle.std.specs.List.{list_any}
 use Rattle.std.specs.Option.{option_map, option_and_then}
 use Rattle.std.proofs.lemmas.Bool.{or_parts}
 use Rattle.std.proofs.lemmas.List.{drop_more, map-append, take-append-drop}
 use Rattle.std.proofs.lemmas.List.Folds.{list_any-append}
+use Rattle.std.proofs.Math.Numerals.{suc-eq-add-one}
 use Rattle.std.proofs.Math.Seq.{take-suc}
 use Rattle.std.proofs.lemmas.Option.{get_or_from_slice_get, slice_get_within}
 use Rattle.gx_model.specs.declared.objects.Kind.{Kind}
@@ -17,25 +18,26 @@ use Rattle.gx_model.proofs.Records.GrownRecords.{put_held}
 use Rattle.gx_model.proofs.Records.TakenRecords.{new_name}
 use Rattle.gx_model.proofs.Texts.PathTests.{same_is}
 use Rattle.gx_brought.specs.Brought.{IsLookedFor, has_stand_in}
+use Rattle.gx_brought.specs.declared.fault.BroughtFault.{BroughtFault}
 use Rattle.gx_brought.specs.declared.fault.BroughtFault.TheVariants as faults
 
 -- ---- what is put behind records
 
 named_first : (xs ys : List Record) (n : Bytes) (q : Record) → record_named xs n ≡ Some q → record_named (xs ++ ys) n ≡ Some q
 named_first [] ys n q e = absurd cc
-named_first (x ∷ xs) ys n q e = by (same_bytes n x.name) e
+named_first (x ∷ xs) ys n q e = by (same_bytes n x.name) (λ k. named_first xs ys n q k) e
   where
-    by : (b : Bool) → cond b (Some x) (record_named xs n) ≡ Some q → cond b (Some x) (record_named (xs ++ ys) n) ≡ Some q
-    by true e = e
-    by false e = named_first xs ys n q e
+    by : (b : Bool) → (record_named xs n ≡ Some q → record_named (xs ++ ys) n ≡ Some q) → cond b (Some x) (record_named xs n) ≡ Some q → cond b (Some x) (record_named (xs ++ ys) n) ≡ Some q
+    by true later e = e
+    by false later e = later e
 
 named_behind : (xs ys : List Record) (n : Bytes) → record_named xs n ≡ None → record_named (xs ++ ys) n ≡ record_named ys n
 named_behind [] ys n e = refl
-named_behind (x ∷ xs) ys n e = by (same_bytes n x.name) e
+named_behind (x ∷ xs) ys n e = by (same_bytes n x.name) (λ k. named_behind xs ys n k) e
   where
-    by : (b : Bool) → cond b (Some x) (record_named xs n) ≡ None → cond b (Some x) (record_named (xs ++ ys) n) ≡ record_named ys n
-    by true e = absurd cc
-    by false e = named_behind xs ys n e
+    by : (b : Bool) → (record_named xs n ≡ None → record_named (xs ++ ys) n ≡ record_named ys n) → cond b (Some x) (record_named xs n) ≡ None → cond b (Some x) (record_named (xs ++ ys) n) ≡ record_named ys n
+    by true later e = absurd cc
+    by false later e = later e
 
 module _ (whole new : List Record) (r : Record) where
   none_put : put whole r ≡ None → put (whole ++ new) r ≡ None
@@ -94,11 +96,11 @@ none_but_last [] r n e = (refl, by (same_bytes n r.name) e)
     by : (b : Bool) → cond b (Some r) None ≡ None → b ≡ false
     by true e = absurd cc
     by false e = refl
-none_but_last (x ∷ xs) r n e = by (same_bytes n x.name) e
+none_but_last (x ∷ xs) r n e = by (same_bytes n x.name) (λ k. none_but_last xs r n k) e
   where
-    by : (b : Bool) → cond b (Some x) (record_named (xs ++ r ∷ []) n) ≡ None → (cond b (Some x) (record_named xs n) ≡ None) × (same_bytes n r.name ≡ false)
-    by true e = absurd cc
-    by false e = none_but_last xs r n e
+    by : (b : Bool) → (record_named (xs ++ r ∷ []) n ≡ None → (record_named xs n ≡ None) × (same_bytes n r.name ≡ false)) → cond b (Some x) (record_named (xs ++ r ∷ []) n) ≡ None → (cond b (Some x) (record_named xs n) ≡ None) × (same_bytes n r.name ≡ false)
+    by true later e = absurd cc
+    by false later e = later e
 
 -- ---- lists up to a place
 
@@ -219,3 +221,33 @@ module _ (name : Kind → Bytes → Bytes) (told : Option Records) (rs : List Re
         by true k =
             let is = sym (ap (λ o. put_under o new r) free) ∙ none (same_is r.name (name r.kind r.body) (passes _ k)) in
             absurd (cc is)
+
+-- ---- refusals
+
+pub nothing : (told : Option Records) → IfSome told (λ whole. ⊤)
+nothing None = tt
+nothing (Some whole) = tt
+
+pub never : {P : Type 0} {Q : Records → Type 0} (told : Option Records) → (P → ⊥) → IfSome told (λ whole. P → Q whole)
+never None none = tt
+never (Some whole) none = λ p. absurd (none p)
+
+module _ {X : Type 0} (fault : BroughtFault) where
+  pub none_at : (name : Kind → Bytes → Bytes) (told : Option Records) (rs : List Record) (held place : ℕ) (r : Record) (new : List Record) → slice_get rs place ≡ Some r → AreLeft name told rs held place new
+      → IfSome told (λ whole. IsLookedFor r whole (Err fault)) → IfSome told (λ whole. ◌≡◌ {A = Result X BroughtFault} (Err fault) (Err faults.NameHeld) → put_all whole.records (drop held rs) ≡ None)
+  none_at name None rs held place r new at a found = tt
+  none_at name (Some whole) rs held place r new at a found = λ e.
+      let is : fault ≡ faults.NameHeld = cc e in
+      none_next name (Some whole) rs held place r new at a (subst (λ f. IsLookedFor r whole (Err f)) is found)
+
+  pub told_none : (told : Option Records) (r : Record) → IfSome told (λ whole. IsLookedFor r whole (Err fault)) → ◌≡◌ {A = Result X BroughtFault} (Err fault) (Err faults.Damaged) → told ≡ None
+  told_none None r found e = refl
+  told_none (Some whole) r found e =
+      let is : fault ≡ faults.Damaged = cc e in
+      absurd (subst (λ f. IsLookedFor r whole (Err f)) is found)
+
+pub same_fault : {X : Type 0} {a b : BroughtFault} → ◌≡◌ {A = Result X BroughtFault} (Err a) (Err b) → a ≡ b
+same_fault e = cc e
+
+pub not_refused : {X : Type 0} {x : X} {fault : BroughtFault} → ◌≡◌ {A = Result X BroughtFault} (Ok x) (Err fault) → ⊥
+not_refused e = cc e

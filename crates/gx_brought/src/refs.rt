@@ -1,6 +1,6 @@
 //! The refs that a repository has after an import over a small one.
 
-ghost use Rattle.std.specs.Prelude.{◌≡◌, ◌++◌, ◌∷◌, ◌+◌, ◌≤◌, length, IfOk, IsTrue, OnOk};
+ghost use Rattle.std.specs.Prelude.{◌≡◌, ◌++◌, ◌∷◌, ◌+◌, ◌≤◌, drop, length, take, IfOk, IsTrue, OnOk};
 ghost use Rattle.std.specs.FinMap.Entries.{is_sorted, put};
 ghost use Rattle.std.specs.List.{flat_map};
 ghost use Rattle.gx_model.specs.Records.Publishing.{with_changes};
@@ -55,29 +55,30 @@ fn merged<N: Namer, A: Allocator + Copy>(
         lines: Vec::new(alloc),
         count: 0,
     };
-    let mut rest = refs;
+    let mut at = 0;
     for (name, object) in small.refs() {
-        let (before, behind) = parted(rest, name);
-        put_all(&mut next, before)?;
+        let rest = &refs[at..];
+        let (before, behind) = places_of(rest, name);
+        put_all(&mut next, &rest[..before])?;
         put(&mut next, name, &object)?;
-        rest = behind;
+        at += behind;
     }
-    put_all(&mut next, rest)?;
+    put_all(&mut next, &refs[at..])?;
     Ok(next)
 }
 
-/// The refs before a name, and those behind it.
-fn parted<'a, 'b>(
-    refs: &'b [(&'a [u8], Name)],
-    name: &[u8],
-) -> (&'b [(&'a [u8], Name)], &'b [(&'a [u8], Name)])
+/// How many refs stand before a name, and the place of those behind it.
+fn places_of(refs: &[(&[u8], Name)], name: &[u8]) -> (usize, usize)
     requires sorted { IsTrue (is_sorted byte_cmp (shown_refs refs.now)) }
-    ensures { (object : Bytes) → put byte_cmp name.now object (shown_refs refs.now)
-        ≡ shown_refs result.0.now ++ (name.now, object) ∷ shown_refs result.1.now }
+    ensures parts { (object : Bytes) → put byte_cmp name.now object (shown_refs refs.now)
+        ≡ shown_refs (take result.0 refs.now)
+        ++ (name.now, object) ∷ shown_refs (drop result.1 refs.now) }
+    ensures before { result.0 ≤ length refs.now }
+    ensures behind { result.1 ≤ length refs.now }
 {
     match refs.binary_search_by(|held| held.0.cmp(name)) {
-        Ok(place) => (&refs[..place], &refs[place + 1..]),
-        Err(place) => (&refs[..place], &refs[place..]),
+        Ok(place) => (place, place + 1),
+        Err(place) => (place, place),
     }
 }
 

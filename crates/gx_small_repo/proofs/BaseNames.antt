@@ -1,5 +1,5 @@
 -- The name of what a base gives, or why it gives nothing.
-use Rattle.std.proofs.Common.{◌≡◌, Option, None, Some, Result, Ok, Err, ap, ◌∙◌}
+use Rattle.std.proofs.Common.{◌≡◌, Option, None, Some, Ok, Err, ap, ◌∙◌}
 use Rattle.std.specs.Prelude.{IfSome}
 use Rattle.gx_model.specs.declared.faults.Fault.{Fault}
 use Rattle.gx_model.specs.declared.objects.Kind.{Kind}

@@ -77,14 +77,14 @@ module _ (whole : Records) (called body : Bytes) where
       })
 
 module _ (told : Option Records) (name : Kind → Bytes → Bytes) (old new : Records) (called body : Bytes) (result : Result (Unit {0}) SmallFault) (small : IsSmallOfTold told old) where
-  Puts : Kind → Type 0
+  abbrev pub Puts : Kind → Type 0
   Puts of_kind = OnOk result (PutsAs name old new called of_kind body)
 
   put_stays : (of_kind : Kind) → (stand_name NONCE name of_kind body ≡ called → IfSome told (λ whole. IsOfWhole NONCE whole (made called of_kind body))) → Puts of_kind → OnOk result (IsSmallOfTold told new)
   put_stays of_kind is puts = by result puts
     where
       by : (r : Result (Unit {0}) SmallFault) → OnOk r (PutsAs name old new called of_kind body) → OnOk r (IsSmallOfTold told new)
-      by (Ok tt) p = stays told name old new called of_kind body small (is p.named) p
+      by (Ok x) p = stays told name old new called of_kind body small (is p.named) p
       by (Err fault) p = tt
 
   pub own_stays : (of_kind : Kind) → IsBodyOfTold told of_kind called body → Puts of_kind → OnOk result (IsSmallOfTold told new)

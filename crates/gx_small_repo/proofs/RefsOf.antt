@@ -1,6 +1,6 @@
 -- Refs that are all among others stay so where others of these are set.
-use Rattle.std.proofs.Common.{◌≡◌, List, [], ◌∷◌, ◌++◌, map, Some, Result, Ok, Err, refl, sym, subst}
-use Rattle.std.specs.Prelude.{IsTrue, OnOk}
+use Rattle.std.proofs.Common.{◌≡◌, List, [], ◌∷◌, ◌++◌, map, Some, Ok, refl, sym, subst}
+use Rattle.std.specs.Prelude.{IsTrue}
 use Rattle.std.specs.List.{AllByRecursion}
 use Rattle.std.specs.Map.{lookup}
 use Rattle.std.specs.declared.cmp.Ordering.TheVariants.{Less, Equal, Greater}
@@ -10,10 +10,7 @@ use Rattle.gx_model.specs.Histories.{Records}
 use Rattle.gx_model.specs.Records.Publishing.{Change, Ref, published, with_changes}
 use Rattle.gx_model.proofs.Records.ChangedRefs.{are_set}
 use Rattle.gx_model.proofs.Records.SortedRefs.{same_text}
-use Rattle.gx_model.specs.Faults.{Gives}
-use Rattle.gx_repo.specs.declared.fault.PublishFault.{PublishFault}
 use Rattle.gx_repo.specs.declared.publishing.RefChange.{RefChange}
-use Rattle.gx_repo.specs.Publishing.{fault_of}
 use Rattle.gx_repo.specs.Refs.{shown_update}
 use Rattle.gx_small_repo.specs.Small.{AreOf, IsRefOf, StayAmong}
 
@@ -43,9 +40,3 @@ push_of refs changes new change e is are = λ sorted. subst (λ cs. AllByRecursi
     by : (cs : List RefChange) → AllByRecursion (IsRefOf refs) (map shown_update cs) → IsRefOf refs (shown_update change) → AllByRecursion (IsRefOf refs) (map shown_update (cs ++ change ∷ []))
     by [] h p = (p, tt)
     by (c ∷ cs) h p = (h.0, by cs h.1 p)
-
--- all that are set are among these refs
-pub changes_stay : (refs : List Ref) (changes : List RefChange) (r : Records) (new : List Ref) (result : Result (Unit {0}) PublishFault) → AreOf refs changes
-    → Gives fault_of (λ _. new) result (published r (map shown_update changes)) → OnOk result (IsTrue (is_sorted byte_cmp refs) → StayAmong refs r.refs new)
-changes_stay refs changes r new (Ok tt) are gives = λ sorted. set_stays refs r (map shown_update changes) new gives (are sorted)
-changes_stay refs changes r new (Err fault) are gives = tt

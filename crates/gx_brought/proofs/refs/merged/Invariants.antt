@@ -1,4 +1,4 @@
-use Rattle.std.proofs.Common.{map}
+use Rattle.std.proofs.Common.{◌≤◌, drop, length}
 use Rattle.gx_model.specs.Records.Publishing.{with_changes}
 use Rattle.gx_ref_lines.specs.Refs.{shown_refs}
 use Rattle.gx_brought.proofs.MergedRefs.{AreMerged}
@@ -8,4 +8,5 @@ abbrev pub invariant-loop-name : goal.invariant-loop-name
 invariant-loop-name g l =
     (goal.iterator-loop-name g).can_next l.name-iterator
     × (goal.iterator-loop-name g).is_finite l.name-iterator
-    × AreMerged (with_changes (shown_refs l.refs) l.small.1.refs) (shown_refs l.rest) l.name-iterator l.next.lines.items l.next.count
+    × (l.at ≤ length l.refs)
+    × AreMerged (with_changes (shown_refs l.refs) l.small.1.refs) (shown_refs (drop l.at l.refs)) l.name-iterator l.next.lines.items l.next.count

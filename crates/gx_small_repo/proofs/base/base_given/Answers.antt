@@ -8,4 +8,4 @@ returns-in-Ok-clause-given g c =
 
 pub returns-in-Err-Revision-clause-given : goal.returns-in-Err-Revision-clause-given
 returns-in-Err-Revision-clause-given g c =
-    base_refused (g.O.Objects.name_of c.args.objects.now) c.sound_if_told.ensures.namer c.args.base.now (g.O.Objects.told c.args.objects.now) (fault_of c.in-Err-Revision.fault) c.in-Err-Revision.ensures.value
+    base_refused (g.O.Objects.name_of c.args.objects.now) c.sound_if_told.ensures.namer c.args.base.now (g.O.Objects.told c.args.objects.now) (fault_of c.in-Err-Revision.fault) (rw c.in-Err-Revision.field-0-is at c.in-Err-Revision.ensures.value)

@@ -1,4 +1,4 @@
-use Rattle.std.proofs.Common.{◌≡◌, ◌∙◌, ap}
+use Rattle.std.proofs.Common.{◌∙◌, ap}
 use Rattle.gx_ref_lines.specs.Refs.{shown_refs}
 use Rattle.gx_small_repo.proofs.OfWhole.{none_small, refs_stay}
 use Rattle.gx_small_repo.proofs.small.small_repository.Goals as goal

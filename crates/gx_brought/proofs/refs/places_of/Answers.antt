@@ -6,10 +6,10 @@ use Rattle.gx_model.specs.Texts.{Bytes, byte_cmp}
 use Rattle.gx_object.specs.declared.name.Name.{Name}
 use Rattle.gx_repo.specs.Refs.{shown_lent_ref}
 use Rattle.gx_brought.proofs.MergedRefs.{parted_at, parted_between}
-use Rattle.gx_brought.proofs.refs.parted.Goals as goal
+use Rattle.gx_brought.proofs.refs.places_of.Goals as goal
 
-pub returns-in-Ok : goal.returns-in-Ok
-returns-in-Ok c object =
+pub returns-in-Ok-clause-parts : goal.returns-in-Ok-clause-parts
+returns-in-Ok-clause-parts c object =
     let name = c.args.name.now in
     let refs = c.args.refs.now in
     let past : Bor Bytes × Name = (record { ref_ptr = (0, 0); now = [] }, record { bytes = [] }) in
@@ -17,8 +17,8 @@ returns-in-Ok c object =
     let held : Bor Bytes × Name = ((get_or refs c.in-Ok.place past).0, record { bytes = object }) in
     parted_at shown_lent_ref name object refs (passes _ c.requires.sorted) c.in-Ok.place past held c.in-Ok.ensures.bound (is_at past) refl
 
-pub returns-in-Err : goal.returns-in-Err
-returns-in-Err c object =
+pub returns-in-Err-clause-parts : goal.returns-in-Err-clause-parts
+returns-in-Err-clause-parts c object =
     let name = c.args.name.now in
     let refs = c.args.refs.now in
     let held : Bor Bytes × Name = (c.args.name, record { bytes = object }) in

@@ -1,5 +1,5 @@
 -- Texts that are entered among others.
-use Rattle.std.proofs.Common.{◌≡◌, ℕ, Bool, true, false, List, [], ◌∷◌, refl, sym, ap, ◌∙◌}
+use Rattle.std.proofs.Common.{◌≡◌, ℕ, Bool, true, false, List, [], ◌∷◌, refl, sym, ◌∙◌}
 use Rattle.std.specs.Prelude.{◌||◌}
 use Rattle.std.specs.declared.cmp.Ordering.{Ordering}
 use Rattle.std.specs.declared.cmp.Ordering.TheVariants.{Less, Equal, Greater}
@@ -36,22 +36,24 @@ module _ {A : Type 0} where
   -- the others stay where one is inserted
   pub others_kept : (ks : List (Vec ℕ A)) (k : Vec ℕ A) → KeepsTexts ks (insert_key by_bytes ks k)
   others_kept [] k text h = right (same_bytes text k.items) false h
-  others_kept (x ∷ xs) k text h = by (by_bytes k x)
+  others_kept (x ∷ xs) k text h = by (by_bytes k x) (others_kept xs k text)
     where
-      by : (o : Ordering) → IsAmong (texts_of (match_ordering o (k ∷ x ∷ xs) (x ∷ xs) (x ∷ insert_key by_bytes xs k))) text
-      by Less = right (same_bytes text k.items) _ h
-      by Equal = h
-      by Greater = either_more (same_bytes text x.items) _ _ (others_kept xs k text) h
+      by : (o : Ordering) → (IsAmong (texts_of xs) text → IsAmong (texts_of (insert_key by_bytes xs k)) text)
+          → IsAmong (texts_of (match_ordering o (k ∷ x ∷ xs) (x ∷ xs) (x ∷ insert_key by_bytes xs k))) text
+      by Less more = right (same_bytes text k.items) (list_any (same_bytes text) (texts_of (x ∷ xs))) h
+      by Equal more = h
+      by Greater more = either_more (same_bytes text x.items) (list_any (same_bytes text) (texts_of xs)) (list_any (same_bytes text) (texts_of (insert_key by_bytes xs k))) more h
 
   -- and that one is there
   pub inserted : (ks : List (Vec ℕ A)) (k : Vec ℕ A) → IsAmong (texts_of (insert_key by_bytes ks k)) k.items
   inserted [] k = left (same_bytes k.items k.items) false (itself k.items)
-  inserted (x ∷ xs) k = by (by_bytes k x) refl
+  inserted (x ∷ xs) k = by (by_bytes k x) refl (inserted xs k)
     where
-      by : (o : Ordering) → by_bytes k x ≡ o → IsAmong (texts_of (match_ordering o (k ∷ x ∷ xs) (x ∷ xs) (x ∷ insert_key by_bytes xs k))) k.items
-      by Less e = left (same_bytes k.items k.items) _ (itself k.items)
-      by Equal e = left (same_bytes k.items x.items) _ (is_true _ (is_same k.items x.items (same_text k.items x.items e)))
-      by Greater e = right (same_bytes k.items x.items) _ (inserted xs k)
+      by : (o : Ordering) → by_bytes k x ≡ o → IsAmong (texts_of (insert_key by_bytes xs k)) k.items
+          → IsAmong (texts_of (match_ordering o (k ∷ x ∷ xs) (x ∷ xs) (x ∷ insert_key by_bytes xs k))) k.items
+      by Less e more = left (same_bytes k.items k.items) (list_any (same_bytes k.items) (texts_of (x ∷ xs))) (itself k.items)
+      by Equal e more = left (same_bytes k.items x.items) (list_any (same_bytes k.items) (texts_of xs)) (is_true _ (is_same k.items x.items (same_text k.items x.items e)))
+      by Greater e more = right (same_bytes k.items x.items) (list_any (same_bytes k.items) (texts_of (insert_key by_bytes xs k))) more
 
   -- what a look-up finds is there
   pub found : (ks : List (Vec ℕ A)) (text : Bytes) → list_any (λ k. is_eq (byte_cmp text k.items)) ks ≡ true → IsAmong (texts_of ks) text

@@ -6,6 +6,7 @@ ghost use Rattle.gx_asked.specs.Asking.{AskAmong, HasNoFault, IsCause, texts_of}
 use crate::AskedFault;
 use gx_command::{CommandReader, Features};
 use gx_object::{Name, Namer};
+use gx_stream::LIMIT;
 use gx_text::{Bytes, PIECE};
 use std::alloc::Allocator;
 use std::collections::BTreeSet;
@@ -44,6 +45,10 @@ impl<A: Allocator + Copy> Asked<A> {
         ensures whole { OnOk result (HasNoFault features stream.now fails) }
         ensures fault { IfErr result (IsCause features stream.now fails) }
     {
+        // A reader hears no more; memory holds no such text.
+        if stream.len() > LIMIT {
+            return Err(AskedFault::OutOfMemory);
+        }
         let mut asked = Asked {
             alloc,
             texts: BTreeSet::new(alloc),
@@ -51,9 +56,10 @@ impl<A: Allocator + Copy> Asked<A> {
             branches: BTreeSet::new(alloc),
             brought: BTreeSet::new(alloc),
         };
-        let mut reader = CommandReader::asking(alloc, Bytes::new(stream, PIECE, fails), features);
+        let source = Bytes::new(stream, PIECE, fails);
+        let mut reader = CommandReader::asking(alloc, source, features);
         while let Some(command) = reader.next()? {
-            asked.enter(namer, &command)?;
+            asked.enter(namer, command)?;
         }
         Ok(asked)
     }

@@ -23,17 +23,17 @@ impl<A: Allocator + Copy> Asked<A> {
     pub(crate) fn enter<N: Namer>(
         &mut self,
         namer: &N,
-        command: &Command<A>,
+        command: Command<A>,
     ) -> Result<(), AskedFault>
         ensures kept { Keeps self.old self.new }
-        ensures asked { OnOk result (Asks self.new (shown_command command.now)) }
-        ensures fault { IfErr result (IsWhy (BringsOther (shown_command command.now))) }
+        ensures asked { OnOk result (Asks self.new (shown_command command)) }
+        ensures fault { IfErr result (IsWhy (BringsOther (shown_command command))) }
     {
         match command {
             Command::Blob(blob) => self.bring(namer, blob.bytes.as_slice()),
-            Command::Commit(commit) => self.enter_commit(namer, commit),
+            Command::Commit(commit) => self.enter_commit(namer, &commit),
             Command::Tag(tag) => Ok(self.ask(&tag.from)?),
-            Command::Reset(reset) => Ok(self.enter_reset(reset)?),
+            Command::Reset(reset) => Ok(self.enter_reset(&reset)?),
             _ => Ok(()),
         }
     }
@@ -81,11 +81,21 @@ impl<A: Allocator + Copy> Asked<A> {
         ensures fault { IfErr result (IsWhy (AllByRecursion IsOtherChange (map shown_change changes.now))) }
     {
         for change in changes {
-            if let Change::Modify(modify) = change {
-                self.enter_file(namer, modify)?;
-            }
+            self.enter_change(namer, change)?;
         }
         Ok(())
+    }
+
+    /// Enters what a change asks for and brings.
+    fn enter_change<N: Namer>(&mut self, namer: &N, change: &Change<A>) -> Result<(), AskedFault>
+        ensures kept { Keeps self.old self.new }
+        ensures asked { OnOk result (AsksChange self.new (shown_change change.now)) }
+        ensures fault { IfErr result (IsWhy (IsOtherChange (shown_change change.now))) }
+    {
+        match change {
+            Change::Modify(modify) => self.enter_file(namer, modify),
+            _ => Ok(()),
+        }
     }
 
     /// Enters what a file that is set asks for or brings. A submodule's commit isn't asked for.

@@ -1,5 +1,5 @@
 -- Records of a small repository, put behind those of the whole one.
-use Rattle.std.proofs.Common.{◌≡◌, ℕ, zero, suc, ◌+◌, ◌<◌, ◌≤◌, Bool, true, false, cond, refl, sym, ap, subst, ◌∙◌, arith, List, [], ◌∷◌, ◌++◌, length, length-append, map, take, drop, Option, Some, None, Ok, Err, append_assoc, append-nil}
+use Rattle.std.proofs.Common.{◌≡◌, ℕ, zero, suc, ◌+◌, ◌≤◌, Bool, true, false, cond, refl, sym, ap, subst, ◌∙◌, arith, List, [], ◌∷◌, ◌++◌, length, length-append, map, take, drop, Option, Some, None, Ok, Err, append_assoc, append-nil}
 use Rattle.std.specs.Prelude.{IfSome, Result, not, ◌||◌, slice_get, ⊤}
 use Rattle.std.specs.Bool.{passes}
 use Rattle.std.specs.List.{list_any}
@@ -11,10 +11,9 @@ use Rattle.std.proofs.Math.Numerals.{suc-eq-add-one}
 use Rattle.std.proofs.Math.Seq.{take-suc}
 use Rattle.std.proofs.lemmas.Option.{get_or_from_slice_get, slice_get_within}
 use Rattle.gx_model.specs.declared.objects.Kind.{Kind}
-use Rattle.gx_model.specs.Histories.{AreDistinct, Record, Records, object_of}
+use Rattle.gx_model.specs.Histories.{AreDistinct, Record, Records}
 use Rattle.gx_model.specs.Records.Growth.{put, put_all, put_under, record_named, same_object}
 use Rattle.gx_model.specs.Texts.{Bytes, same_bytes}
-use Rattle.gx_model.proofs.Records.GrownRecords.{put_held}
 use Rattle.gx_model.proofs.Records.TakenRecords.{new_name}
 use Rattle.gx_model.proofs.Texts.PathTests.{same_is}
 use Rattle.gx_brought.specs.Brought.{IsLookedFor, has_stand_in}
@@ -228,11 +227,11 @@ pub nothing : (told : Option Records) → IfSome told (λ whole. ⊤)
 nothing None = tt
 nothing (Some whole) = tt
 
-pub never : {P : Type 0} {Q : Records → Type 0} (told : Option Records) → (P → ⊥) → IfSome told (λ whole. P → Q whole)
-never None none = tt
-never (Some whole) none = λ p. absurd (none p)
+pub never : (P : Type 0) (told : Option Records) (rs : List Record) (held : ℕ) → (P → ⊥) → IfSome told (λ whole. P → put_all whole.records (drop held rs) ≡ None)
+never P None rs held none = tt
+never P (Some whole) rs held none = λ p. absurd (none p)
 
-module _ {X : Type 0} (fault : BroughtFault) where
+module _ (X : Type 0) (fault : BroughtFault) where
   pub none_at : (name : Kind → Bytes → Bytes) (told : Option Records) (rs : List Record) (held place : ℕ) (r : Record) (new : List Record) → slice_get rs place ≡ Some r → AreLeft name told rs held place new
       → IfSome told (λ whole. IsLookedFor r whole (Err fault)) → IfSome told (λ whole. ◌≡◌ {A = Result X BroughtFault} (Err fault) (Err faults.NameHeld) → put_all whole.records (drop held rs) ≡ None)
   none_at name None rs held place r new at a found = tt

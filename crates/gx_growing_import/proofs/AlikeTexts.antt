@@ -26,6 +26,11 @@ pub all_lent : {A : Type 0} (P : Bytes → Type 0) (xs : List (Bor (Vec ℕ A)))
 all_lent P [] h = tt
 all_lent P (x ∷ xs) h = (h.0, all_lent P xs h.1)
 
+-- and so of each that is owned
+pub all_owned : {A : Type 0} (P : Bytes → Type 0) (xs : List (Vec ℕ A)) → AllByRecursion (λ x. P x.items) xs → AllByRecursion P (map (λ x. x.items) xs)
+all_owned P [] h = tt
+all_owned P (x ∷ xs) h = (h.0, all_owned P xs h.1)
+
 -- one more
 pub all_next : {X : Type 0} (P : X → Type 0) (xs : List X) (x : X) → AllByRecursion P xs → P x → AllByRecursion P (xs ++ x ∷ [])
 all_next P [] x h k = (k, tt)
@@ -38,10 +43,13 @@ module _ (name : Kind → Bytes → Bytes) (small : Records) where
   abbrev pub IsTold : Option Records → Bytes → Type 0
   IsTold told base = IfSome told (λ whole. IsSameBase name NONCE whole small base)
 
-  pub base_told : (told : Option Records) (refs : List (Bytes × Bytes)) (base : Bytes) → IfSome told (λ whole. refs ≡ whole.refs)
-      → IfSome told (λ whole. IsSameBaseName name whole small base) → AreSameRefs refs small.refs (ref_names base) → IsTold told base
-  base_told None refs base same value names = tt
-  base_told (Some whole) refs base same value names = record { refs = subst (λ rs. AreSameRefs rs small.refs (ref_names base)) same names; value = value }
+  pub base_told : (told : Option Records) (refs : List (Bytes × Bytes)) (base first second : Bytes) → first ≡ base → second ≡ base → IfSome told (λ whole. refs ≡ whole.refs)
+      → IfSome told (λ whole. IsSameBaseName name whole small first) → AreSameRefs refs small.refs (ref_names second) → IsTold told base
+  base_told None refs base first second one other same value names = tt
+  base_told (Some whole) refs base first second one other same value names = record {
+    refs = subst (λ rs. AreSameRefs rs small.refs (ref_names base)) same (subst (λ x. AreSameRefs refs small.refs (ref_names x)) other names);
+    value = subst (λ x. IsSameBaseName name whole small x) one value;
+  }
 
   -- so both tell alike the branches and the bases
   pub alike_told : (told : Option Records) (refs : List (Bytes × Bytes)) {A : Type 0} (asked : Asked A) → IfSome told (λ whole. refs ≡ whole.refs)

@@ -23,9 +23,15 @@ use Rattle.gx_import.specs.declared.report.Report.{Report}
 use Rattle.gx_stand_ins.specs.SmallRepositories.{IsSmallOf, stand_name}
 use Rattle.gx_stand_ins.specs.StandInLaws.{StandInsBring}
 use Rattle.gx_stand_ins.specs.declared.bodies.TheConstants.{NONCE}
+use Rattle.gx_stand_ins.specs.declared.stand_in.StandIn.{StandIn}
 use Rattle.gx_growing_import.specs.Alike.{AreAlike}
 use Rattle.gx_growing_import.specs.Importing.{GivesTold, TakesText}
 use Rattle.gx_growing_import.proofs.AlikeTexts.{among_alike}
+
+-- what holds by the names of a small repository's namer
+pub small_named : {N : Type 0} (names : N → Kind → Bytes → Bytes) (P : (Kind → Bytes → Bytes) → Type 0) (s : StandIn N) (namer : N) → s ≡ record { namer = namer; nonce = NONCE }
+    → P (stand_name s.nonce (names s.namer)) → P (stand_name NONCE (names namer))
+small_named {N} names P s namer e h = subst (λ (t : StandIn N). P (stand_name t.nonce (names t.namer))) e h
 
 -- as many records stand for a history as it has values
 values_counted : (name : Kind → Bytes → Bytes) (r : Records) (h : History) → StandsFor name r h → length h.values ≡ length r.records

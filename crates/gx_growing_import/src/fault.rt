@@ -53,7 +53,6 @@ impl From<AskedFault> for WholeWay {
     fn from(fault: AskedFault) -> WholeWay {
         match fault {
             AskedFault::OutOfMemory => WholeWay::OutOfMemory,
-            AskedFault::Unread(CommandFault::OutOfMemory) => WholeWay::OutOfMemory,
             AskedFault::Unread(fault) => WholeWay::Unread(fault),
             AskedFault::StandsForAnother => WholeWay::StandsForAnother,
         }

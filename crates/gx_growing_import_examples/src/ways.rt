@@ -99,7 +99,9 @@ fn objects_that_look_like_others_go_the_whole_way(rt: HostRuntime) -> Result<(),
         return Ok(());
     };
     let mut stream = Vec::new(rt.alloc());
-    stream.extend_from_slice(b"commit refs/heads/main\ncommitter C <c@x> 4 +0000\ndata 0\nM 100644 ")?;
+    stream.extend_from_slice(
+        b"commit refs/heads/main\ncommitter C <c@x> 4 +0000\ndata 0\nM 100644 ",
+    )?;
     stream.extend_from_slice(name.hex().as_slice())?;
     stream.extend_from_slice(b" a\n")?;
     assert!(rt; way(&rt, &repo, stream.as_slice(), state) == "NotTaken");
@@ -109,13 +111,20 @@ fn objects_that_look_like_others_go_the_whole_way(rt: HostRuntime) -> Result<(),
 #[test]
 fn names_of_others_go_the_whole_way(rt: HostRuntime) -> Result<(), Fail> {
     let state = RandomState::new(&rt)?;
-    let Some(repo) = made(&rt, ShortNamer, b"blob\ndata 2\nx\nblob\ndata 3\nxy\n", state) else {
+    let Some(repo) = made(
+        &rt,
+        ShortNamer,
+        b"blob\ndata 2\nx\nblob\ndata 3\nxy\n",
+        state,
+    ) else {
         assert!(rt; false, "made");
         return Ok(());
     };
     assert!(rt; short_way(&rt, &repo, b"blob\ndata 2\nx\n", state) == "short");
     assert!(rt; short_way(&rt, &repo, b"blob\ndata 2\ny\n", state) == "NameHeld");
-    assert!(rt; short_way(&rt, &repo, b"reset refs/heads/main\nfrom 11111111\n", state) == "Differs");
+    assert!(rt;
+        short_way(&rt, &repo, b"reset refs/heads/main\nfrom 11111111\n", state) == "Differs"
+    );
     Ok(())
 }
 

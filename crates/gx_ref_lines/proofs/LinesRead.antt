@@ -96,8 +96,8 @@ pub all_found : (lines rest : Bytes) (found : List (Bytes × Bytes)) → rest �
 all_found lines rest found e a = (
   a.spelled ∙ ap (λ r. flat_map stored_ref found ++ r) e ∙ append-nil (flat_map stored_ref found),
   λ refs f are.
-    let l = a.first refs f are in
-    sym (append-nil found) ∙ ap (λ left. found ++ left) (sym (none_left l.0 (sym l.2 ∙ e))) ∙ sym l.1,
+      let l = a.first refs f are in
+      sym (append-nil found) ∙ ap (λ left. found ++ left) (sym (none_left l.0 (sym l.2 ∙ e))) ∙ sym l.1,
 )
 
 -- the objects of refs have names, behind the first ones too
@@ -143,14 +143,14 @@ module _ (lines rest : Bytes) (found : List (Bytes × Bytes)) (some : rest ≡ [
   pub one_cut : (ref : Bytes × Bytes) (behind : Bytes) → rest ≡ stored_ref ref ++ behind → Cuts (Some (ref, behind)) → AreFirst lines behind (found ++ ref ∷ [])
   one_cut ref behind e cuts = record {
     spelled = a.spelled ∙ ap (λ r. flat_map stored_ref found ++ r) e ∙ sym (append_assoc (flat_map stored_ref found) (stored_ref ref) behind)
-      ∙ ap (λ r. r ++ behind) (ap (λ r. flat_map stored_ref found ++ r) (sym (append-nil (stored_ref ref))) ∙ sym (flat_map-append stored_ref found (ref ∷ [])));
+        ∙ ap (λ r. r ++ behind) (ap (λ r. flat_map stored_ref found ++ r) (sym (append-nil (stored_ref ref))) ∙ sym (flat_map-append stored_ref found (ref ∷ [])));
     first = λ refs f are.
-      let n = is_next lines rest found refs some a f are in
-      let is : ◌≡◌ {A = Front} (ref, behind) (n.ref, flat_map stored_ref n.left) = some_is (cuts n.ref (flat_map stored_ref n.left) n.line n.named n.object) in (
-        n.left,
-        n.are ∙ ap (λ q. found ++ q ∷ n.left) (sym (ap (λ (p : Front). p.0) is)) ∙ sym (append_assoc found (ref ∷ []) n.left),
-        ap (λ (p : Front). p.1) is,
-      );
+        let n = is_next lines rest found refs some a f are in
+        let is : ◌≡◌ {A = Front} (ref, behind) (n.ref, flat_map stored_ref n.left) = some_is (cuts n.ref (flat_map stored_ref n.left) n.line n.named n.object) in (
+          n.left,
+          n.are ∙ ap (λ q. found ++ q ∷ n.left) (sym (ap (λ (p : Front). p.0) is)) ∙ sym (append_assoc found (ref ∷ []) n.left),
+          ap (λ (p : Front). p.1) is,
+        );
   }
     where
       some_is : {x y : Front} → Some x ≡ Some y → x ≡ y

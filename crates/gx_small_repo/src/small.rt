@@ -24,7 +24,7 @@ use std::hash::RandomState;
 /// Each of its objects is one of the whole one, or stands for a blob or a commit of it, under that one's name; each of its refs
 /// is one of the whole one's.
 /// ReadFailed: a read failed. Damaged: what is asked tells no repository. TooMany: the texts lead to more than 4,096 commits.
-/// NotTaken: an object isn't taken as the one that it is.
+/// NotTaken: an object isn't held as what it is to be, or isn't taken as the one that it is.
 /// Cost: the trees of the commits that the texts name, and of those that the branches hold. Memory: these, and 36 bytes a blob.
 pub fn small_repository<O: Objects, N: Namer + Copy, A: Allocator + Copy>(
     alloc: A,

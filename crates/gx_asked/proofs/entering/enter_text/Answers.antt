@@ -1,6 +1,5 @@
-use Rattle.std.proofs.Common.{List, map, sym, ap, subst, ◌∙◌}
+use Rattle.std.proofs.Common.{ℕ, List, sym, subst, ◌∙◌}
 use Rattle.std.specs.declared.vec.Vec.{Vec}
-use Rattle.std.proofs.Common.{ℕ}
 use Rattle.gx_asked.specs.Asking.{IsAmong, texts_of}
 use Rattle.gx_asked.specs.Entering.{KeepsTexts}
 use Rattle.gx_asked.proofs.EnteredTexts.{found, inserted, others_kept}
@@ -16,4 +15,4 @@ returns-in_ok-insert-clause-entered g c =
     (subst (λ (ks : List (Vec ℕ g.row.A.Denot)). IsAmong (texts_of ks) c.in_ok-from_slice.field-0.items) (sym c.in_ok-insert.ensures.keys) (inserted c.args.texts.now.keys c.in_ok-from_slice.field-0))
 
 pub returns-else-not-contains-clause-entered : goal.returns-else-not-contains-clause-entered
-returns-else-not-contains-clause-entered g c = found c.args.texts.now.keys c.args.text.now (sym c.contains.ensures ∙ ?)
+returns-else-not-contains-clause-entered g c = found c.args.texts.now.keys c.args.text.now (sym c.contains.ensures ∙ c.if-not-contains.false)

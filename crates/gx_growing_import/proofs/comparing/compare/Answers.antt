@@ -6,9 +6,19 @@ use Rattle.gx_growing_import.proofs.AlikeTexts.{IsTold, all_next, alike_told, ba
 use Rattle.gx_growing_import.proofs.comparing.compare.Goals as goal
 
 pub loop-base-preserved : goal.loop-base-preserved
-loop-base-preserved g c = ?
+loop-base-preserved g c =
+    let name = g.O.Objects.name_of c.args.objects.now in
+    let told = g.O.Objects.told c.args.objects.now in
+    let small = c.args.small.now.1 in
+    let base = c.in-Some.base.now.items in
+    all_next (λ text. IsTold name small told text.now.items) c.loop-base.yielded c.in-Some.base c.loop-base.invariant
+    (base_told name small told (shown_refs c.args.lines.now.refs.items) base c.as_slice.result.now c.as_slice-in-loop-base.result.now c.as_slice.ensures.value c.as_slice-in-loop-base.ensures.value
+    c.requires.lines c.in_ok-compare_base.ensures.same c.in_ok-compare_names.ensures.same)
 
 pub returns : goal.returns
 returns g c =
     let all : map deref c.loop-base.yielded ≡ c.args.asked.now.bases.keys = search (rules, iter_end) in
-    alike_told (g.O.Objects.name_of c.args.objects.now) c.args.small.now.1 (g.O.Objects.told c.args.objects.now) (shown_refs c.args.lines.now.refs.items) c.args.asked.now c.requires.lines ? c.loop-base.yielded c.loop-base.invariant all
+    record {
+      alike = alike_told (g.O.Objects.name_of c.args.objects.now) c.args.small.now.1 (g.O.Objects.told c.args.objects.now) (shown_refs c.args.lines.now.refs.items) c.args.asked.now
+          c.requires.lines c.in_ok-compare_branches.ensures.same c.loop-base.yielded c.loop-base.invariant all;
+    }

@@ -12,4 +12,4 @@ pub returns : goal.returns
 returns g c =
     let all : map deref c.loop-branch.yielded ≡ c.args.asked.now.branches.keys = search (rules, iter_end) in
     let Same = IsSameRefIn (shown_refs c.args.lines.now.refs.items) c.args.small.now.1.refs in
-    subst (λ keys. AllByRecursion Same (texts_of keys)) all (all_lent Same c.loop-branch.yielded c.loop-branch.invariant)
+    record { same = subst (λ keys. AllByRecursion Same (texts_of keys)) all (all_lent Same c.loop-branch.yielded c.loop-branch.invariant) }

@@ -208,9 +208,15 @@ class StreamMaker:
         return b"".join(self.out)
 
 
+def made_large(gx: Program, store: Word) -> None:
+    """Makes a growing store that no stream of here outweighs."""
+    gx.prints("init", "--growing", store)
+    gx.prints("import", store, stdin=b"blob\n" + block(b"x" * 50_000))
+
+
 def made_base(gx: Program, store: Word, randoms: random.Random) -> Known:
     """Makes a growing store of several segments."""
-    gx.prints("init", "--growing", store)
+    made_large(gx, store)
     known, left = Known(), randoms.choice([3, 6, 10])
     while left > 0:
         stream = StreamMaker(randoms, known).make(randoms.choice([6, 12, 25]))

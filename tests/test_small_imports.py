@@ -14,7 +14,8 @@ from pathlib import Path
 import pytest
 
 from programs import Done, Program, Word, counted
-from small_streams import NAMES, UNKNOWN, Known, StreamMaker, made_base
+from small_streams import NAMES, UNKNOWN, Known, StreamMaker, made_base, made_large
+from store_files import STREAM
 
 NOT_SMALL = Done(1, b"", b"gx: no small repository\n")
 Git = Callable[..., bytes]
@@ -84,6 +85,16 @@ def test_random(gx: Program, tmp_path: Path, is_long: bool, seed: int, number: i
     for way, count in counts.items():
         counted[f"random streams, {way}"] += count
     assert counts["small"] > counts["whole"]
+
+
+@pytest.mark.parametrize("more", [-1, 0, 1])
+def test_outweighed(gx: Program, tmp_path: Path, more: int) -> None:
+    """A store that has no more bytes than the stream is read as a whole, and the same comes of it."""
+    ways = Ways(gx, tmp_path)
+    made_large(gx, ways.base)
+    size = ways.base.stat().st_size + more
+    stream = STREAM + b"#" * (size - len(STREAM) - 1) + b"\n"
+    assert ways.compare(stream, []) == ("small" if more < 0 else "whole")
 
 
 # ---- streams of git
@@ -175,7 +186,7 @@ def test_git(
         folder, randoms = tmp_path / str(each), random.Random(f"{seed} {number} {each}")
         folder.mkdir()
         history, ways = History(git, folder / "git", randoms), Ways(gx, folder)
-        gx.prints("init", "--growing", ways.base)
+        made_large(gx, ways.base)
         for _ in range(randoms.choice([10, 25])):
             history.step()
         gx.prints("import", ways.base, stdin=changes_of(history, {}))

@@ -81,6 +81,11 @@ impl<'a> InPlace<'a> {
         runs.fold(0u64, |sum, run| sum.saturating_add(run.count))
     }
 
+    /// How many bytes it has.
+    pub(crate) fn size(&self) -> u64 {
+        self.stamp.size
+    }
+
     /// Whether it has no objects, or not more than so many bytes.
     pub(crate) fn is_outweighed_by(&self, bytes: u64) -> bool {
         self.held() == 0 || bytes >= self.stamp.size

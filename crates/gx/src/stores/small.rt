@@ -40,7 +40,8 @@ pub(super) fn import_small(
         return Ok(Short::Not { sent: 0 });
     };
     stream.tell_typed(run);
-    let Some(nameless) = stream.read_commands(run, asks.features, asks.report) else {
+    let most = opened.size();
+    let Some(nameless) = stream.read_commands(run, asks.features, asks.report, most) else {
         return Ok(Short::Not { sent: 0 });
     };
     let Some(new) = new_of(run, &opened, stream, asks) else {

@@ -22,6 +22,8 @@ pub(crate) struct Kept<'a> {
     /// So many bytes of the front were given out.
     given: usize,
     keeps: bool,
+    /// So many bytes are kept at most.
+    most: usize,
     /// How the stream ended behind the front, once it has.
     end: Option<io::Result<()>>,
     has_told: bool,
@@ -35,6 +37,7 @@ impl<'a> Kept<'a> {
             front: Vec::new(alloc),
             given: 0,
             keeps: true,
+            most: MOST,
             end: None,
             has_told: false,
         }
@@ -59,14 +62,17 @@ impl<'a> Kept<'a> {
         self.keeps = false;
     }
 
-    /// Reads all commands, and answers how many identities have no name, where they are counted; none where not all of the stream can
-    /// be kept, where a command is none, or at a `progress`, for whose line the program that writes the stream may wait.
+    /// Reads all commands of a stream with fewer bytes than these, and answers how many identities have no name, where they are
+    /// counted; none where not all of the stream can be kept, where a command is none, or at a `progress`, for whose line the program
+    /// that writes the stream may wait.
     pub(crate) fn read_commands(
         &mut self,
         run: &Run<'_>,
         features: Features,
         counts: bool,
+        most: u64,
     ) -> Option<u64> {
+        self.most = self.most.min(most as usize);
         let mut input = Traced::new(run, self, counts);
         let source = FromRead::new(&mut input);
         let commands = CommandReader::asking(run.rt.alloc(), source, features);
@@ -78,7 +84,7 @@ impl<'a> Kept<'a> {
 
     /// Reads, and keeps what comes. Where no more can be kept, that is a failure of this reading alone.
     fn read_kept(&mut self, buf: &mut [u8]) -> io::Result<usize> {
-        let room = buf.len().min(MOST.saturating_sub(self.front.len()));
+        let room = buf.len().min(self.most.saturating_sub(self.front.len()));
         if room == 0 {
             return Err(io::Error::from(ErrorKind::OutOfMemory));
         }

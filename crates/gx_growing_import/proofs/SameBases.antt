@@ -1,5 +1,5 @@
 -- What bases give in both repositories.
-use Rattle.std.proofs.Common.{◌≡◌, Bool, true, false, Option, None, Some, Result, Ok, Err, ap, sym, ◌∙◌}
+use Rattle.std.proofs.Common.{◌≡◌, Bool, true, Option, None, Some, Result, Ok, Err, ap, sym, ◌∙◌}
 use Rattle.std.specs.Result.{result_eq}
 use Rattle.std.specs.Prelude.{IfSome}
 use Rattle.gx_model.specs.declared.objects.Kind.{Kind}

@@ -1,7 +1,7 @@
 -- What an import of a text in memory takes.
-use Rattle.std.proofs.Common.{ℕ, ◌<◌, ◌≤◌, ◌^◌, ◌-◌, ◌≡◌, Bool, true, false, length, refl, ap, sym, subst, ◌∙◌, Some, Ok, arith}
+use Rattle.std.proofs.Common.{ℕ, ◌≤◌, ◌^◌, ◌-◌, ◌≡◌, Bool, false, length, ap, sym, subst, ◌∙◌, Some, Ok, arith}
 use Rattle.std.proofs.lemmas.Bool.Decides.{nat_tests}
-use Rattle.std.specs.Prelude.{[], ◌++◌, nat_le}
+use Rattle.std.specs.Prelude.{[]}
 use Rattle.gx_model.specs.declared.features.Features.{Features}
 use Rattle.gx_model.specs.declared.objects.Kind.{Kind}
 use Rattle.gx_model.specs.Texts.{Bytes}

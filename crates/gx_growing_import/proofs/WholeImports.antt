@@ -1,5 +1,5 @@
 -- What a small repository takes from a text, brought to the whole one.
-use Rattle.std.proofs.Common.{◌≡◌, List, length, map, refl, sym, ap, subst, ◌∙◌, Option, None, Some, arith}
+use Rattle.std.proofs.Common.{◌≡◌, List, length, sym, ap, subst, ◌∙◌, Option, None, Some, arith}
 use Rattle.std.specs.Prelude.{ℕ, Bool, ◌++◌, ◌+◌, ◌-◌, drop, IfSome}
 use Rattle.std.proofs.lemmas.List.{length-append, length-map}
 use Rattle.std.specs.List.{flat_map}
@@ -12,7 +12,7 @@ use Rattle.gx_model.specs.Records.Growth.{put_all}
 use Rattle.gx_model.specs.Records.HistoryOf.{history_of}
 use Rattle.gx_model.specs.Records.Publishing.{with_changes}
 use Rattle.gx_model.specs.Records.Sound.{IsSound}
-use Rattle.gx_model.specs.Replay.{finished, imported_asked}
+use Rattle.gx_model.specs.Replay.{finished}
 use Rattle.gx_model.specs.Stores.StoreText.{stored_ref}
 use Rattle.gx_model.specs.Streams.Grammar.{commands_asked}
 use Rattle.gx_model.specs.Streams.Items.{items_of}

@@ -74,7 +74,8 @@ impl From<SmallFault> for WholeWay {
 impl From<ImportFault> for WholeWay {
     fn from(fault: ImportFault) -> WholeWay {
         match fault.kind {
-            ImportKind::OutOfMemory => WholeWay::OutOfMemory,
+            // the lines of progress go to memory
+            ImportKind::OutOfMemory | ImportKind::WriteFailed => WholeWay::OutOfMemory,
             _ => WholeWay::Refused(fault),
         }
     }

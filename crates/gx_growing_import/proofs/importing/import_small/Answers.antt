@@ -1,5 +1,4 @@
-use Rattle.std.proofs.Common.{rules, ◌≤◌, ◌-◌, ◌^◌, Ok, Some, false, length, subst, sym}
-use Rattle.std.specs.Prelude.{[]}
+use Rattle.std.proofs.Common.{rules, ◌≤◌, ◌-◌, ◌^◌, Ok, Some, length, subst, sym}
 use Rattle.gx_import.specs.Imports.{Imports, StandsForReplay}
 use Rattle.gx_growing_import.specs.Importing.{TakesText}
 use Rattle.gx_growing_import.proofs.TakenTexts.{takes_text}

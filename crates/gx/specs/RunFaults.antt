@@ -10,7 +10,7 @@ use Rattle.gx_objects.specs.declared.fault.LookFault.TheVariants as look
 use Rattle.gx_told.specs.declared.fault.ToldFault.{ToldFault}
 use Rattle.gx_told.specs.declared.fault.ToldFault.TheVariants as told
 use Rattle.gx.specs.declared.fault.RunFault.{RunFault}
-use Rattle.gx.specs.declared.fault.RunFault.TheVariants.{Command, LockFailed, LongName, StoreChanged, BadStamp, RandomFailed, Damaged}
+use Rattle.gx.specs.declared.fault.RunFault.TheVariants.{Command, LockFailed, LongName, StoreChanged, BadStamp, RandomFailed, Damaged, NotSmall}
 
 -- the line of a refusal, without its line feed
 abbrev pub line_of : RunFault → List ℕ
@@ -21,6 +21,7 @@ line_of StoreChanged = codes "gx: store changed"
 line_of BadStamp = codes "gx: bad stamp"
 line_of RandomFailed = codes "gx: random bytes failed"
 line_of Damaged = codes "gx: store: Damaged"
+line_of NotSmall = codes "gx: no small repository"
 
 -- why a run is refused that can't look into its store
 abbrev pub of_look : LookFault → RunFault

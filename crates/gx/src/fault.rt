@@ -30,6 +30,8 @@ pub(crate) enum RunFault {
     RandomFailed,
     /// A question met what no growing store has.
     Damaged,
+    /// The import can't be done over a small repository, as it is asked for.
+    NotSmall,
 }
 
 impl fmt::Display for RunFault {
@@ -44,6 +46,7 @@ impl fmt::Display for RunFault {
             RunFault::BadStamp => f.write_str("gx: bad stamp"),
             RunFault::RandomFailed => f.write_str("gx: random bytes failed"),
             RunFault::Damaged => f.write_str("gx: store: Damaged"),
+            RunFault::NotSmall => f.write_str("gx: no small repository"),
         }
     }
 }

@@ -34,6 +34,15 @@ impl From<gx_place::Subject> for Subject {
     }
 }
 
+/// How an import is done, where that is asked for.
+#[derive(Clone, Copy, PartialEq, Eq)]
+pub(crate) enum Way {
+    /// Over all of the store file.
+    Whole,
+    /// Over a small repository, or not at all.
+    Small,
+}
+
 /// Why a call of the system failed.
 #[derive(Clone, Copy)]
 struct Cause {
@@ -45,6 +54,7 @@ struct Cause {
 #[derive(Drop)]
 pub(crate) struct Run<'a> {
     pub(crate) rt: &'a HostRuntime,
+    way: Option<Way>,
     explains: Cell<bool>,
     explanation: Cell<Option<Vec<u8>>>,
     cause: Cell<Option<Cause>>,
@@ -58,12 +68,24 @@ impl<'a> Run<'a> {
     pub(crate) fn new(rt: &'a HostRuntime, explains: bool) -> Run<'a> {
         Run {
             rt,
+            way: None,
             explains: Cell::new(explains || rt.stderr().is_terminal()),
             explanation: Cell::new(None),
             cause: Cell::new(None),
             has_told_wait: Cell::new(false),
             patience: Cell::new(Patience::endless()),
         }
+    }
+
+    /// The same run, whose imports are done in this way, where one is asked for.
+    pub(crate) fn by_way(mut self, way: Option<Way>) -> Run<'a> {
+        self.way = way;
+        self
+    }
+
+    /// How imports are done, where that is asked for.
+    pub(crate) fn way(&self) -> Option<Way> {
+        self.way
     }
 
     /// Whether somebody reads standard error as it comes.

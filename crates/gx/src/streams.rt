@@ -2,6 +2,7 @@
 
 pub(crate) mod devices;
 pub(crate) mod explanation;
+pub(crate) mod kept;
 pub(crate) mod progress;
 pub(crate) mod reports;
 pub(crate) mod traced;
@@ -211,5 +212,5 @@ pub(crate) fn try_stream(
         Trial::Fault => find_fault(alloc, Sha1Namer, source, features, state, told),
     };
     progress.clear();
-    explained(run, &input, answer, told)
+    explained(run, input.trail(), answer, told)
 }

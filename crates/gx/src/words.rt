@@ -4,7 +4,7 @@ mod commands;
 mod version;
 
 use crate::fault::RunFault;
-use crate::run::{Run, Subject};
+use crate::run::{Run, Subject, Way};
 use commands::run_line;
 use gx_cli::{CliFault, LineFault, read_line};
 use std::env::Args;
@@ -14,6 +14,9 @@ use version::tell_version;
 
 /// The word in front of a command that asks for the causes of failures.
 const EXPLAIN: &str = "--explain";
+
+/// The words in front of a command that ask an import to be done in one way alone, for tests of both.
+const WAYS: [(&str, Way); 2] = [("--way=whole", Way::Whole), ("--way=small", Way::Small)];
 
 /// The word that asks what the program is.
 const VERSION: &str = "--version";
@@ -42,11 +45,20 @@ fn run_collected(rt: &HostRuntime, args: io::Result<Args>) -> io::Result<ExitCod
 /// Runs the command of a line's words, behind those for the program itself, which stand in front.
 fn run_words(rt: &HostRuntime, words: &[&str]) -> ExitCode {
     if is_first(words, EXPLAIN) {
-        run_command(&Run::new(rt, true), words.get(1..).unwrap_or(&[]))
+        run_in_way(Run::new(rt, true), words.get(1..).unwrap_or(&[]))
     } else if is_first(words, VERSION) && words.len() == 1 {
         tell_text(&Run::new(rt, false), tell_version(rt))
     } else {
-        run_command(&Run::new(rt, false), words)
+        run_in_way(Run::new(rt, false), words)
+    }
+}
+
+/// Runs the command of a line's words, in the way that a word in front of it asks for.
+fn run_in_way(run: Run<'_>, words: &[&str]) -> ExitCode {
+    let way = WAYS.iter().find(|way| is_first(words, way.0));
+    match way {
+        Some((_, way)) => run_command(&run.by_way(Some(*way)), words.get(1..).unwrap_or(&[])),
+        None => run_command(&run, words),
     }
 }
 

@@ -8,12 +8,13 @@ use super::process::most_bytes_of_a_file;
 use crate::fault::RunFault;
 use crate::looks::file_at::FileAt;
 use crate::run::{Run, Subject};
-use gx_additions::{AdditionFault, append_objects};
+use gx_additions::{AdditionFault, append_additions, append_objects, append_refs};
 use gx_append::{AppendFault, Device};
 use gx_cli::{CliFault, Repo};
 use gx_look::Look;
 use gx_object::Sha1Namer;
-use gx_place::{Place, Stamp, System};
+use gx_place::{FileKind, Place, Stamp, System};
+use gx_store::Store;
 use std::alloc::Global;
 use std::fs::File;
 use std::io::{self, ErrorKind};
@@ -36,48 +37,151 @@ pub(super) fn grow_by(
     if before.is_outweighed_by(repo) {
         return Ok(false);
     }
-    match open_in_place(host, place, before.stamp) {
-        Some(opened) => {
-            settle_folder(host, place)?;
-            append(host.run, opened, repo, before.objects)
+    match InPlace::open(host, place) {
+        Some(opened) if opened.stamp == before.stamp => {
+            opened.append_repo(place, repo, before.objects)
         }
-        None => Ok(false),
+        _ => Ok(false),
     }
 }
 
-/// Opens a store file to write it as it stands: one that this user may write, that has no other name, which would show the change
-/// too, and that is the one that was read.
-fn open_in_place(mut host: Host<'_>, place: &Place, stamp: Stamp) -> Option<File> {
-    let opened = host.open_to_write(place.store()).ok()?;
-    let is_single = opened.metadata().ok()?.nlink() == 1;
-    let is_same = host.look_at(&opened).ok()?.stamp == stamp;
-    (is_single && is_same).then_some(opened)
+/// A growing store file that is open, and can be appended to as it stands.
+#[derive(Drop)]
+pub(crate) struct InPlace<'a> {
+    host: Host<'a>,
+    file: File,
+    stamp: Stamp,
+    pub(crate) look: Look<FileAt<'a>, Sha1Namer, Global>,
 }
 
-/// Appends to an open store file, which holds so many objects, what a repository has beside them. Answers whether there was memory
-/// for it; where there wasn't, nothing is written.
-fn append(
-    run: &Run<'_>,
-    opened: File,
-    repo: &Repo<Sha1Namer, Global>,
-    held: usize,
-) -> Result<bool, RunFault> {
-    let alloc = run.rt.alloc();
-    let source = FileAt::read_only(run, run.want_read(opened.try_clone())?);
-    let look = Look::open(alloc, Sha1Namer, source)?;
-    let ending = look.ending();
-    let mut device = FileAt::of_most(run, opened, most_bytes_of_a_file(run.rt));
-    // what a killed run left behind the end goes, or is written over where it can't be cut off
-    let _ = device.cut(ending.ends);
-    match append_objects(alloc, &mut device, ending, repo, held) {
-        Ok(()) => Ok(true),
-        Err(AdditionFault::OutOfMemory) => Ok(false),
-        Err(AdditionFault::ReadFailed) => Err(RunFault::Command(CliFault::ReadFailed)),
-        Err(AdditionFault::Append(AppendFault::Unwritten(error))) => {
-            Err(run.failed(Subject::Store, error, CliFault::WriteFailed))
+impl<'a> InPlace<'a> {
+    /// Opens a store file that is a growing one: one that this user may write, and that has no other name, which would show the
+    /// change, too.
+    pub(super) fn open(host: Host<'a>, place: &Place) -> Option<InPlace<'a>> {
+        let mut host = host;
+        let file = host.open_to_write(place.store()).ok()?;
+        let found = host.look_at(&file).ok()?;
+        let is_single = file.metadata().ok()?.nlink() == 1;
+        if found.kind != FileKind::File || !is_single {
+            return None;
         }
-        Err(AdditionFault::Append(AppendFault::Unsettled(error))) => {
-            Err(run.failed(Subject::Unsettled, error, CliFault::WriteFailed))
+        let source = FileAt::read_only(host.run, file.try_clone().ok()?);
+        let look = Look::open(host.run.rt.alloc(), Sha1Namer, source).ok()?;
+        Some(InPlace {
+            host,
+            file,
+            stamp: found.stamp,
+            look,
+        })
+    }
+
+    /// How many objects it has.
+    pub(crate) fn held(&self) -> u64 {
+        let runs = self.look.ending().runs.iter();
+        runs.fold(0u64, |sum, run| sum.saturating_add(run.count))
+    }
+
+    /// How many bytes it has.
+    pub(crate) fn size(&self) -> u64 {
+        self.stamp.size
+    }
+
+    /// Whether it has no objects, or not more than so many bytes.
+    pub(crate) fn is_outweighed_by(&self, bytes: u64) -> bool {
+        self.held() == 0 || bytes >= self.stamp.size
+    }
+
+    /// Appends what a repository has beside the objects that the file holds, so many.
+    fn append_repo(
+        &self,
+        place: &Place,
+        repo: &Repo<Sha1Namer, Global>,
+        held: usize,
+    ) -> Result<bool, RunFault> {
+        let mut device = self.device(place)?;
+        let (alloc, ending) = (self.host.run.rt.alloc(), self.look.ending());
+        let answer = append_objects(alloc, &mut device, ending, repo, held);
+        self.appended(answer)
+    }
+
+    /// Appends new objects, and so many refs in place of the file's, by their lines. Answers whether there was memory for it; where
+    /// there wasn't, nothing is written.
+    pub(crate) fn append_new(
+        &self,
+        place: &Place,
+        new: &Store<Sha1Namer, Global>,
+        count: u64,
+        refs: &[u8],
+    ) -> Result<bool, RunFault> {
+        self.want_same(place)?;
+        let mut device = self.device(place)?;
+        let (alloc, ending) = (self.host.run.rt.alloc(), self.look.ending());
+        let answer = append_additions(alloc, &mut device, ending, self.held(), new, count, refs);
+        self.appended(answer)
+    }
+
+    /// Does so with refs alone.
+    pub(crate) fn append_refs(
+        &self,
+        place: &Place,
+        count: u64,
+        refs: &[u8],
+    ) -> Result<bool, RunFault> {
+        self.want_same(place)?;
+        let mut device = self.device(place)?;
+        let (alloc, ending) = (self.host.run.rt.alloc(), self.look.ending());
+        let answer = append_refs(alloc, &mut device, ending, count, refs);
+        self.appended(answer)
+    }
+
+    /// Makes it durable as it is.
+    pub(crate) fn settle(&self, place: &Place) -> Result<(), RunFault> {
+        if settle(self.host, place, self.stamp)? {
+            Ok(())
+        } else {
+            Err(self.changed())
+        }
+    }
+
+    /// Refuses a file that isn't the one that was opened any more.
+    fn want_same(&self, place: &Place) -> Result<(), RunFault> {
+        let mut host = self.host;
+        match host.look(place.store()) {
+            Ok(found) if found.stamp == self.stamp => Ok(()),
+            _ => Err(self.changed()),
+        }
+    }
+
+    fn changed(&self) -> RunFault {
+        let error = io::Error::other("changed since it was read");
+        let run = self.host.run;
+        run.failed(Subject::Store, error, CliFault::WriteFailed)
+    }
+
+    /// What the file is written by. That it stands there is made durable first, and what a killed run left behind its end goes.
+    fn device(&self, place: &Place) -> Result<FileAt<'a>, RunFault> {
+        let run = self.host.run;
+        settle_folder(self.host, place)?;
+        let file = run.want_read(self.file.try_clone())?;
+        let mut device = FileAt::of_most(run, file, most_bytes_of_a_file(run.rt));
+        // where it can't be cut off, it is written over
+        let _ = device.cut(self.look.ending().ends);
+        Ok(device)
+    }
+
+    /// What comes of an append.
+    fn appended(&self, answer: Result<(), AdditionFault>) -> Result<bool, RunFault> {
+        let run = self.host.run;
+        match answer {
+            Ok(()) => Ok(true),
+            Err(AdditionFault::OutOfMemory) => Ok(false),
+            Err(AdditionFault::ReadFailed) => Err(RunFault::Command(CliFault::ReadFailed)),
+            Err(AdditionFault::Append(AppendFault::Unwritten(error))) => {
+                Err(run.failed(Subject::Store, error, CliFault::WriteFailed))
+            }
+            Err(AdditionFault::Append(AppendFault::Unsettled(error))) => {
+                Err(run.failed(Subject::Unsettled, error, CliFault::WriteFailed))
+            }
         }
     }
 }

@@ -3,6 +3,7 @@
 use gx_cli::Repo;
 use gx_object::{Name, Sha1Namer};
 use gx_place::Stamp;
+use gx_store::Store;
 use gx_versions::{StoreForm, form_of};
 use std::alloc::{AllocError, Global};
 
@@ -68,19 +69,22 @@ impl Before {
     /// Whether the file has no objects, or a repository that has these, and more behind them, has bodies there of as many bytes as the
     /// whole file. Cost: their number.
     pub(super) fn is_outweighed_by(&self, repo: &Repo<Sha1Namer, Global>) -> bool {
-        let store = repo.store();
-        let new = (self.objects..store.len()).filter_map(|place| store.record(place));
-        let bytes = new.fold(
-            0u64,
-            |sum, (_, _, body)| sum.saturating_add(body.len() as u64),
-        );
-        self.objects == 0 || bytes >= self.stamp.size
+        self.objects == 0 || body_bytes(repo.store(), self.objects) >= self.stamp.size
     }
 
     /// Whether a repository that has all objects of the file, or some of them, in their order has the same, and the same refs.
     pub(super) fn has_all_of(&self, repo: &Repo<Sha1Namer, Global>) -> bool {
         repo.store().len() == self.objects && has_refs(self.refs.as_slice(), repo)
     }
+}
+
+/// How many bytes the bodies of a store's objects have from one on. Cost: their number.
+pub(super) fn body_bytes(store: &Store<Sha1Namer, Global>, from: usize) -> u64 {
+    let new = (from..store.len()).filter_map(|place| store.record(place));
+    new.fold(
+        0u64,
+        |sum, (_, _, body)| sum.saturating_add(body.len() as u64),
+    )
 }
 
 /// Whether a repository has these refs, and no others.

@@ -1,6 +1,6 @@
 //! The next text of a store file, which a command writes beside it, or of which it appends to the store file what is new.
 
-use super::appending::{grow_by, settle};
+use super::appending::{InPlace, grow_by, settle};
 use super::before::{Before, TextKind};
 use super::host::Host;
 use crate::fault::RunFault;
@@ -9,7 +9,7 @@ use crate::stores::files::open_text;
 use crate::streams::devices::{Noted, flushed};
 use gx_cli::{CliFault, Repo};
 use gx_object::Sha1Namer;
-use gx_place::{PlaceFault, Stamp, System};
+use gx_place::{Place, PlaceFault, Stamp, System};
 use gx_text::IntoWrite;
 use gx_versions::{StoreForm, WriteFault, send_store};
 use std::alloc::Global;
@@ -89,6 +89,16 @@ impl<'a> NextText<'a> {
         let repo = open_text(run, store, state)?;
         self.before = Some(Before::of_repo(alloc, stamp, kind, &repo)?);
         Ok(repo)
+    }
+
+    /// The store file, where that is a growing one that can be appended to as it stands.
+    pub(crate) fn open_in_place(&self) -> Option<InPlace<'a>> {
+        InPlace::open(self.host, self.text.place())
+    }
+
+    /// Where the store file stands.
+    pub(crate) fn place(&self) -> &Place {
+        self.text.place()
     }
 
     /// The form of the next text.

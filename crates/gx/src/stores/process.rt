@@ -11,6 +11,14 @@ pub(crate) fn own_user(rt: &HostRuntime) -> Option<u32> {
     }
 }
 
+/// Whether standard input is a file, whose bytes wait for nobody. Where the system doesn't tell it, it isn't.
+pub(crate) fn reads_a_file(rt: &HostRuntime) -> bool {
+    match fs::metadata(rt, "/proc/self/fd/0") {
+        Ok(found) => found.is_file(),
+        Err(_) => false,
+    }
+}
+
 /// How many bytes a file may have that this process writes. Where the system doesn't tell, there is no limit.
 pub(crate) fn most_bytes_of_a_file(rt: &HostRuntime) -> u64 {
     match fs::read_to_string(rt, "/proc/self/limits") {

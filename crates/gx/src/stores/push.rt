@@ -63,7 +63,7 @@ fn push_shown(
     let pushed = push_opened(alloc, repo, lines, source, &mut sink, done, &mut told);
     progress.clear();
     let nameless = input.trail().map_or(0, |trail| trail.nameless());
-    (explained(run, &input, pushed, &told), nameless)
+    (explained(run, input.trail(), pushed, &told), nameless)
 }
 
 /// Keeps the line that tells what a refused line is about, should that be told. The store file, which no one has changed, is read

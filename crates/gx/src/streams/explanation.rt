@@ -1,24 +1,23 @@
 //! What is told of a refused import behind its fault, where that is asked for: where the faulty item stands, and what it is about.
 //! Source: git-fast-import(1), "Commands".
 
-use super::traced::Traced;
 use super::trail::{Spot, Trail};
 use crate::run::Run;
 use gx_cli::{CliFault, Explanation, ImportFault, ImportKind, explanation_lines, item_line};
 use std::alloc::{AllocError, Global};
 
-/// An answer. Where it refuses the stream, the lines that explain this are kept, to be told behind it, if they are asked for
+/// An answer. Where it refuses the stream with this trail, the lines that explain this are kept, to be told behind it, if they are asked for
 /// and there is memory for them.
 pub(crate) fn explained<T>(
     run: &Run<'_>,
-    input: &Traced<'_>,
+    trail: Option<&Trail>,
     answer: Result<T, CliFault>,
     told: &Explanation<Global>,
 ) -> Result<T, CliFault> {
     if !run.explains() {
         return answer;
     }
-    if let (Err(CliFault::Import(fault)), Some(trail)) = (&answer, input.trail()) {
+    if let (Err(CliFault::Import(fault)), Some(trail)) = (&answer, trail) {
         if let Ok(lines) = lines_of(run.rt.alloc(), trail, fault, told) {
             run.explain(lines);
         }

@@ -78,20 +78,33 @@ pub(crate) struct Beside<'a> {
     line: &'a ProgressLine<'a>,
     output: Noted<'a, Stdout>,
     is_terminal: bool,
+    /// So many of the next bytes went out before.
+    sent: usize,
 }
 
 impl<'a> Beside<'a> {
     pub(crate) fn new(line: &'a ProgressLine<'a>) -> Beside<'a> {
+        Beside::behind(line, 0)
+    }
+
+    /// That on which so many of the bytes that are to be written stand already.
+    pub(crate) fn behind(line: &'a ProgressLine<'a>, sent: usize) -> Beside<'a> {
         Beside {
             line,
             output: Noted::output(line.run),
             is_terminal: line.run.rt.stdout().is_terminal(),
+            sent,
         }
     }
 }
 
 impl Write for Beside<'_> {
     fn write(&mut self, buf: &[u8]) -> io::Result<usize> {
+        let before = self.sent.min(buf.len());
+        if before > 0 {
+            self.sent -= before;
+            return Ok(before);
+        }
         if self.is_terminal {
             self.line.clear();
         }

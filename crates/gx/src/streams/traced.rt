@@ -1,4 +1,4 @@
-//! Standard input of an import, given out line by line where a refusal is to be explained: what came last then is what the reader
+//! The stream of an import, given out line by line where a refusal is to be explained: what came last then is what the reader
 //! of the stream is at.
 
 use super::devices::Noted;
@@ -19,29 +19,33 @@ struct Lines {
     trail: Trail,
 }
 
-/// Standard input, with the trail of its items where a refusal is to be explained and there is memory for it.
+/// A stream, with the trail of its items where a refusal is to be explained and there is memory for it.
 #[derive(Drop)]
-pub(crate) struct Traced<'a> {
-    input: Noted<'a, Stdin>,
+pub(crate) struct Traced<D> {
+    input: D,
     lines: Option<Lines>,
 }
 
-impl<'a> Traced<'a> {
-    /// It is counted, too, what is told of its lines in a report, where that is asked for.
+impl<'a> Traced<Noted<'a, Stdin>> {
+    /// Standard input. It is counted, too, what is told of its lines in a report, where that is asked for.
     pub(crate) fn input(
         run: &'a Run<'a>,
         progress: &'a ProgressLine<'a>,
         is_counted: bool,
-    ) -> Traced<'a> {
+    ) -> Traced<Noted<'a, Stdin>> {
+        Traced::new(run, Noted::input(run).shown_by(progress), is_counted)
+    }
+}
+
+impl<D> Traced<D> {
+    /// That of a device.
+    pub(crate) fn new(run: &Run<'_>, input: D, is_counted: bool) -> Traced<D> {
         let lines = if is_counted || run.explains() {
             Lines::new(run)
         } else {
             None
         };
-        Traced {
-            input: Noted::input(run).shown_by(progress),
-            lines,
-        }
+        Traced { input, lines }
     }
 
     /// The trail of what was given out.
@@ -66,7 +70,7 @@ impl Lines {
     }
 }
 
-impl Read for Traced<'_> {
+impl<D: Read> Read for Traced<D> {
     fn read(&mut self, buf: &mut [u8]) -> io::Result<usize> {
         let Some(lines) = &mut self.lines else {
             return self.input.read(buf);

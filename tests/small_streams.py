@@ -1,0 +1,226 @@
+"""Random streams for a store that holds something already: their texts name what it has, in each way
+that a commit can be named, and their files are some that it has, and others.
+"""
+
+from __future__ import annotations
+
+import random
+from collections.abc import Callable
+from dataclasses import dataclass, field
+
+from programs import Program, Word
+
+PATHS = b"a b d/a d/b d/e/a d/e/f/g d- d.c e/a e/b/c z".split() + [b"x y"]
+NAMES = [b"refs/heads/" + name for name in b"m n o/p q r s/t".split()]
+# what stands for a blob or a commit of the store in an import begins with the last one
+NONCE = b"gx: stands for: "
+BODIES = [b"one\n", b"two\n", b"three\n", b"a\n", b"b\n", b"", b"x" * 200, NONCE[:9]] * 6 + [NONCE]
+SUFFIXES = [b"^", b"^2", b"^{commit}", b"^{}", b"~1^2", b"^0~1", b"^{tree}"]
+UNKNOWN = [b"nothing", b"1" * 40, b"refs/heads/none"]
+
+
+def block(body: bytes) -> bytes:
+    return b"data %d\n%s\n" % (len(body), body)
+
+
+def quoted(path: bytes) -> bytes:
+    return b'"%s"' % path if b" " in path else path
+
+
+@dataclass
+class Known:
+    """What a store holds: its refs, its commits, and the blobs and paths of what its refs reach."""
+
+    refs: dict[bytes, bytes] = field(default_factory=dict)
+    commits: list[bytes] = field(default_factory=list)
+    blobs: list[bytes] = field(default_factory=list)
+    paths: list[bytes] = field(default_factory=list)
+
+    @staticmethod
+    def of(gx: Program, store: Word) -> Known:
+        lines = gx.prints("refs", store).splitlines()
+        known = Known({name: digits for digits, name in (line.split(b" ", 1) for line in lines)})
+        if known.refs:
+            known.commits = sorted(gx.prints("log", "--all", store).split())
+        for name in known.refs:
+            for line in gx.prints("ls", "-r", store, name).splitlines():
+                front, _, path = line.partition(b"\t")
+                _, kind, digits = front.split()
+                known.blobs += [digits] if kind == b"blob" else []
+                known.paths += [path] if kind == b"blob" else []
+        return known
+
+    def heads(self) -> list[bytes]:
+        return [name for name in self.refs if name.startswith(b"refs/heads/")]
+
+
+class StreamMaker:
+    """A stream for a store of which this is known."""
+
+    def __init__(self, randoms: random.Random, known: Known):
+        self.random, self.known = randoms, known
+        self.out: list[bytes] = []
+        self.marks: list[int] = []
+        self.blob_marks: list[int] = []
+        self.branches: list[bytes] = []
+        self.last_mark = 0
+
+    def drawn(self, *ways: tuple[float, Callable[[], None]]) -> None:
+        """Does one of these, each as often as it says; nothing in what is left of one."""
+        at = self.random.random()
+        for share, way in ways:
+            if at < share:
+                way()
+                return
+            at -= share
+
+    def mark(self) -> int:
+        self.last_mark += 1
+        return self.last_mark
+
+    def body(self) -> bytes:
+        is_new = self.random.random() < 0.4
+        return b"%d\n" % self.random.randrange(10**6) if is_new else self.random.choice(BODIES)
+
+    # ---- names of commits
+
+    def named_by_ref(self) -> bytes:
+        name = self.random.choice(list(self.known.refs))
+        if self.random.random() < 0.3:
+            name = name.split(b"/", 2)[-1]
+        suffixes = [b"", b"^0", b"~%d" % self.random.randrange(3), self.random.choice(SUFFIXES)]
+        return name + self.random.choice(suffixes)
+
+    def commit_ish(self, branch: bytes | None = None) -> bytes | None:
+        """A name of a commit, or of none: not that of the branch itself."""
+        choose, known = self.random.choice, self.known
+        kinds = [*"mdrrbu"] + ["s"] * (self.random.random() < 0.2)
+        for kind in self.random.sample(kinds, len(kinds)):
+            name = None
+            if kind == "m" and self.marks:
+                name = b":%d" % choose(self.marks)
+            elif kind == "d" and known.commits:
+                name = choose(known.commits)
+            elif kind == "r" and known.refs:
+                name = self.named_by_ref()
+            elif kind == "b" and self.branches:
+                name = choose(self.branches)
+            elif kind == "s" and known.commits:
+                name = choose(known.commits)[: choose([4, 7, 12, 39])]
+            elif kind == "u" and self.random.random() < 0.05:
+                name = choose(UNKNOWN)
+            if name not in (None, branch):
+                return name
+        return None
+
+    def branch(self) -> bytes:
+        heads = self.known.heads()
+        if heads and self.random.random() < 0.65:
+            return self.random.choice(heads)
+        if self.known.refs and self.random.random() < 0.05:
+            return self.random.choice(list(self.known.refs))
+        return self.random.choice(NAMES)
+
+    # ---- commands
+
+    def blob(self) -> None:
+        number = self.mark()
+        self.blob_marks.append(number)
+        self.out.append(b"blob\nmark :%d\n%s" % (number, block(self.body())))
+
+    def path(self) -> bytes:
+        is_known = self.known.paths and self.random.random() < 0.3
+        return self.random.choice(self.known.paths if is_known else PATHS)
+
+    def change(self) -> bytes:
+        choose, at, path = self.random.choice, self.random.random(), quoted(self.path())
+        mode = choose([b"100644", b"100644", b"100755", b"120000"])
+        if at < 0.15 and self.blob_marks:
+            return b"M %s :%d %s\n" % (mode, choose(self.blob_marks), path)
+        if at < 0.3 and self.known.blobs:
+            return b"M %s %s %s\n" % (mode, choose(self.known.blobs), path)
+        if at < 0.75:
+            return b"M %s inline %s\n%s" % (mode, path, block(self.body()))
+        if at < 0.78:
+            return b"M 160000 %s %s\n" % (b"12" * 20, path)
+        if at < 0.88:
+            return b"D %s\n" % path
+        if at < 0.9:
+            return b"deleteall\n"
+        return b"%s %s %s\n" % (choose([b"C", b"R"]), quoted(self.path()), path)
+
+    def first_parent(self, branch: bytes) -> bytes | None:
+        """What a commit goes on from: nothing where that is the branch itself."""
+        at, held = self.random.random(), self.known.refs.get(branch)
+        if branch in self.branches and at < 0.7:
+            return None
+        if held and at < 0.75:
+            return self.random.choice([branch + b"^0", branch + b"^0", held, held + b"^0"])
+        return self.commit_ish(branch) if at < 0.95 else None
+
+    def commit(self) -> None:
+        choose, branch = self.random.choice, self.branch()
+        lines = [b"commit %s\n" % branch]
+        is_marked = self.random.random() < 0.8
+        if is_marked:
+            lines.append(b"mark :%d\n" % self.mark())
+        if self.random.random() < 0.2:
+            lines.append(b"author A <a@x> %d +0100\n" % self.random.randrange(100))
+        lines.append(b"committer C <c@x> %d +0000\n" % self.random.randrange(10**4))
+        lines.append(block(choose([b"m\n", b"", NONCE[:10], b"long\n\nmore\n"])))
+        parents = [(b"from", self.first_parent(branch))]
+        parents += [(b"merge", self.commit_ish(branch)) for _ in range(choose([0, 0, 0, 0, 1, 2]))]
+        lines += [b"%s %s\n" % (word, name) for word, name in parents if name]
+        lines += [self.change() for _ in range(choose([0, 1, 1, 2, 3, 5]))]
+        self.out.append(b"".join(lines) + b"\n")
+        self.marks += [self.last_mark] if is_marked else []
+        self.branches.append(branch)
+
+    def reset(self) -> None:
+        branch = self.branch()
+        start = self.commit_ish(branch) if self.random.random() < 0.9 else None
+        self.out.append(b"reset %s\n%s\n" % (branch, b"from %s\n" % start if start else b""))
+        self.branches.append(branch)
+
+    def tag(self) -> None:
+        start, name = self.commit_ish(), self.random.choice([b"v1", b"v2", b"t/x", b"v3"])
+        if start:
+            time = self.random.randrange(99)
+            text = b"tag %s\nfrom %s\ntagger T <t@x> %d +0000\n" % (name, start, time)
+            self.out.append(text + block(b"t\n"))
+
+    def line(self, text: bytes) -> Callable[[], None]:
+        return lambda: self.out.append(text)
+
+    def make(self, most: int) -> bytes:
+        if self.random.random() < 0.5:
+            self.out.append(b"feature force\n")
+        for _ in range(self.random.randrange(1, most)):
+            self.drawn(
+                (0.2, self.blob),
+                (0.55, self.commit),
+                (0.1, self.reset),
+                (0.08, self.tag),
+                (0.03, self.line(b"progress at %d\n" % self.last_mark)),
+                (0.025, self.line(b"checkpoint\n\n")),
+                (0.005, self.line(b"nonsense\n")),
+            )
+        return b"".join(self.out)
+
+
+def made_large(gx: Program, store: Word) -> None:
+    """Makes a growing store that no stream of here outweighs."""
+    gx.prints("init", "--growing", store)
+    gx.prints("import", store, stdin=b"blob\n" + block(b"x" * 50_000))
+
+
+def made_base(gx: Program, store: Word, randoms: random.Random) -> Known:
+    """Makes a growing store of several segments."""
+    made_large(gx, store)
+    known, left = Known(), randoms.choice([3, 6, 10])
+    while left > 0:
+        stream = StreamMaker(randoms, known).make(randoms.choice([6, 12, 25]))
+        if gx("import", store, stdin=stream).status == 0:
+            known = Known.of(gx, store)
+            left -= bool(known.commits)
+    return known

@@ -4,8 +4,6 @@
 mod fault;
 mod objects;
 mod refs;
-#[cfg(test)]
-mod tests;
 
 pub use fault::BroughtFault;
 pub use objects::new_objects;

@@ -2,8 +2,6 @@
 #![tactic(auto)]
 
 #[cfg(test)]
-mod growths;
-#[cfg(test)]
 mod imports;
 #[cfg(test)]
 mod ways;

@@ -12,7 +12,6 @@ pub(crate) mod process;
 mod push;
 mod put;
 mod set_ref;
-mod settings;
 mod small;
 mod stamp;
 

@@ -82,6 +82,17 @@ impl<'a> Kept<'a> {
         Some(input.trail().map_or(0, |trail| trail.nameless()))
     }
 
+    /// Gives of what was kept what comes next, and answers how many bytes that is.
+    fn give_kept(&mut self, buf: &mut [u8]) -> usize {
+        let Some(left) = self.front.get(self.given..) else {
+            return 0;
+        };
+        let count = left.len().min(buf.len());
+        buf[..count].copy_from_slice(&left[..count]);
+        self.given = self.given.saturating_add(count);
+        count
+    }
+
     /// Reads, and keeps what comes. Where no more can be kept, that is a failure of this reading alone.
     fn read_kept(&mut self, buf: &mut [u8]) -> io::Result<usize> {
         let room = buf.len().min(self.most.saturating_sub(self.front.len()));
@@ -101,12 +112,8 @@ impl<'a> Kept<'a> {
 
 impl Read for Kept<'_> {
     fn read(&mut self, buf: &mut [u8]) -> io::Result<usize> {
-        let left = self.front.get(self.given..).unwrap_or(b"");
-        if !left.is_empty() {
-            let count = left.len().min(buf.len());
-            buf[..count].copy_from_slice(&left[..count]);
-            self.given = self.given.saturating_add(count);
-            return Ok(count);
+        if self.given < self.front.len() {
+            return Ok(self.give_kept(buf));
         }
         match self.end {
             Some(Ok(())) => Ok(0),

@@ -16,3 +16,4 @@ pub mod SmallHistories
 pub mod SmallAsked
 pub mod BroughtRecords
 pub mod ReadNames
+mod StandInBodies

@@ -7,7 +7,6 @@ use Rattle.std.specs.Option.{option_map}
 use Rattle.gx_model.specs.declared.faults.Fault.{Fault}
 use Rattle.gx_model.specs.declared.objects.Kind.{Kind}
 use Rattle.gx_model.specs.declared.objects.Kind.TheVariants as kind
-use Rattle.gx_model.specs.declared.objects.Mode.TheVariants.{File, Exec, Link, Gitlink, Dir}
 use Rattle.gx_model.specs.Faults.{◌>>=◌}
 use Rattle.gx_model.specs.Objects.{IsNamer, commit_text, text_lines}
 use Rattle.gx_model.specs.Texts.{Bytes, same_bytes}
@@ -17,14 +16,14 @@ use Rattle.gx_model.specs.Records.{name_of}
 use Rattle.gx_model.specs.Records.HistoryOf.{bytes_of_blob, history_of, value_of_name}
 use Rattle.gx_model.specs.Records.Sound.{IsSound}
 use Rattle.gx_model.specs.Revisions.Denotation.{base_value, ref_at, ref_names}
-use Rattle.gx_model.specs.Revisions.{Revision, revision_of}
 use Rattle.gx_model.specs.Replay.ProperReplays.{IsProperCommand}
 use Rattle.gx_model.specs.Streams.Commands as command
 use Rattle.gx_model.specs.Streams.Commands.{Asks, Blob, Change, Checkpoint, Clear, Command, CommitIsh, Copy, Done, Inline, Mark, Marked, Modify, Named, Object, OptionLine, Progress, Remove, Rename, Reset}
 use Rattle.gx_model.proofs.Export.KeptCommits.{all_in, each_in}
 use Rattle.gx_model.proofs.Records.HistoriesExist.{stands}
 use Rattle.gx_model.proofs.Replay.GivenCommits.{base_kept}
-use Rattle.gx_stand_ins.specs.Asked.{IsAlike, IsAlikeBase, IsAlikeRef, OfChange, OfCommand, OfCommitIsh, OfRevision}
+use Rattle.gx_stand_ins.specs.Asked.{IsAlike, IsAlikeBase, IsAlikeRef, OfCommand}
+use Rattle.gx_stand_ins.specs.MoreAsked.{commands_more}
 use Rattle.gx_stand_ins.specs.SmallRepositories.{AsksAlike, BeginsOtherwise, IsSameBase, IsSameRef, IsSmallOf, commit_front, elders_held, name_behind, stand_ins, stand_name}
 use Rattle.gx_stand_ins.specs.StandIns.{AreOwnBytes, AreOwnTexts, StandIns, ValueKeepsName, whole_target, whole_value}
 use Rattle.gx_stand_ins.specs.StandInLaws.{IsSmall}
@@ -33,70 +32,6 @@ use Rattle.gx_stand_ins.proofs.SmallHistories.{IsGood, small_good, told}
 use Rattle.gx_stand_ins.proofs.StoodFor.{IsOwnText, commit_stood_for, named_own, no_stand_in, none_behind, stand_trees, stood_by, text_proper}
 use Rattle.gx_stand_ins.specs.StandInNames.{stand_is_namer}
 use Rattle.gx_stand_ins.proofs.WholeNames.{value_alike}
-
--- ---- what holds of commands, where more holds of what they ask for and bring
-
-module _ (R S : Bytes → Type 0) (B C : Bytes → Type 0) (X Y : Bytes → Type 0) (T U : CommitText → Type 0)
-    (ref : (x : Bytes) → R x → S x) (base : (x : Bytes) → B x → C x) (bytes : (x : Bytes) → X x → Y x) (text : (t : CommitText) → T t → U t) where
-  revision_more : (x : Bytes) → OfRevision R B X T x → OfRevision S C Y U x
-  revision_more x h = by (revision_of x) h
-    where
-      by : (r : Result Revision Fault) → IfOk r (λ a. B a.base) → IfOk r (λ a. C a.base)
-      by (Ok a) k = base a.base k
-      by (Err e) k = tt
-
-  named_more : (c : CommitIsh) → OfCommitIsh R B X T c → OfCommitIsh S C Y U c
-  named_more (Marked n) h = tt
-  named_more (Named x) h = revision_more x h
-
-  some_more : (o : Option CommitIsh) → IfSome o (OfCommitIsh R B X T) → IfSome o (OfCommitIsh S C Y U)
-  some_more None h = tt
-  some_more (Some c) h = named_more c h
-
-  all_more : (cs : List CommitIsh) → AllByRecursion (OfCommitIsh R B X T) cs → AllByRecursion (OfCommitIsh S C Y U) cs
-  all_more [] h = tt
-  all_more (c ∷ cs) h = (named_more c h.0, all_more cs h.1)
-
-  change_more : (c : Change) → OfChange R B X T c → OfChange S C Y U c
-  change_more (Modify Gitlink (Object d) p) h = tt
-  change_more (Modify Gitlink (Mark n) p) h = absurd h
-  change_more (Modify Gitlink (Inline x) p) h = bytes x h
-  change_more (Modify File (Object x) p) h = base x h
-  change_more (Modify File (Mark n) p) h = tt
-  change_more (Modify File (Inline x) p) h = bytes x h
-  change_more (Modify Exec (Object x) p) h = base x h
-  change_more (Modify Exec (Mark n) p) h = tt
-  change_more (Modify Exec (Inline x) p) h = bytes x h
-  change_more (Modify Link (Object x) p) h = base x h
-  change_more (Modify Link (Mark n) p) h = tt
-  change_more (Modify Link (Inline x) p) h = bytes x h
-  change_more (Modify Dir (Object x) p) h = base x h
-  change_more (Modify Dir (Mark n) p) h = tt
-  change_more (Modify Dir (Inline x) p) h = bytes x h
-  change_more (Remove p) h = tt
-  change_more (Copy p q) h = tt
-  change_more (Rename p q) h = tt
-  change_more Clear h = tt
-
-  changes_more : (cs : List Change) → AllByRecursion (OfChange R B X T) cs → AllByRecursion (OfChange S C Y U) cs
-  changes_more [] h = tt
-  changes_more (c ∷ cs) h = (change_more c h.0, changes_more cs h.1)
-
-  command_more : (c : Command) → OfCommand R B X T c → OfCommand S C Y U c
-  command_more (Blob b) h = bytes b.bytes h
-  command_more (command.Commit c) h = record { ref = ref c.ref h.ref; text = text _ h.text; parent = some_more c.parent h.parent; merges = all_more c.merges h.merges; changes = changes_more c.changes h.changes }
-  command_more (command.Tag t) h = named_more t.target h
-  command_more (Reset r) h = (ref r.ref h.0, some_more r.parent h.1)
-  command_more Checkpoint h = tt
-  command_more (Progress x) h = tt
-  command_more (Asks f) h = tt
-  command_more (OptionLine x) h = tt
-  command_more Done h = tt
-
-  -- of all commands
-  pub commands_more : (cs : List Command) → AllByRecursion (OfCommand R B X T) cs → AllByRecursion (OfCommand S C Y U) cs
-  commands_more [] h = tt
-  commands_more (c ∷ cs) h = (command_more c h.0, commands_more cs h.1)
 
 -- ---- a small repository and the whole one
 

@@ -8,7 +8,7 @@ ghost use Rattle.gx_stand_ins.specs.StandInNames.{stand_is_namer};
 use gx_object::{Kind, Name, Namer};
 
 /// What a commit that stands for another has between the line of its tree and the nonce.
-const HEADER: &[u8] =
+pub(crate) const HEADER: &[u8] =
     b"author stand-in <stand-in> 0 +0000\ncommitter stand-in <stand-in> 0 +0000\n\n";
 
 /// The bytes of the line of a commit's tree.

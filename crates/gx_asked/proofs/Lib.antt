@@ -1,0 +1,3 @@
+mod EnteredTexts
+mod EnteredCommands
+mod ReadCommands

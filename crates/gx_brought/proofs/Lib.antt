@@ -1,0 +1,2 @@
+pub mod MergedRefs
+pub mod NewRecords

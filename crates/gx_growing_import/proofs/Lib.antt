@@ -1,0 +1,5 @@
+pub mod AlikeTexts
+pub mod RefsTold
+pub mod SameBases
+pub mod TakenTexts
+pub mod WholeImports

@@ -1,0 +1,7 @@
+//! Imports over small repositories, beside those over the whole ones. There are tests alone here.
+#![tactic(auto)]
+
+#[cfg(test)]
+mod imports;
+#[cfg(test)]
+mod ways;

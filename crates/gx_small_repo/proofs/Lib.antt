@@ -1,0 +1,4 @@
+pub mod BaseNames
+pub mod OfWhole
+pub mod HeldEntries
+pub mod RefsOf

@@ -20,8 +20,7 @@ pub(crate) const BEFORE: &[u8] = b"commit refs/heads/main\ncommitter C <c@x> 1 +
     tag v1\nfrom :1\ntagger T <t@x> 3 +0000\ndata 2\nt\n";
 
 /// A commit with a file moved, one copied and one that is there already, from a name; and a branch from a tag's parent.
-const AFTER: &[u8] =
-    b"progress begun\ncommit refs/heads/main\nmark :1\ncommitter C <c@x> 4 +0000\n\
+const AFTER: &[u8] = b"progress begun\ncommit refs/heads/main\nmark :1\ncommitter C <c@x> 4 +0000\n\
     data 2\nn\nfrom refs/heads/main^0\nR a f\nC d g\nM 100644 inline h\ndata 2\nx\n\
     reset refs/heads/old\nfrom v1~1\n\ntag v2\nfrom :1\ndata 0\n";
 

@@ -1,5 +1,8 @@
 //! The stream on standard input, whose front is kept in memory, so that it can be read once more.
 
+ghost use Rattle.std.specs.Prelude.{◌≤◌, length};
+ghost use Rattle.std.specs.Io.{ReadsAtMost};
+
 use super::devices::Noted;
 use super::reports::tell_typed_stream;
 use super::traced::Traced;
@@ -83,7 +86,9 @@ impl<'a> Kept<'a> {
     }
 
     /// Gives of what was kept what comes next, and answers how many bytes that is.
-    fn give_kept(&mut self, buf: &mut [u8]) -> usize {
+    fn give_kept(&mut self, buf: &mut [u8]) -> usize
+        ensures bound { result ≤ length buf.new }
+    {
         let Some(left) = self.front.get(self.given..) else {
             return 0;
         };
@@ -94,7 +99,9 @@ impl<'a> Kept<'a> {
     }
 
     /// Reads, and keeps what comes. Where no more can be kept, that is a failure of this reading alone.
-    fn read_kept(&mut self, buf: &mut [u8]) -> io::Result<usize> {
+    fn read_kept(&mut self, buf: &mut [u8]) -> io::Result<usize>
+        ensures bound { ReadsAtMost result buf.new }
+    {
         let room = buf.len().min(self.most.saturating_sub(self.front.len()));
         if room == 0 {
             return Err(io::Error::from(ErrorKind::OutOfMemory));

@@ -1,5 +1,11 @@
-//! Growing stores by their other slot. There are tests alone here.
+//! Stores of which objects can't be read, and growing stores by their other slot. There are tests alone here.
 #![tactic(auto)]
 
+#[cfg(test)]
+mod histories;
+#[cfg(test)]
+mod holed;
+#[cfg(test)]
+mod reaching;
 #[cfg(test)]
 mod slots;

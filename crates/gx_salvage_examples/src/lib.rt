@@ -1,4 +1,4 @@
-//! Stores of which objects can't be read, and growing stores by their other slot. There are tests alone here.
+//! Stores of which objects can't be read, salvaged, and growing stores by their other slot. There are tests alone here.
 #![tactic(auto)]
 
 #[cfg(test)]
@@ -7,5 +7,7 @@ mod histories;
 mod holed;
 #[cfg(test)]
 mod reaching;
+#[cfg(test)]
+mod salvaged;
 #[cfg(test)]
 mod slots;

@@ -1,5 +1,5 @@
 -- An object of a repository is taken over, or a read of what it leads to failed.
-use Rattle.std.proofs.Common.{◌≡◌, ℕ, refl, sym, ap, subst, ◌∙◌, List, [], ◌∷◌, ◌++◌, Option, Some, None, Ok, Err, inl, inr, ◌⊎◌, true, false, Bool, cond}
+use Rattle.std.proofs.Common.{◌≡◌, ℕ, refl, sym, ap, subst, ◌∙◌, List, [], ◌∷◌, ◌++◌, length, Option, Some, None, Ok, Err, inl, inr, ◌⊎◌, true, false, Bool, cond}
 use Rattle.std.specs.Prelude.{◌||◌, is_some, IfSome, IsTrue, Result}
 use Rattle.std.specs.List.{AllByRecursion}
 use Rattle.std.specs.Bool.{passes}
@@ -16,17 +16,21 @@ use Rattle.gx_model.specs.Texts.{Bytes, same_bytes}
 use Rattle.gx_model.proofs.Records.HeldObjects.{IsShown, is_shown}
 use Rattle.gx_model.proofs.Texts.PathTests.{is_same, is_true}
 use Rattle.gx_object.specs.declared.name.Name.{Name}
-use Rattle.gx_objects.specs.Answers.{IsHeldThere, StandsThere}
+use Rattle.gx_objects.specs.Answers.{GoesUp, IsHeldThere, StandsThere}
 use Rattle.gx_objects.specs.declared.objects.Object.{Object}
+use Rattle.gx_repo.specs.Records.{AddsRecord, add_fault}
+use Rattle.gx_repo.specs.declared.fault.AddFault.{AddFault}
+use Rattle.gx_repo.specs.declared.fault.AddFault.TheVariants as refusals
 use Rattle.gx_reached.specs.Damages.{IsBad, KeepsBad, damage_in}
 use Rattle.gx_reached.specs.Reaching.{Among, IsVisited, LinksHave}
 use Rattle.gx_salvage_refs.specs.Saved.{AreOf, IsSaved, KeepsSaved}
-use Rattle.gx_salvage_refs.specs.Taking.{AreUnsaved, FindsDamage, IsReady, IsSettled, Settles, SettlesAll, is_settled}
+use Rattle.gx_salvage_refs.specs.Taking.{AreUnsaved, FindsDamage, IsReady, IsSettled, Settles, SettlesAll, TellsRefusal, is_settled}
 use Rattle.gx_reached.specs.declared.bad.Bad.{Bad}
+use Rattle.gx_reached.specs.declared.damage.Cause.{Cause}
 use Rattle.gx_reached.specs.declared.damage.Cause.TheVariants.{ReadFailed}
 use Rattle.gx_reached.specs.declared.damage.Damage.{Damage}
 use Rattle.gx_reached.proofs.Closing.{among_cases, visited_more}
-use Rattle.gx_reached.proofs.Stepping.{told_alone, told_both}
+use Rattle.gx_reached.proofs.Stepping.{shown_body, told_alone, told_both}
 use Rattle.gx_salvage_refs.proofs.Refusals.{link_by}
 use Rattle.gx_salvage_refs.proofs.TakenOver.{taken_over}
 use Rattle.gx_salvage_refs.proofs.Visits.{last_visited, visited_without}
@@ -189,3 +193,33 @@ unsettled rs bad n e = by (is_some (damage_in bad n)) refl e
 -- records are sound without refs
 pub without_refs : (name : Kind → Bytes → Bytes) (r : Records) → IsSound name r → IsSound name (record { records = r.records; refs = [] })
 without_refs name r s = record { named = s.named; distinct = s.distinct; linked = s.linked; paths = s.paths; sorted = refl; ref_names = refl; held = tt }
+
+-- ---- what a repository answers
+
+-- a refusal changes nothing
+pub refused_stays : (old new : List Record) (added : Record) (fault : AddFault) → AddsRecord old new added (Err fault) → new ≡ old
+refused_stays old new added refusals.OutOfMemory h = h
+refused_stays old new added refusals.BadObject h = h.1
+refused_stays old new added refusals.Dangling h = h.1
+refused_stays old new added refusals.DuplicateObject h = h.1
+
+-- and but for want of memory it is what is against the record
+pub refusal_is : (old new : List Record) (added : Record) (fault : AddFault) (cause : Cause) → TellsRefusal fault cause → AddsRecord old new added (Err fault) → record_fault old added ≡ Some (add_fault fault)
+refusal_is old new added refusals.OutOfMemory cause tells h = absurd tells
+refusal_is old new added refusals.BadObject cause tells h = h.0
+refusal_is old new added refusals.Dangling cause tells h = h.0
+refusal_is old new added refusals.DuplicateObject cause tells h = h.0
+
+module _ {A : Type 0} (name : Kind → Bytes → Bytes) (namer : IsNamer name) (stands : ℕ → ℕ) (rs : List Record) (good : IsSound name (record { records = rs; refs = [] })) (bad : Bad A) (called : Bytes) (o : Object) (named : name o.kind o.body.now ≡ called) where
+  -- an object that a repository tells was taken over
+  pub took_told : (told : Option Records) → IfSome told (IsSound name) → IfSome told (λ r. AreOf r rs × IsReady r rs bad called × IsHeldThere called r o) → IfSome told (λ r. Settles r called (rs ++ record_for name o.kind o.body.now ∷ []) bad)
+  took_told told sound ready =
+      told_both told (IsSound name) (λ r. AreOf r rs × IsReady r rs bad called × IsHeldThere called r o) (λ r. Settles r called (rs ++ record_for name o.kind o.body.now ∷ []) bad)
+      (λ r s h. took name namer r s rs good h.0 bad called o h.2 named) sound ready
+
+  -- or a read failed
+  pub unread_told : (told : Option Records) → IfSome told (IsSound name) → IfSome told (λ r. GoesUp stands (length r.records)) → IfSome told (λ r. AreOf r rs × IsReady r rs bad called × IsHeldThere called r o) → damage_in bad called ≡ None → record_named rs called ≡ None
+      → (f : FileFault) → record_fault rs (record_for name o.kind o.body.now) ≡ Some f → AreUnsaved name told rs bad → (own damage : Damage) → FindsDamage bad own o.kind o.body.now damage → IfSome told (λ _. damage.cause ≡ ReadFailed)
+  unread_told None sound order ready fresh unheld f e are own damage finds = tt
+  unread_told (Some r) sound order ready fresh unheld f e are own damage finds =
+      unread_link name namer r sound rs good ready.0 bad called o ready.2 named fresh unheld ready.1 f e (shown_body name stands r sound order called o ready.2) are own damage finds

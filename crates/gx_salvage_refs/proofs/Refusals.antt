@@ -1,8 +1,10 @@
 -- Objects that aren't saved: with one more, and beside one record more.
-use Rattle.std.proofs.Common.{◌≡◌, Bool, true, false, cond, refl, sym, ap, subst, ◌∙◌, List, [], ◌∷◌, ◌++◌, Option, Some, None, inl, inr, ◌⊎◌}
+use Rattle.std.proofs.Common.{◌≡◌, ℕ, zero, suc, ◌+◌, ◌<◌, arith, get_or, length, map, take, Bool, true, false, cond, refl, sym, ap, subst, ◌∙◌, List, [], ◌∷◌, ◌++◌, Option, Some, None, inl, inr, ◌⊎◌}
 use Rattle.std.specs.Prelude.{◌||◌, is_some, IfSome, IsTrue}
 use Rattle.std.specs.List.{AllByRecursion, list_any}
 use Rattle.std.specs.Bool.{passes}
+use Rattle.std.specs.declared.vec.Vec.{Vec}
+use Rattle.std.proofs.lemmas.List.{take_more}
 use Rattle.gx_model.specs.declared.objects.Kind.{Kind}
 use Rattle.gx_model.specs.Texts.{Bytes, same_bytes}
 use Rattle.gx_model.specs.Histories.{Record, Records}
@@ -11,10 +13,14 @@ use Rattle.gx_model.specs.Records.Growth.{record_named}
 use Rattle.gx_model.specs.Records.Sound.{AnyByRecursion}
 use Rattle.gx_model.proofs.Texts.PathTests.{is_same, is_true, left_or, right_or, same_is}
 use Rattle.gx_reached.specs.Damages.{AreDamages, Enters, IsBad, IsDamage, damage_in, itself, through}
+use Rattle.gx_reached.specs.Links.{AreLinksOf, Link as Named, links_in, shown_link}
 use Rattle.gx_reached.specs.declared.bad.Bad.{Bad}
 use Rattle.gx_reached.specs.declared.damage.Cause.TheVariants.{ReadFailed}
 use Rattle.gx_reached.specs.declared.damage.Damage.{Damage}
+use Rattle.gx_reached.specs.declared.links.Link.{Link}
+use Rattle.gx_reached.proofs.Closing.{all_with}
 use Rattle.gx_reached.proofs.Entering.{bad_now, entered, keeps_bad}
+use Rattle.gx_reached.proofs.LinkedRecords.{links_named}
 use Rattle.gx_salvage_refs.specs.Taking.{AreUnsaved, FindsDamage}
 
 -- before one record is taken over
@@ -96,3 +102,40 @@ module _ {A : Type 0} (old new : Bad A) (own damage : Damage) (enters : Enters o
         unsaved_itself old new damage (subst (λ (d : Damage). Enters old new d.object.bytes damage) same enters) name told records
         (subst (λ (d : Damage). record_named records d.object.bytes ≡ None) same unheld) unread are
   ]
+
+-- ---- the links of a body, one after the other
+
+named_links : {A : Type 0} (k : Kind) (body : Bytes) (links : Vec Link A) → map shown_link links.items ≡ links_in k body → map (λ (l : Link). l.name.bytes) links.items ≡ links_of k body
+named_links k body links e = names links.items ∙ ap (map (λ (l : Named). l.0)) e ∙ links_named k body
+  where
+    names : (ls : List Link) → map (λ (l : Link). l.name.bytes) ls ≡ map (λ (l : Named). l.0) (map shown_link ls)
+    names [] = refl
+    names (l ∷ ls) = ap (λ ns. l.name.bytes ∷ ns) (names ls)
+
+any_at : {X : Type 0} (P : Bytes → Type 0) (see : X → Bytes) (xs : List X) (i : ℕ) (d : X) → i < length xs → P (see (get_or xs i d)) → AnyByRecursion P (map see xs)
+any_at P see [] i d l p = absurd (omega (arith, l))
+any_at P see (x ∷ xs) zero d l p = inl p
+any_at P see (x ∷ xs) (suc i) d l p = inr (any_at P see xs i d (omega (arith, l)) p)
+
+all_mapped : {X : Type 0} (P : Bytes → Type 0) (see : X → Bytes) (xs : List X) → AllByRecursion (λ x. P (see x)) xs → AllByRecursion P (map see xs)
+all_mapped P see [] h = tt
+all_mapped P see (x ∷ xs) h = (h.0, all_mapped P see xs h.1)
+
+-- one more of those whose damage isn't known
+pub one_without : {X : Type 0} (P : X → Type 0) (xs : List X) (i : ℕ) (d : X) → i < length xs → AllByRecursion P (take i xs) → P (get_or xs i d) → AllByRecursion P (take (i + 1) xs)
+one_without P xs i d l h p = subst (AllByRecursion P) (sym (take_more xs i d l)) (all_with P (take i xs) (get_or xs i d) h p)
+
+module _ {A B : Type 0} (bad : Bad A) (own : Damage) (k : Kind) (body : Bytes) (links : Vec Link B) (are : AreLinksOf k body links) where
+  -- the damage of a link
+  pub link_found : (i : ℕ) (d : Link) (damage : Damage) → i < length links.items → damage_in bad (get_or links.items i d).name.bytes ≡ Some damage → FindsDamage bad own k body damage
+  link_found i d damage l e = elim are [
+    | inl same ↦ inl (subst (AnyByRecursion (λ link. damage_in bad link ≡ Some damage)) (named_links k body links same) (any_at (λ link. damage_in bad link ≡ Some damage) (λ (x : Link). x.name.bytes) links.items i d l e))
+    | inr none ↦ absurd (let long = ap length none.0 in omega (arith, l, long))
+  ]
+
+  -- none has any
+  pub none_found : AllByRecursion (λ (l : Link). damage_in bad l.name.bytes ≡ None) links.items → FindsDamage bad own k body own
+  none_found h = inr (refl, λ is. elim are [
+    | inl same ↦ subst (AllByRecursion (λ link. damage_in bad link ≡ None)) (named_links k body links same) (all_mapped (λ link. damage_in bad link ≡ None) (λ (x : Link). x.name.bytes) links.items h)
+    | inr none ↦ absurd (none.1 is)
+  ])

@@ -1,14 +1,16 @@
-use Rattle.std.proofs.Common.{◌≡◌, ◌∙◌, [], ◌∷◌, ◌++◌, ap, subst, sym}
-use Rattle.std.specs.Prelude.{IfSome}
+use Rattle.std.proofs.Common.{◌≡◌, ◌∙◌, ap, inr, subst, sym}
+use Rattle.std.specs.Prelude.{IfSome, OnOk}
 use Rattle.gx_model.specs.Histories.{Record, record_for}
 use Rattle.gx_model.specs.Objects.{IsNamer}
 use Rattle.gx_model.specs.Records.Sound.{IsSound}
+use Rattle.gx_objects.specs.Answers.{IsHeldThere}
 use Rattle.gx_repo.specs.Records.{add_fault}
 use Rattle.gx_reached.specs.Damages.{Enters, damage_in}
 use Rattle.gx_reached.specs.declared.damage.Damage.{Damage}
-use Rattle.gx_reached.proofs.Entering.{on_ok}
-use Rattle.gx_salvage_refs.specs.Saved.{KeepsSaved}
-use Rattle.gx_salvage_refs.specs.Taking.{AreUnsaved, Settles}
+use Rattle.gx_reached.proofs.Entering.{bad_now, on_ok}
+use Rattle.gx_reached.proofs.Stepping.{told_alone}
+use Rattle.gx_salvage_refs.specs.Saved.{AreOf, KeepsSaved}
+use Rattle.gx_salvage_refs.specs.Taking.{AreUnsaved, IsReady, Settles}
 use Rattle.gx_salvage_refs.proofs.Refusals.{grown, refused}
 use Rattle.gx_salvage_refs.proofs.Settling.{keeps_with, refusal_is, refused_stays, took_told, unread_told, without_refs}
 use Rattle.gx_salvage_refs.proofs.taking.add.Goals as goal
@@ -82,3 +84,17 @@ returns-in_ok-damage-in-Err-clause-bad g c =
     on_ok (Enters bad then called damage) (AreUnsaved (g.O.Objects.name_of o) told c.add_record.new.self.1.records then) c.enter.result
     (λ e. subst (λ rs. AreUnsaved (g.O.Objects.name_of o) told rs then) (sym same)
     (subst (λ f. AreUnsaved f told old then) (sym c.requires.names) (refused bad then own damage e name told old object.kind object.body.now c.requires.named c.requires.unheld are finds unread))) c.enter.ensures
+
+pub returns-in_ok-damage-in-Err-clause-settles : goal.returns-in_ok-damage-in-Err-clause-settles
+returns-in_ok-damage-in-Err-clause-settles g c =
+    let told = g.O.Objects.told c.args.objects.now in
+    let old = c.args.repo.now.1.records in
+    let new = c.add_record.new.self.1.records in
+    let bad = c.args.bad.now in
+    let then = c.enter.new.self in
+    let called = c.args.name.now.bytes in
+    let object = c.args.object in
+    let damage = c.in_ok-damage-in-Err.damage in
+    let same = refused_stays old new (record_for (g.N.Namer.name_of c.args.repo.now.0) object.kind object.body.now) c.in-Err.fault c.in-Err.ensures.adds in
+    told_alone told (λ r. AreOf r old × IsReady r old bad called × IsHeldThere called r object) (λ r. OnOk c.enter.result (Settles r called new then))
+    (λ r h. on_ok (Enters bad then called damage) (Settles r called new then) c.enter.result (λ e. record { records_are = subst (AreOf r) (sym same) h.0; settled = inr (bad_now bad then called damage e) }) c.enter.ensures) c.requires.ready

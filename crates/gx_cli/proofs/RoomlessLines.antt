@@ -52,7 +52,7 @@ module _ (name : Kind → Bytes → Bytes) {A : Type 0} (o : Outcome A) (was : O
   roomless_served (line.WhereFault done force) store coming f e h = absurd (cc)
   roomless_served (line.Init path growing wait) store coming f e h = absurd (cc)
   roomless_served (line.Grow path wait) store coming f e h = absurd (cc)
-  roomless_served (line.Verify path) store coming f e h = absurd (cc)
+  roomless_served (line.Verify path salvage) store coming f e h = absurd (cc)
   roomless_served (line.Push path push done report explain wait) store coming f e h = absurd (cc)
   roomless_served (line.Put path stamp wait) store coming f e h = absurd (cc)
   roomless_served (line.Batch form format nul path) store coming f e h = batch_unread form (format_parts format) (ending_of nul) store coming (refused_so o f OutOfMemory e h)
@@ -77,7 +77,7 @@ module _ (name : Kind → Bytes → Bytes) {A : Type 0} (o : Outcome A) where
   unread_served other store coming (line.Init path false wait) was now e h = h
   unread_served other store coming (line.Init path true wait) was now e h = h
   unread_served other store coming (line.Grow path wait) was now e h = h
-  unread_served other store coming (line.Verify path) was now e h = h
+  unread_served other store coming (line.Verify path salvage) was now e h = h
   unread_served other store coming (line.Push path push done report explain wait) was now e h = h
   unread_served other store coming (line.Put path stamp wait) was now e h = h
   unread_served other store coming _ was now e h = absurd (cc)

@@ -37,7 +37,7 @@ module _ (name : Kind → Bytes → Bytes) {A : Type 0} (o : Outcome A) (coming 
   opened_served (line.WhereFault done force) store s i m h = absurd (cc s)
   opened_served (line.Init file growing wait) store s i m h = absurd (cc s)
   opened_served (line.Grow file wait) store s i m h = absurd (cc s)
-  opened_served (line.Verify file) store s i m h = absurd (cc s)
+  opened_served (line.Verify file salvage) store s i m h = absurd (cc s)
   opened_served (line.Push file push done report explain wait) store s i m h = absurd (cc s)
   opened_served (line.Put file stamp wait) store s i m h = absurd (cc s)
   opened_served (line.Import file done force report explain wait) store s i m h = absurd (i file done force report explain wait refl)
@@ -59,7 +59,7 @@ module _ (name : Kind → Bytes → Bytes) {A : Type 0} (o : Outcome A) (coming 
   refused_served (line.Push file push done report explain wait) store e b t k f a w i h = h
   refused_served (line.Put file stamp wait) store e b t k f a w i h = h
   refused_served (line.Grow file wait) store e b t k f a w i h = h
-  refused_served (line.Verify file) store e b t k f a w i h = h
+  refused_served (line.Verify file salvage) store e b t k f a w i h = h
   refused_served _ store e b t k f a w i h = absurd (cc e)
 
   -- and of what it makes of an export, nothing is told

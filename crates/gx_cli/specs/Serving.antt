@@ -123,7 +123,7 @@ without_room (line.Where command) = None
 without_room (line.WhereFault done force) = None
 without_room (line.Init file growing wait) = None
 without_room (line.Grow file wait) = None
-without_room (line.Verify file) = None
+without_room (line.Verify file salvage) = None
 without_room (line.Push file push done report explain wait) = None
 without_room (line.Put file stamp wait) = None
 without_room (line.Batch form format nul file) = Some OutOfMemory
@@ -235,7 +235,7 @@ module _ (name : Kind → Bytes → Bytes) {A : Type 0} where
   Serves (line.Init file false wait) store coming was now o = IsWritten name empty_repository o × (now ≡ was)
   Serves (line.Init file true wait) store coming was now o = IsRefused ReadFailed o × (now ≡ was)
   Serves (line.Grow file wait) store coming was now o = IsRefused ReadFailed o × (now ≡ was)
-  Serves (line.Verify file) store coming was now o = IsRefused ReadFailed o × (now ≡ was)
+  Serves (line.Verify file salvage) store coming was now o = IsRefused ReadFailed o × (now ≡ was)
   Serves (line.Push file push done report explain wait) store coming was now o = IsRefused ReadFailed o × (now ≡ was)
   Serves (line.Put file stamp wait) store coming was now o = IsRefused ReadFailed o × (now ≡ was)
   Serves (line.Import file done force report explain wait) store coming was now o = ImportsText (features_of done force) store coming was now o

@@ -24,7 +24,7 @@ $ where|--fault|--force|--done % WhereFault { done: true, force: true }
 $ init|f % Init { file: \"f\", growing: false, wait: None }
 $ init|--growing|f % Init { file: \"f\", growing: true, wait: None }
 $ grow|f|--wait=2 % Grow { file: \"f\", wait: Some(2) }
-$ verify|f % Verify { file: \"f\" }
+$ verify|f % Verify { file: \"f\", salvage: None }
 $ import|f % Import { file: \"f\", done: false, force: false, report: false, explain: false, wait: None }
 $ import|--force|f|--done % Import { file: \"f\", done: true, force: true, report: false, explain: false, wait: None }
 $ import|f|--report % Import { file: \"f\", done: false, force: false, report: true, explain: false, wait: None }

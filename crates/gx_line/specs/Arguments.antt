@@ -95,6 +95,10 @@ push = text (codes "push")
 abbrev pub keep : Rule
 keep = text (codes "keep")
 
+-- a store file that is made of what can be saved
+abbrev pub salvage : Rule
+salvage = text (codes "salvage")
+
 -- which file it is that is replaced, which has to be told
 abbrev pub expect_stamp : Rule
 expect_stamp = record (text (codes "expect-stamp")) { required = true }

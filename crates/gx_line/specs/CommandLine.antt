@@ -59,7 +59,7 @@ abbrev pub grow_command : App
 grow_command = with_wait (file_command (codes "grow"))
 
 abbrev pub verify_command : App
-verify_command = file_command (codes "verify")
+verify_command = with_rule (file_command (codes "verify")) rules.salvage
 
 -- the commands that make a store, or look at it as a whole
 abbrev pub with_whole_commands : App → App
@@ -252,7 +252,7 @@ Says name rows (WhereFault done force) = (name ≡ codes "where") × (IsFlag (co
 Says name rows (Init file growing wait) = (name ≡ codes "init") × (IsFlag (codes "growing") rows growing
     × (IsWord (codes "file") rows file × IsWait rows wait))
 Says name rows (Grow file wait) = (name ≡ codes "grow") × (IsWord (codes "file") rows file × IsWait rows wait)
-Says name rows (Verify file) = (name ≡ codes "verify") × IsWord (codes "file") rows file
+Says name rows (Verify file salvage) = (name ≡ codes "verify") × (IsOption (codes "salvage") rows salvage × IsWord (codes "file") rows file)
 Says name rows (Import file done force report explain wait) = (name ≡ codes "import") × (AreFeatures rows done force
     × (AreTold rows report explain × (IsWord (codes "file") rows file × (IsWait rows wait × (first_of (codes "push") rows ≡ None)))))
 Says name rows (Push file push done report explain wait) = (name ≡ codes "import") × (AreFeatures rows done false

@@ -121,9 +121,11 @@ pub enum Line<'a> {
         file: &'a str,
         wait: Option<u64>,
     },
-    /// It is told what a store holds, which is read whole.
+    /// It is told what a store holds, which is read whole. With `salvage` the refs whose history can be read are saved into a
+    /// new store file, and it is told which are lost.
     Verify {
         file: &'a str,
+        salvage: Option<&'a str>,
     },
     /// A stream is imported into a store. With `done` it has to end with that command, and with `force` branches may
     /// lose commits. With `report` the refs that it changed are told, and with `explain` what a refusal is about.
@@ -316,7 +318,10 @@ fn file_line<'a>(
             file,
             wait: number_of(matches, "wait"),
         }),
-        "verify" => Ok(Line::Verify { file }),
+        "verify" => Ok(Line::Verify {
+            file,
+            salvage: option_of(matches, "salvage"),
+        }),
         "import" => import_line(alloc, matches, file),
         "set-ref" => set_ref_line(alloc, matches, file),
         "put" => Ok(Line::Put {

@@ -202,7 +202,7 @@ fn file_of<'a>(line: &Line<'a>) -> Option<&'a str> {
         | Line::WhereFault { .. } => None,
         Line::Init { file, .. }
         | Line::Grow { file, .. }
-        | Line::Verify { file }
+        | Line::Verify { file, .. }
         | Line::Import { file, .. }
         | Line::Push { file, .. }
         | Line::Drop { file, .. }

@@ -147,7 +147,7 @@ fn with_store_commands<'a>(
 {
     let gx = with_command(gx, init_command(alloc));
     let gx = with_command(gx, grow_command(alloc));
-    let gx = with_command(gx, file_command(alloc, "verify", stores::VERIFY));
+    let gx = with_command(gx, verify_command(alloc));
     let gx = with_command(gx, import_command(alloc));
     let gx = with_command(gx, drop_command(alloc));
     let gx = with_command(gx, set_ref_command(alloc));
@@ -169,6 +169,19 @@ fn grow_command<'a>(alloc: Global) -> Result<Command<'a>, AllocError>
     ensures { say.Makes result say.grow_command }
 {
     with_wait(alloc, file_command(alloc, "grow", stores::GROW))
+}
+
+fn verify_command<'a>(alloc: Global) -> Result<Command<'a>, AllocError>
+    ensures { say.Makes result say.verify_command }
+{
+    let salvage = text(
+        alloc,
+        "salvage",
+        "NEW",
+        "Saves the refs whose whole history can be read into a new store\n\
+         NEW, and tells which are lost",
+    );
+    with_argument(file_command(alloc, "verify", stores::VERIFY), salvage)
 }
 
 /// What a command that writes a store file can be asked for, where another run writes it, too.

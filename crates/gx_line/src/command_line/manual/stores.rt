@@ -53,6 +53,12 @@ store it looks at the tables, too, which other commands need not do.",
 Output:
   Lines of a word and a number: version, objects, refs and bytes, which is how
   long FILE is.
+  With --salvage instead a line for each ref that is lost: its name, the digits
+  of the object that is damaged, and its cause: Missing, Damaged, ReadFailed,
+  BadObject, Dangling or WrongKind.
+
+Exit status:
+  With --salvage 3 where refs are lost.
 
 Refusals:
   gx: read failed

@@ -66,7 +66,11 @@ fn is_bad(
     let mut bad = Bad::new(alloc);
     reached(alloc, &holed, refs.as_slice(), &mut bad).ok()?;
     let is_asked = *REACHED.get(number)? != [false; 3] && (kind != Kind::Blob || fault.is_none());
-    let damage = if is_asked { Some(Damage { object, cause }) } else { None };
+    let damage = if is_asked {
+        Some(Damage { object, cause })
+    } else {
+        None
+    };
     Some(bad.damage(&object) == damage)
 }
 

@@ -209,6 +209,14 @@ impl<'a> Run<'a> {
         let _ = eprintln!(self.rt; "gx: {file}: permissions were left out");
     }
 
+    /// Tells that a store file is read as it was before something was appended, since its last tail can't be.
+    pub(crate) fn tell_other_slot(&self, file: &str) {
+        let file = self.shown(file, "");
+        let _ = eprintln!(self.rt;
+            "gx: {file}: what was appended last can't be read; saved is what stood before"
+        );
+    }
+
     /// Tells of `gx grow`, where a store file without tables has so many bytes that questions of it are slow, and somebody reads it.
     pub(crate) fn tell_large(&self, file: &str, bytes: u64) {
         if self.is_watched() && bytes >= LARGE {

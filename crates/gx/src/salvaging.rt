@@ -1,0 +1,124 @@
+//! What can be saved of a store file that is damaged.
+
+use crate::fault::RunFault;
+use crate::looks::{look_into, open_growing};
+use crate::run::{Run, Subject};
+use crate::stores::files::{open_text, read_store};
+use crate::stores::next_text::NextText;
+use crate::streams::devices::{Noted, flushed};
+use gx_cli::CliFault;
+use gx_look::Look;
+use gx_object::Sha1Namer;
+use gx_objects::Objects;
+use gx_reached::Cause;
+use gx_salvage::OtherSlot;
+use gx_salvage_refs::{Lost, Salvaged, salvage};
+use gx_versions::StoreForm;
+use std::alloc::Global;
+use std::hash::RandomState;
+use std::io::{BufWriter, Write};
+
+/// The status where refs are lost.
+const LOST: u8 = 3;
+
+/// What is saved of a store file.
+type Saved = Salvaged<Sha1Namer, Global>;
+
+/// Saves the refs of a store file whose whole history can be read into a new one of version 3, and prints a line for each of the
+/// others. Answers the status.
+pub(crate) fn salvage_into(
+    run: &Run<'_>,
+    file: &str,
+    new: &str,
+    state: RandomState,
+) -> Result<u8, RunFault> {
+    let mut next = NextText::claim_new(run, new)?;
+    next.shape(StoreForm::Growing);
+    let saved = salvage_file(run, file, state)?;
+    next.publish_store(&saved.repo)?;
+    drop(next);
+    print_lost(run, saved.lost.as_slice())?;
+    Ok(if saved.lost.is_empty() { 0 } else { LOST })
+}
+
+/// Salvages a growing store by the slot that is picked, or by the other one where that leads to no tail. A store of another
+/// version is read as a whole, and nothing of it is lost.
+fn salvage_file(run: &Run<'_>, file: &str, state: RandomState) -> Result<Saved, RunFault> {
+    let alloc = run.rt.alloc();
+    let Some(opened) = run.want_read(open_growing(run, file))? else {
+        let store = read_store(run, file)?;
+        return Ok(Salvaged {
+            repo: open_text(run, store, state)?,
+            lost: Vec::new(alloc),
+        });
+    };
+    match look_into(run, file, opened) {
+        Ok(look) => salvage_look(run, &look, state),
+        Err(RunFault::Damaged) => salvage_by_other_slot(run, file, state),
+        Err(fault) => Err(fault),
+    }
+}
+
+/// Salvages what stood before the last segment was appended.
+fn salvage_by_other_slot(run: &Run<'_>, file: &str, state: RandomState) -> Result<Saved, RunFault> {
+    let opened = run.want_read(open_growing(run, file))?;
+    let Some(other) = opened.and_then(OtherSlot::new) else {
+        return Err(RunFault::Damaged);
+    };
+    let look = Look::open(run.rt.alloc(), Sha1Namer, other)?;
+    run.tell_other_slot(file);
+    salvage_look(run, &look, state)
+}
+
+/// Salvages what a look shows.
+fn salvage_look<O: Objects>(
+    run: &Run<'_>,
+    look: &O,
+    state: RandomState,
+) -> Result<Saved, RunFault> {
+    let alloc = run.rt.alloc();
+    let mut room = Vec::new(alloc);
+    let lines = look.ref_lines(&mut room)?;
+    Ok(salvage(alloc, look, lines, Sha1Namer, state)?)
+}
+
+/// Prints a line for each ref that is lost: its name, the digits of the object that is damaged, and why it isn't saved.
+fn print_lost(run: &Run<'_>, lost: &[Lost<Global>]) -> Result<(), RunFault> {
+    match BufWriter::new(run.rt.alloc(), Noted::output(run)) {
+        Ok(mut out) => {
+            let printed = put_lost(run, &mut out, lost);
+            flushed(&mut out, printed)
+        }
+        Err(_) => Err(RunFault::Command(CliFault::OutOfMemory)),
+    }
+}
+
+fn put_lost<W: Write>(run: &Run<'_>, out: &mut W, lost: &[Lost<Global>]) -> Result<(), RunFault> {
+    for one in lost {
+        let digits = one.damage.object.hex();
+        let parts = [
+            one.name.as_slice(),
+            b" ",
+            digits.as_slice(),
+            b" ",
+            word_of(one.damage.cause),
+            b"\n",
+        ];
+        for part in parts {
+            run.want_written(Subject::Output, out.write_all(part))?;
+        }
+    }
+    Ok(())
+}
+
+/// The word of a cause.
+fn word_of(cause: Cause) -> &'static [u8] {
+    match cause {
+        Cause::Missing => b"Missing",
+        Cause::Damaged => b"Damaged",
+        Cause::ReadFailed => b"ReadFailed",
+        Cause::BadObject => b"BadObject",
+        Cause::Dangling => b"Dangling",
+        Cause::WrongKind => b"WrongKind",
+    }
+}

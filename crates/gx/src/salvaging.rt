@@ -6,6 +6,7 @@ use crate::run::{Run, Subject};
 use crate::stores::files::{open_text, read_store};
 use crate::stores::next_text::NextText;
 use crate::streams::devices::{Noted, flushed};
+use gx_at::ReadAt;
 use gx_cli::CliFault;
 use gx_look::Look;
 use gx_object::Sha1Namer;
@@ -71,9 +72,9 @@ fn salvage_by_other_slot(run: &Run<'_>, file: &str, state: RandomState) -> Resul
 }
 
 /// Salvages what a look shows.
-fn salvage_look<O: Objects>(
+fn salvage_look<S: ReadAt>(
     run: &Run<'_>,
-    look: &O,
+    look: &Look<S, Sha1Namer, Global>,
     state: RandomState,
 ) -> Result<Saved, RunFault> {
     let alloc = run.rt.alloc();

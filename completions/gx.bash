@@ -104,6 +104,7 @@ __gx_options() {
     adapt) __gx_answer '' "$1" --drop-signatures --help ;;
     import) __gx_answer '' "$1" --done --force --push --report --explain --wait --help ;;
     try | check) __gx_answer '' "$1" --done --force --explain --help ;;
+    verify) __gx_answer '' "$1" --salvage --help ;;
     gc) __gx_answer '' "$1" --keep --report --wait --help ;;
     export) __gx_answer '' "$1" --changes --no-done --help ;;
     log) __gx_answer '' "$1" --all --stdin --format --reverse --max-count -n --parents --help ;;
@@ -116,7 +117,7 @@ __gx_options() {
 __gx_value() {
   if [[ ${words[1]}:${words[-2]} == log:--format ]]; then
     __gx_answer '' "$1" oneline raw subject author dates
-  elif [[ ${words[1]}:${words[-2]} =~ ^(gc:--keep|import:--push)$ ]]; then
+  elif [[ ${words[1]}:${words[-2]} =~ ^(gc:--keep|import:--push|verify:--salvage)$ ]]; then
     __gx_files "$1"
   fi
 }

@@ -41,7 +41,7 @@ pub(crate) fn growing_file<'a>(
 }
 
 /// Opens a file of which the first line is a growing store's. A look comes first, since to open a pipe would wait.
-fn open_growing<'a>(run: &'a Run<'a>, file: &'a str) -> io::Result<Option<FileAt<'a>>> {
+pub(crate) fn open_growing<'a>(run: &'a Run<'a>, file: &'a str) -> io::Result<Option<FileAt<'a>>> {
     let mut host = Host { run, file };
     if host.look(file)?.kind != FileKind::File {
         return Ok(None);
@@ -60,7 +60,7 @@ fn open_growing<'a>(run: &'a Run<'a>, file: &'a str) -> io::Result<Option<FileAt
 
 /// Looks into a growing store file that is open. Where it is damaged it is opened again, since another run may have been writing
 /// its head.
-fn look_into<'a>(
+pub(crate) fn look_into<'a>(
     run: &'a Run<'a>,
     file: &'a str,
     opened: FileAt<'a>,

@@ -4,6 +4,7 @@
 mod fault;
 mod looks;
 mod run;
+mod salvaging;
 mod stores;
 mod streams;
 mod words;

@@ -7,7 +7,7 @@ mod drop_refs;
 pub(crate) mod files;
 pub(crate) mod host;
 mod import;
-mod next_text;
+pub(crate) mod next_text;
 pub(crate) mod process;
 mod push;
 mod put;

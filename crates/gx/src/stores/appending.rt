@@ -8,7 +8,7 @@ use super::process::most_bytes_of_a_file;
 use crate::fault::RunFault;
 use crate::looks::file_at::FileAt;
 use crate::run::{Run, Subject};
-use gx_additions::{AdditionFault, append_additions, append_objects};
+use gx_additions::{AdditionFault, append_additions, append_objects, append_refs};
 use gx_append::{AppendFault, Device};
 use gx_cli::{CliFault, Repo};
 use gx_look::Look;
@@ -117,6 +117,20 @@ impl<'a> InPlace<'a> {
         let mut device = self.device(place)?;
         let (alloc, ending) = (self.host.run.rt.alloc(), self.look.ending());
         let answer = append_additions(alloc, &mut device, ending, self.held(), new, count, refs);
+        self.appended(answer)
+    }
+
+    /// Does so with refs alone.
+    pub(crate) fn append_refs(
+        &self,
+        place: &Place,
+        count: u64,
+        refs: &[u8],
+    ) -> Result<bool, RunFault> {
+        self.want_same(place)?;
+        let mut device = self.device(place)?;
+        let (alloc, ending) = (self.host.run.rt.alloc(), self.look.ending());
+        let answer = append_refs(alloc, &mut device, ending, count, refs);
         self.appended(answer)
     }
 

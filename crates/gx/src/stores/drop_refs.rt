@@ -1,14 +1,22 @@
 //! Refs that leave a store file. Source: git-update-ref(1), "delete".
 
+use super::appending::InPlace;
 use super::next_text::NextText;
 use crate::fault::RunFault;
 use crate::run::Run;
 use crate::streams::devices::Noted;
-use gx_cli::drop_named;
+use gx_cli::{CliFault, drop_named, lines_from};
+use gx_left_refs::{LeftRefs, left_refs};
+use gx_objects::Objects;
+use gx_print::{add_lines, texts_of};
+use gx_ref_lines::RefLines;
+use gx_repo::DropFault;
+use gx_rev::RevFault;
 use gx_text::FromRead;
+use std::alloc::Global;
 use std::hash::RandomState;
 
-/// Drops refs from a store file, which stays as it was where that is refused.
+/// Drops refs from a store file, which stays as it was where that is refused. Of a growing one no more is read than its refs.
 pub(crate) fn drop_refs(
     run: &Run<'_>,
     file: &str,
@@ -17,9 +25,62 @@ pub(crate) fn drop_refs(
     state: RandomState,
 ) -> Result<(), RunFault> {
     let mut next = NextText::claim_next(run, file)?;
+    if let Some(opened) = next.open_in_place() {
+        if drop_in_place(run, &next, &opened, refs, stdin)? {
+            return Ok(());
+        }
+    }
     let repo = next.read_repo(state)?;
     let source = FromRead::new(Noted::input(run));
     let left = drop_named(run.rt.alloc(), repo, refs, stdin, source)?;
     next.publish_added(&left)?;
     Ok(())
+}
+
+/// Does so in a growing store file that can be appended to. Answers false, and does nothing, where its refs can't be read.
+fn drop_in_place(
+    run: &Run<'_>,
+    next: &NextText<'_>,
+    opened: &InPlace<'_>,
+    refs: &[&str],
+    stdin: bool,
+) -> Result<bool, RunFault> {
+    let alloc = run.rt.alloc();
+    let mut room = Vec::new(alloc);
+    let Ok(lines) = opened.look.ref_lines(&mut room) else {
+        return Ok(false);
+    };
+    let Ok(held) = RefLines::read(alloc, lines) else {
+        return Ok(false);
+    };
+    let more = if stdin {
+        lines_from(alloc, FromRead::new(Noted::input(run)))?
+    } else {
+        Vec::new(alloc)
+    };
+    let mut names = texts_of(alloc, refs)?;
+    add_lines(&mut names, &more)?;
+    let left = without(alloc, &held, &names)?;
+    if names.is_empty() {
+        opened.settle(next.place())?;
+    } else if !opened.append_refs(next.place(), left.count, &left.lines)? {
+        return Err(RunFault::Command(CliFault::OutOfMemory));
+    }
+    Ok(true)
+}
+
+/// The refs that none of these names has. The first name that is no ref's, or that is given before, is refused.
+fn without(
+    alloc: Global,
+    held: &RefLines<'_, Global>,
+    names: &[&[u8]],
+) -> Result<LeftRefs<Global>, CliFault> {
+    match left_refs(alloc, held, names) {
+        Ok(left) => Ok(left),
+        Err(DropFault::OutOfMemory) => Err(CliFault::OutOfMemory),
+        Err(DropFault::UnknownRef { number }) => Err(CliFault::Revision {
+            number,
+            kind: RevFault::UnknownRef,
+        }),
+    }
 }

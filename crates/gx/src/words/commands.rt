@@ -2,6 +2,7 @@
 
 use crate::fault::RunFault;
 use crate::run::Run;
+use crate::salvaging::salvage_into;
 use crate::stores::{collect, drop_refs, grow, import, init, push, put, set_ref};
 use crate::streams::{Trial, adapt, answer_input, batch, export, print, try_stream, verify};
 use gx_cli::{Features, Line};
@@ -14,7 +15,7 @@ pub(crate) fn run_line(run: &Run<'_>, line: &Line<'_>) -> ExitCode {
     match run_seeded(run, line) {
         Ok(status) => ExitCode::from(status),
         Err(fault) => {
-            run.tell(&fault, file_of(line));
+            run.tell(&fault, file_of(line), written_of(line));
             ExitCode::from(1)
         }
     }
@@ -29,6 +30,13 @@ fn run_seeded(run: &Run<'_>, line: &Line<'_>) -> Result<u8, RunFault> {
     if let Line::Adapt { drop_signatures } = line {
         return Ok(adapt(run, *drop_signatures)?);
     }
+    if let Line::Verify {
+        file,
+        salvage: Some(new),
+    } = line
+    {
+        return salvage_into(run, file, new, state);
+    }
     run_command(run, line, state)?;
     Ok(0)
 }
@@ -38,7 +46,7 @@ fn file_of<'a>(line: &Line<'a>) -> Option<&'a str> {
     match line {
         Line::Init { file, .. }
         | Line::Grow { file, .. }
-        | Line::Verify { file }
+        | Line::Verify { file, .. }
         | Line::Import { file, .. }
         | Line::Push { file, .. }
         | Line::Batch { file, .. }
@@ -60,6 +68,14 @@ fn file_of<'a>(line: &Line<'a>) -> Option<&'a str> {
         | Line::Try { .. }
         | Line::Check { .. }
         | Line::Adapt { .. } => None,
+    }
+}
+
+/// The store file that a command writes, if it writes one.
+fn written_of<'a>(line: &Line<'a>) -> Option<&'a str> {
+    match line {
+        Line::Verify { salvage, .. } => *salvage,
+        _ => file_of(line),
     }
 }
 
@@ -161,7 +177,7 @@ fn answer(run: &Run<'_>, line: &Line<'_>, state: RandomState) -> Result<(), RunF
             run.explain_if(true);
             Ok(try_stream(run, Trial::Fault, features(done, force), state)?)
         }
-        Line::Verify { file } => Ok(verify(run, file, state)?),
+        Line::Verify { file, .. } => Ok(verify(run, file, state)?),
         Line::Batch { file, .. } => batch(run, line, file, state),
         Line::Export { file, .. } | Line::ExportRange { file, .. } => {
             export(run, line, file, state)

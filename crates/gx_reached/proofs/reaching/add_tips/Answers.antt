@@ -1,4 +1,4 @@
-use Rattle.std.proofs.Common.{◌≡◌, [], inl, refl, subst, sym}
+use Rattle.std.proofs.Common.{[], inl, refl, subst, sym}
 use Rattle.std.specs.List.{AllByRecursion}
 use Rattle.std.proofs.lemmas.List.{take_all}
 use Rattle.gx_repo.specs.declared.publishing.RefChange.{RefChange}

@@ -39,8 +39,10 @@ pub(crate) fn refs_of<'a, A: Allocator + Copy>(
 {
     match RefLines::read(alloc, lines) {
         Ok(read) => changes_of(alloc, read.refs.as_slice()),
-        Err(LookFault::OutOfMemory) => Err(AllocError),
-        Err(_) => unreachable!(),
+        Err(fault) => match fault {
+            LookFault::OutOfMemory => Err(AllocError),
+            _ => unreachable!(),
+        },
     }
 }
 

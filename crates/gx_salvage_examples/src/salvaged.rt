@@ -20,7 +20,9 @@ fn salvaged(
     state: RandomState,
 ) -> Option<Salvaged<Sha1Namer, Global>> {
     let mut room = Vec::new(alloc);
-    let lines = objects.ref_lines(&mut room).ok()?;
+    let Ok(lines) = objects.ref_lines(&mut room) else {
+        return None;
+    };
     salvage(alloc, objects, lines, Sha1Namer, state).ok()
 }
 
@@ -46,7 +48,9 @@ fn are_first(saved: &Repo<Sha1Namer, Global>, repo: &Repo<Sha1Namer, Global>, co
 fn all_saved(alloc: Global, states: (RandomState, RandomState)) -> Option<bool> {
     let made = history(alloc, states.0)?;
     let mut room = Vec::new(alloc);
-    let lines = made.repo.ref_lines(&mut room).ok()?;
+    let Ok(lines) = made.repo.ref_lines(&mut room) else {
+        return None;
+    };
     let saved = salvage(alloc, &made.repo, lines, Sha1Namer, states.1).ok()?;
     Some(
         saved.lost.is_empty()
@@ -160,7 +164,9 @@ fn wants_memory(alloc: Global, states: (RandomState, RandomState)) -> Option<boo
         fault: Some(LookFault::OutOfMemory),
     };
     let mut room = Vec::new(alloc);
-    let lines = holed.ref_lines(&mut room).ok()?;
+    let Ok(lines) = holed.ref_lines(&mut room) else {
+        return None;
+    };
     Some(salvage(alloc, &holed, lines, Sha1Namer, states.1).is_err())
 }
 

@@ -1,6 +1,6 @@
 -- What is saved of the refs that lines spell.
 use Rattle.std.proofs.Common.{◌≡◌, ℕ, refl, sym, ap, subst, ◌∙◌, List, [], ◌∷◌, map, Option, Some, None, Ok, Err, inl, inr, ◌⊎◌}
-use Rattle.std.specs.Prelude.{T, not, IfOk, IfSome, IsTrue, Result}
+use Rattle.std.specs.Prelude.{T, not, IfSome, IsTrue, Result}
 use Rattle.std.specs.Bool.{passes}
 use Rattle.std.specs.FinMap.Entries.{is_sorted}
 use Rattle.std.specs.List.{AllByRecursion, filter, flat_map, list_all}
@@ -18,8 +18,6 @@ use Rattle.gx_model.proofs.Stores.StoredRefs.{targets_name}
 use Rattle.gx_model.proofs.Texts.PathTests.{is_true}
 use Rattle.gx_object.specs.declared.name.Name.{Name}
 use Rattle.gx_objects.specs.Answers.{AreRefs, SpellsRefs}
-use Rattle.gx_objects.specs.declared.fault.LookFault.{LookFault}
-use Rattle.gx_objects.specs.declared.fault.LookFault.TheVariants as faults
 use Rattle.gx_repo.specs.Publishing.{fault_of}
 use Rattle.gx_repo.specs.Refs.{shown_update}
 use Rattle.gx_repo.specs.declared.fault.PublishFault.{PublishFault}
@@ -50,18 +48,6 @@ none_damaged name told bad none = record {
 -- these refs are those of lines, which spell refs that a repository may have
 abbrev pub ReadsThese : Bytes → List Ref → Type 0
 ReadsThese lines shown = (given : List Ref) → lines ≡ flat_map stored_ref given → AreRefs given → shown ≡ given
-
--- what holds of an answer
-pub more_of : {X E : Type 0} (answer : Result X E) (P Q : X → Type 0) → ((x : X) → P x → Q x) → IfOk answer P → IfOk answer Q
-more_of (Ok x) P Q f h = f x h
-more_of (Err e) P Q f h = tt
-
--- no other fault than want of memory
-pub none_unread : {X : Type 0} (fault : LookFault) → (fault ≡ faults.OutOfMemory → ⊥) → (lines : Bytes) → SpellsRefs lines → (◌≡◌ {A = Result X LookFault} (Err fault) (Err faults.Damaged) → SpellsRefs lines → ⊥)
-    → (◌≡◌ {A = Result X LookFault} (Err fault) (Err faults.ReadFailed) → ⊥) → ⊥
-none_unread faults.OutOfMemory k lines spelled damaged read = k refl
-none_unread faults.Damaged k lines spelled damaged read = damaged refl spelled
-none_unread faults.ReadFailed k lines spelled damaged read = read refl
 
 pub all_named : (lines : Bytes) (shown : List Ref) → SpellsRefs lines → ReadsThese lines shown → IsTrue (list_all (λ ref. is_ref_name ref.0) shown)
 all_named lines shown spelled reads = subst (λ rs. IsTrue (list_all (λ ref. is_ref_name ref.0) rs)) (sym (reads spelled.0 spelled.1 spelled.2)) spelled.2.names

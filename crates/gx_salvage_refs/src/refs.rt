@@ -39,10 +39,8 @@ pub(crate) fn refs_of<'a, A: Allocator + Copy>(
 {
     match RefLines::read(alloc, lines) {
         Ok(read) => changes_of(alloc, read.refs.as_slice()),
-        Err(fault) => match fault {
-            LookFault::OutOfMemory => Err(AllocError),
-            _ => unreachable!(),
-        },
+        Err(LookFault::OutOfMemory) => Err(AllocError),
+        Err(_) => unreachable!(),
     }
 }
 

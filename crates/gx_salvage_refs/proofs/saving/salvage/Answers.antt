@@ -38,15 +38,16 @@ take_all-requires-clause-empty g c = ap (λ v. v.1) c.new-repo.ensures
 pub take_all-requires-clause-visited : goal.take_all-requires-clause-visited
 take_all-requires-clause-visited g c =
     let o = c.args.objects.now in
-    untipped (g.O.Objects.told o) (g.O.Objects.stands o) c.reached-order.new.bad (targets_of c.as_slice.result.now) c.in_ok-order.order.items c.in_ok-order.ensures.visited
+    untipped (g.O.Objects.told o) (g.O.Objects.stands o) c.reached.new.bad (targets_of c.as_slice.result.now) c.in_ok-order.order.items c.in_ok-order.ensures.visited
 
 pub take_all-requires-clause-bad : goal.take_all-requires-clause-bad
 take_all-requires-clause-bad g c = c.in_ok-order.ensures.bad
 
-pub part-requires-clause-names : goal.part-requires-clause-names
-part-requires-clause-names g c =
-    subst (λ (refs : List RefChange). IsTrue (list_all (λ ref. is_ref_name ref.0) (map shown_update refs))) (sym c.as_slice-2.ensures.value)
-    (all_named c.args.lines.now (map shown_update c.in_ok-refs.refs.items) c.requires.spelled c.in_ok-refs.ensures)
+pub part-requires : goal.part-requires
+part-requires g c = record {
+  names = subst (λ (refs : List RefChange). IsTrue (list_all (λ ref. is_ref_name ref.0) (map shown_update refs))) (sym c.as_slice-2.ensures.value)
+      (all_named c.args.lines.now (map shown_update c.in_ok-refs.refs.items) c.requires.spelled c.in_ok-refs.ensures);
+}
 
 pub unreachable-requires : goal.unreachable-requires
 unreachable-requires g c =
@@ -90,7 +91,7 @@ returns-in-Ok-clause-saved g c =
     let order = c.in_ok-order.order.items in
     let old = c.take_all.new.repo.1 in
     let now = c.publish.new.self.1 in
-    let bad = c.reached-order.new.bad in
+    let bad = c.reached.new.bad in
     let kept = c.in_ok-parted.parted.kept.items in
     let lost = c.in_ok-parted.parted.lost.items in
     let parted = subst (λ (rs : List RefChange). ArePartedBy old.records (map shown_update rs) (map shown_update kept) lost) c.as_slice-2.ensures.value c.in_ok-parted.ensures.parted in

@@ -5,6 +5,7 @@ pub(crate) mod explanation;
 pub(crate) mod kept;
 pub(crate) mod progress;
 pub(crate) mod reports;
+mod steps;
 pub(crate) mod traced;
 mod trail;
 

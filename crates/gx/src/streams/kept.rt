@@ -5,6 +5,7 @@ ghost use Rattle.std.specs.Io.{ReadsAtMost};
 
 use super::devices::Noted;
 use super::reports::tell_typed_stream;
+use super::steps::steps_of;
 use super::traced::Traced;
 use crate::run::Run;
 use crate::stores::process::reads_a_file;
@@ -16,6 +17,9 @@ use std::io::{self, ErrorKind, Read, Stdin};
 
 /// So many bytes are kept at most.
 const MOST: usize = 1 << 26;
+
+/// Over a small repository texts go so many steps at most: each is a commit that is read once more.
+const MOST_STEPS: u64 = 1 << 16;
 
 /// What was read of the stream and is kept. Once it is to be read again, that is given out first, and then what still comes.
 #[derive(Drop)]
@@ -66,8 +70,8 @@ impl<'a> Kept<'a> {
     }
 
     /// Reads all commands of a stream with fewer bytes than these, and answers how many identities have no name, where they are
-    /// counted; none where not all of the stream can be kept, where a command is none, or at a `progress`, for whose line the program
-    /// that writes the stream may wait.
+    /// counted; none where not all of the stream can be kept, where a command is none, where texts go too many steps, or at a `progress`,
+    /// for whose line the program that writes the stream may wait.
     pub(crate) fn read_commands(
         &mut self,
         run: &Run<'_>,
@@ -140,18 +144,23 @@ fn end_of(answer: &io::Result<usize>) -> Option<io::Result<()>> {
     }
 }
 
-/// Reads commands up to the end. Answers whether it was reached, and no `progress` met before it, unless these are taken.
+/// Reads commands up to the end. Answers whether it was reached, and no `progress` met before it, unless these are taken, nor more
+/// steps gone than can be.
 fn are_read<R: Source + Drop>(
     mut commands: CommandReader<R, Global>,
     takes_progress: bool,
 ) -> bool {
+    let mut steps = 0u64;
     // no command has less than a byte
     for _command in 0..MOST {
         match commands.next() {
             Ok(None) => return true,
             Ok(Some(Command::Progress(_))) if !takes_progress => return false,
-            Ok(Some(_)) => {}
+            Ok(Some(command)) => steps = steps.saturating_add(steps_of(&command)),
             Err(_) => return false,
+        }
+        if steps > MOST_STEPS {
+            return false;
         }
     }
     false

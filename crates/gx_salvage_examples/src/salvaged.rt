@@ -4,8 +4,8 @@ use crate::histories::{Made, REACHED, history};
 use crate::holed::Holed;
 use gx_object::Sha1Namer;
 use gx_objects::{LookFault, Objects};
-use gx_repo::Repo;
 use gx_reached::{Cause, Damage};
+use gx_repo::Repo;
 use gx_salvage_refs::{Lost, Salvaged, salvage};
 use std::alloc::Global;
 use std::hash::RandomState;
@@ -32,7 +32,11 @@ fn states(rt: &HostRuntime) -> Option<(RandomState, RandomState)> {
 }
 
 /// Whether the objects of a salvaged repository are the first ones of another, in their order.
-fn are_first(saved: &Repo<Sha1Namer, Global>, repo: &Repo<Sha1Namer, Global>, count: usize) -> bool {
+fn are_first(
+    saved: &Repo<Sha1Namer, Global>,
+    repo: &Repo<Sha1Namer, Global>,
+    count: usize,
+) -> bool {
     if saved.store().len() != count {
         return false;
     }
@@ -74,7 +78,11 @@ fn holds_refs(
     kept: &[bool],
 ) -> bool {
     for (name, is_kept) in REFS.iter().zip(kept.iter()) {
-        let held = if *is_kept { repo.find_ref(name) } else { Ok(None) };
+        let held = if *is_kept {
+            repo.find_ref(name)
+        } else {
+            Ok(None)
+        };
         if saved.find_ref(name) != held {
             return false;
         }

@@ -1,8 +1,8 @@
 -- Refs that are parted, and those that are kept set in an empty repository.
-use Rattle.std.proofs.Common.{◌≡◌, ℕ, zero, suc, ◌+◌, ◌<◌, arith, Bool, true, false, cond, refl, sym, ap, subst, ◌∙◌, List, [], ◌∷◌, ◌++◌, append_assoc, append-nil, get_or, length, map, take, Option, Some, None, inl, inr, ◌⊎◌}
-use Rattle.std.specs.Prelude.{T, ◌&&◌, not, is_none, is_some, IsTrue}
+use Rattle.std.proofs.Common.{◌≡◌, ℕ, zero, suc, ◌+◌, ◌<◌, arith, Bool, true, false, cond, refl, sym, ap, subst, ◌∙◌, List, [], ◌∷◌, ◌++◌, append_assoc, append-nil, get_or, length, map, take, Option, Some, None}
+use Rattle.std.specs.Prelude.{T, not, is_none, is_some, IsTrue}
 use Rattle.std.specs.Bool.{passes}
-use Rattle.std.specs.List.{AllByRecursion, filter, fold, list_all}
+use Rattle.std.specs.List.{AllByRecursion, filter, list_all}
 use Rattle.std.specs.Option.{option_map, option_or}
 use Rattle.std.specs.Ordering.{is_lt, ordering_reverse}
 use Rattle.std.specs.declared.cmp.Ordering.{Ordering}
@@ -15,7 +15,7 @@ use Rattle.gx_model.specs.declared.faults.Fault.TheVariants.{BadRefName, Unknown
 use Rattle.gx_model.specs.declared.objects.Kind.{Kind}
 use Rattle.gx_model.specs.Histories.{Record, object_of}
 use Rattle.gx_model.specs.Records.Growth.{record_named}
-use Rattle.gx_model.specs.Records.Publishing.{Ref, change_fault, changes_fault, with_change, with_changes}
+use Rattle.gx_model.specs.Records.Publishing.{Ref, change_fault, changes_fault, with_changes}
 use Rattle.gx_model.specs.Stores.StoreReading.{is_target, is_target_of_kind}
 use Rattle.gx_model.specs.Texts.{Bytes, byte_cmp}
 use Rattle.gx_model.specs.Texts.RefNames.{is_ref_name}

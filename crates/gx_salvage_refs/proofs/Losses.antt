@@ -1,6 +1,6 @@
 -- What refs are lost by, and that of a repository none is but by reads that failed.
-use Rattle.std.proofs.Common.{◌≡◌, ℕ, Bool, true, false, cond, refl, sym, ap, subst, ◌∙◌, List, [], ◌∷◌, length, map, Option, Some, None, inl, inr, ◌⊎◌}
-use Rattle.std.specs.Prelude.{◌≢◌, not, is_none, is_some, IfSome, IsTrue, T}
+use Rattle.std.proofs.Common.{◌≡◌, ℕ, Bool, true, false, cond, refl, sym, ap, subst, ◌∙◌, List, [], ◌∷◌, length, map, Option, Some, None, inl, inr}
+use Rattle.std.specs.Prelude.{not, is_none, is_some, IsTrue, T}
 use Rattle.std.specs.Bool.{passes}
 use Rattle.std.specs.List.{AllByRecursion, filter, list_all}
 use Rattle.std.specs.Option.{option_map}
@@ -10,25 +10,24 @@ use Rattle.gx_model.specs.declared.objects.Kind.{Kind}
 use Rattle.gx_model.specs.declared.objects.Kind.TheVariants as kind
 use Rattle.gx_model.specs.Texts.{Bytes}
 use Rattle.gx_model.specs.Texts.RefNames.{is_ref_name, tag_ref}
-use Rattle.gx_model.specs.Histories.{AreDistinct, Record, Records}
+use Rattle.gx_model.specs.Histories.{Record, Records}
 use Rattle.gx_model.specs.Objects.{IsTagText, TagParts}
 use Rattle.gx_model.specs.Records.Growth.{record_named}
 use Rattle.gx_model.specs.Records.HistoryOf.{tag_parts_in}
-use Rattle.gx_model.specs.Records.Publishing.{Ref, change_fault}
+use Rattle.gx_model.specs.Records.Publishing.{Ref}
 use Rattle.gx_model.specs.Records.Sound.{IsSound, IsTarget}
 use Rattle.gx_model.specs.Stores.StoreReading.{is_target, is_target_of_kind}
 use Rattle.gx_model.proofs.ObjectTexts.BodiesReadBack.{tag_read}
 use Rattle.gx_model.proofs.Records.TakenRecords.{named_some}
 use Rattle.gx_model.proofs.Texts.PathTests.{first, is_same, is_true, second}
-use Rattle.gx_objects.specs.Answers.{StandsThere}
-use Rattle.gx_reached.specs.Damages.{IsBad, Leads, damage_in, itself}
-use Rattle.gx_salvage_refs.specs.Parting.{IsKnownDamage, IsLossBy, IsLossOf}
+use Rattle.gx_reached.specs.Damages.{Leads, damage_in, itself}
+use Rattle.gx_salvage_refs.specs.Parting.{IsKnownDamage, IsLossBy}
 use Rattle.gx_reached.specs.Reaching.{StandsSomewhere}
 use Rattle.gx_salvage_refs.specs.Salvaging.{IsLostBy, is_settable, lost_ref}
 use Rattle.gx_salvage_refs.specs.Saved.{AreOf, IsSaved}
 use Rattle.gx_salvage_refs.specs.Taking.{AreUnsaved, IsSettled}
 use Rattle.gx_reached.specs.declared.bad.Bad.{Bad}
-use Rattle.gx_reached.specs.declared.damage.Cause.TheVariants.{ReadFailed, WrongKind}
+use Rattle.gx_reached.specs.declared.damage.Cause.TheVariants.{ReadFailed}
 use Rattle.gx_reached.specs.declared.damage.Damage.{Damage}
 use Rattle.gx_salvage_refs.specs.declared.lost.Lost.{Lost}
 use Rattle.gx_reached.proofs.Closing.{all_weaker}

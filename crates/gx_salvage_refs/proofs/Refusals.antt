@@ -1,6 +1,6 @@
 -- Objects that aren't saved: with one more, and beside one record more.
-use Rattle.std.proofs.Common.{◌≡◌, ℕ, zero, suc, ◌+◌, ◌<◌, arith, get_or, length, map, take, Bool, true, false, cond, refl, sym, ap, subst, ◌∙◌, List, [], ◌∷◌, ◌++◌, Option, Some, None, inl, inr, ◌⊎◌}
-use Rattle.std.specs.Prelude.{◌||◌, is_some, IfSome, IsTrue}
+use Rattle.std.proofs.Common.{◌≡◌, ℕ, zero, suc, ◌+◌, ◌<◌, arith, get_or, length, map, take, Bool, true, false, cond, refl, sym, ap, subst, ◌∙◌, List, [], ◌∷◌, ◌++◌, Option, Some, None, inl, inr}
+use Rattle.std.specs.Prelude.{is_some, IfSome, IsTrue}
 use Rattle.std.specs.List.{AllByRecursion, list_any}
 use Rattle.std.specs.Bool.{passes}
 use Rattle.std.specs.declared.vec.Vec.{Vec}
@@ -141,8 +141,11 @@ module _ {A B : Type 0} (bad : Bad A) (own : Damage) (k : Kind) (body : Bytes) (
 
   -- none has any
   pub none_found : AllByRecursion (λ (l : Link). damage_in bad l.name.bytes ≡ None) items → FindsDamage bad own k body own
-  none_found h = inr (refl, λ canonical. elim are [
-    | inl same ↦ subst (AllByRecursion (λ link. damage_in bad link ≡ None)) (named_links k body links same)
-        (subst (λ xs. AllByRecursion (λ link. damage_in bad link ≡ None) (map (λ (x : Link). x.name.bytes) xs)) is (all_mapped (λ link. damage_in bad link ≡ None) (λ (x : Link). x.name.bytes) items h))
-    | inr none ↦ absurd (none.1 canonical)
-  ])
+  none_found h = inr (
+    refl,
+    λ canonical. elim are [
+      | inl same ↦ subst (AllByRecursion (λ link. damage_in bad link ≡ None)) (named_links k body links same)
+          (subst (λ xs. AllByRecursion (λ link. damage_in bad link ≡ None) (map (λ (x : Link). x.name.bytes) xs)) is (all_mapped (λ link. damage_in bad link ≡ None) (λ (x : Link). x.name.bytes) items h))
+      | inr none ↦ absurd (none.1 canonical)
+    ],
+  )

@@ -1,5 +1,5 @@
 -- What is saved of the refs that lines spell.
-use Rattle.std.proofs.Common.{◌≡◌, ℕ, refl, sym, ap, subst, ◌∙◌, List, [], ◌∷◌, map, Option, Some, None, Ok, Err, inl, inr, ◌⊎◌}
+use Rattle.std.proofs.Common.{◌≡◌, ℕ, refl, sym, ap, subst, ◌∙◌, List, [], ◌∷◌, map, Option, Some, None, Ok, ◌⊎◌}
 use Rattle.std.specs.Prelude.{T, not, IfSome, IsTrue, Result}
 use Rattle.std.specs.Bool.{passes}
 use Rattle.std.specs.FinMap.Entries.{is_sorted}
@@ -7,7 +7,7 @@ use Rattle.std.specs.List.{AllByRecursion, filter, flat_map, list_all}
 use Rattle.gx_model.specs.declared.faults.Fault.{Fault}
 use Rattle.gx_model.specs.declared.objects.Kind.{Kind}
 use Rattle.gx_model.specs.Faults.{IsFaultOf, unless}
-use Rattle.gx_model.specs.Histories.{Record, Records}
+use Rattle.gx_model.specs.Histories.{Records}
 use Rattle.gx_model.specs.Objects.{IsNamer, is_name}
 use Rattle.gx_model.specs.Records.Publishing.{Ref, changes_fault, published, with_changes}
 use Rattle.gx_model.specs.Records.Sound.{IsSound}
@@ -26,7 +26,6 @@ use Rattle.gx_repo.specs.declared.publishing.RefChange.{RefChange}
 use Rattle.gx_reached.specs.Damages.{AreDamages, IsBad, damage_in}
 use Rattle.gx_reached.specs.Reaching.{Among, IsVisited, StandsSomewhere, targets_of}
 use Rattle.gx_reached.specs.declared.bad.Bad.{Bad}
-use Rattle.gx_reached.specs.declared.damage.Damage.{Damage}
 use Rattle.gx_reached.proofs.Closing.{all_weaker}
 use Rattle.gx_reached.proofs.Stepping.{told_alone}
 use Rattle.gx_salvage_refs.specs.Parting.{IsLossBy}

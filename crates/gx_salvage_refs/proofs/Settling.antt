@@ -1,6 +1,6 @@
 -- An object of a repository is taken over, or a read of what it leads to failed.
-use Rattle.std.proofs.Common.{◌≡◌, ℕ, refl, sym, ap, subst, ◌∙◌, List, [], ◌∷◌, ◌++◌, length, Option, Some, None, Ok, Err, inl, inr, ◌⊎◌, true, false, Bool, cond}
-use Rattle.std.specs.Prelude.{◌||◌, is_some, IfSome, IsTrue, Result}
+use Rattle.std.proofs.Common.{◌≡◌, ℕ, refl, sym, ap, subst, ◌∙◌, List, [], ◌∷◌, ◌++◌, length, Option, Some, None, Err, inl, inr, ◌⊎◌, true, false, Bool, cond}
+use Rattle.std.specs.Prelude.{◌||◌, is_some, IfSome, IsTrue}
 use Rattle.std.specs.List.{AllByRecursion}
 use Rattle.std.specs.Bool.{passes}
 use Rattle.gx_model.specs.declared.objects.Kind.{Kind}
@@ -13,7 +13,7 @@ use Rattle.gx_model.specs.Records.Growth.{record_named}
 use Rattle.gx_model.specs.Records.RecordFaults.{record_fault}
 use Rattle.gx_model.specs.Records.Sound.{AnyByRecursion, IsSound}
 use Rattle.gx_model.specs.Texts.{Bytes, same_bytes}
-use Rattle.gx_model.proofs.Records.HeldObjects.{IsShown, is_shown}
+use Rattle.gx_model.proofs.Records.HeldObjects.{is_shown}
 use Rattle.gx_model.proofs.Texts.PathTests.{is_same, is_true}
 use Rattle.gx_object.specs.declared.name.Name.{Name}
 use Rattle.gx_objects.specs.Answers.{GoesUp, IsHeldThere, StandsThere}
@@ -22,7 +22,7 @@ use Rattle.gx_repo.specs.Records.{AddsRecord, add_fault}
 use Rattle.gx_repo.specs.declared.fault.AddFault.{AddFault}
 use Rattle.gx_repo.specs.declared.fault.AddFault.TheVariants as refusals
 use Rattle.gx_reached.specs.Damages.{IsBad, KeepsBad, damage_in}
-use Rattle.gx_reached.specs.Reaching.{Among, IsVisited, LinksHave}
+use Rattle.gx_reached.specs.Reaching.{Among, IsVisited}
 use Rattle.gx_salvage_refs.specs.Saved.{AreOf, IsSaved, KeepsSaved}
 use Rattle.gx_salvage_refs.specs.Taking.{AreUnsaved, FindsDamage, IsReady, IsSettled, Settles, SettlesAll, TellsRefusal, is_settled}
 use Rattle.gx_reached.specs.declared.bad.Bad.{Bad}

@@ -1,5 +1,5 @@
 -- A record of a sound repository is taken by one that has some of its records, where it has those that the record names.
-use Rattle.std.proofs.Common.{◌≡◌, Bool, true, false, cond, refl, sym, ap, subst, ◌∙◌, List, [], ◌∷◌, ◌++◌, append_assoc, append-nil, map, Option, Some, None, inl, inr, ◌⊎◌}
+use Rattle.std.proofs.Common.{◌≡◌, Bool, true, false, cond, refl, sym, subst, ◌∙◌, List, [], ◌∷◌, ◌++◌, append_assoc, append-nil, map, Option, Some, None, inl, inr}
 use Rattle.std.specs.Prelude.{◌||◌, ◌≢◌, is_some, IfSome, IsTrue}
 use Rattle.std.specs.List.{AllByRecursion, cons_option, filter_map, list_any}
 use Rattle.std.specs.Bool.{passes}
@@ -14,14 +14,12 @@ use Rattle.gx_model.specs.Histories.{AreDistinct, Record, Records, record_for}
 use Rattle.gx_model.specs.Objects.{CommitParts, Entry, IsNamer, TagParts}
 use Rattle.gx_model.specs.Pruning.{link_of, links_of}
 use Rattle.gx_model.specs.Records.Growth.{record_named}
-use Rattle.gx_model.specs.Records.HistoryOf.{commit_parts_in, entries_in, tag_parts_in}
 use Rattle.gx_model.specs.Records.RecordFaults.{record_fault}
 use Rattle.gx_model.specs.Records.Sound.{AnyByRecursion, HasPath, HasShortPaths, Holds, IsHeldAs, IsLinked, IsLinkedAfter, IsSound, below, here}
 use Rattle.gx_model.proofs.ObjectTexts.BodiesReadBack.{commit_read, entries_read, tag_read}
 use Rattle.gx_model.proofs.Records.GrownRecords.{distinct_snoc}
 use Rattle.gx_model.proofs.Records.HeldObjects.{named_so}
 use Rattle.gx_model.proofs.Records.TakenRecords.{all_named, fine, named_some, some_named}
-use Rattle.gx_model.proofs.Texts.PathTests.{is_same, is_true, same_is}
 use Rattle.gx_salvage_refs.specs.Saved.{AreOf, IsSaved}
 use Rattle.gx_reached.proofs.Closing.{all_with}
 use Rattle.gx_reached.proofs.LinkedRecords.{linked_at, split_at}

@@ -1,4 +1,4 @@
-use Rattle.std.proofs.Common.{◌≡◌, ◌∙◌, ap, inr, subst, sym}
+use Rattle.std.proofs.Common.{◌∙◌, ap, inr, subst, sym}
 use Rattle.std.specs.Prelude.{IfSome, OnOk}
 use Rattle.gx_model.specs.Histories.{Record, record_for}
 use Rattle.gx_model.specs.Objects.{IsNamer}

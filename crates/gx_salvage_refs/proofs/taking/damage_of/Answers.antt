@@ -1,4 +1,4 @@
-use Rattle.std.proofs.Common.{◌≡◌, ◌∙◌, [], None, ap, arith, false, get_or, length, subst, sym, take_all}
+use Rattle.std.proofs.Common.{◌≡◌, [], None, false, subst, sym, take_all}
 use Rattle.std.specs.List.{AllByRecursion}
 use Rattle.gx_reached.specs.Damages.{damage_in}
 use Rattle.gx_reached.specs.declared.links.Link.{Link}

@@ -1,11 +1,11 @@
-use Rattle.std.proofs.Common.{◌≡◌, ◌∙◌, ap, false, sym, true}
+use Rattle.std.proofs.Common.{◌∙◌, ap, sym}
 use Rattle.gx_objects.specs.Answers.{IsHeldThere}
 use Rattle.gx_reached.specs.Damages.{Enters}
 use Rattle.gx_reached.specs.declared.damage.Damage.{Damage}
 use Rattle.gx_reached.proofs.Entering.{on_ok, only_unread}
 use Rattle.gx_reached.proofs.Stepping.{told_both}
 use Rattle.gx_salvage_refs.specs.Saved.{AreOf}
-use Rattle.gx_salvage_refs.specs.Taking.{AreUnsaved, IsReady, is_settled}
+use Rattle.gx_salvage_refs.specs.Taking.{AreUnsaved, IsReady}
 use Rattle.gx_salvage_refs.proofs.Refusals.{unsaved_itself}
 use Rattle.gx_salvage_refs.proofs.Settling.{settles_now, unsettled}
 use Rattle.gx_salvage_refs.proofs.taking.take.Goals as goal

@@ -65,16 +65,18 @@ def as_before(store):
     """Has a store be as before behind a run that appends to it, or puts another file there."""
     with open(store, "r+b") as kept:
         head, size = kept.read(HEAD), os.fstat(kept.fileno()).st_size
-        yield
-        if os.path.samestat(os.stat(store), os.fstat(kept.fileno())):
-            os.pwrite(kept.fileno(), head, 0)
-            os.ftruncate(kept.fileno(), size)
-        else:
-            kept.seek(0)
-            with open(store + ".kept", "wb") as copy:
-                shutil.copyfileobj(kept, copy, 1 << 24)
-            os.rename(store + ".kept", store)
-        os.fsync(kept.fileno())
+        try:
+            yield
+        finally:
+            if os.path.samestat(os.stat(store), os.fstat(kept.fileno())):
+                os.pwrite(kept.fileno(), head, 0)
+                os.ftruncate(kept.fileno(), size)
+            else:
+                kept.seek(0)
+                with open(store + ".kept", "wb") as copy:
+                    shutil.copyfileobj(kept, copy, 1 << 24)
+                os.rename(store + ".kept", store)
+            os.fsync(kept.fileno())
 
 
 def processor_of_children():

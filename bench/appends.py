@@ -3,7 +3,7 @@
 
   appends.py stream GX STORE                a stream of ten commits on the first ref, each of a few files of about 8 KB
   appends.py import GX STORE STREAM GIT     the import of a stream beside a fetch of the same, and what it writes beside what is new
-  appends.py same GX STORE OTHER STREAM     the import of a stream into two stores with the same tip
+  appends.py same GX STREAM STORE..         the import of a stream into stores with the same tip, beside the first of them
   appends.py drop GX STORE                  a drop of one ref, and its syncs
   appends.py mirror GX STORE GIT            a mirror with nothing new
 
@@ -12,6 +12,7 @@ GIT is a bare repository that has the refs of STORE. A store is as before behind
 import hashlib
 import os
 import re
+import resource
 import shutil
 import statistics
 import subprocess
@@ -21,6 +22,7 @@ import time
 from contextlib import contextmanager
 from pathlib import Path
 from random import Random
+from typing import NamedTuple
 
 RUNS = int(os.environ.get("RUNS", "5"))
 HEAD = 226
@@ -63,25 +65,33 @@ def as_before(store):
     """Has a store be as before behind a run that appends to it, or puts another file there."""
     with open(store, "r+b") as kept:
         head, size = kept.read(HEAD), os.fstat(kept.fileno()).st_size
-        yield
-        if os.path.samestat(os.stat(store), os.fstat(kept.fileno())):
-            os.pwrite(kept.fileno(), head, 0)
-            os.ftruncate(kept.fileno(), size)
-        else:
-            kept.seek(0)
-            with open(store + ".kept", "wb") as copy:
-                shutil.copyfileobj(kept, copy, 1 << 24)
-            os.rename(store + ".kept", store)
-        os.fsync(kept.fileno())
+        try:
+            yield
+        finally:
+            if os.path.samestat(os.stat(store), os.fstat(kept.fileno())):
+                os.pwrite(kept.fileno(), head, 0)
+                os.ftruncate(kept.fileno(), size)
+            else:
+                kept.seek(0)
+                with open(store + ".kept", "wb") as copy:
+                    shutil.copyfileobj(kept, copy, 1 << 24)
+                os.rename(store + ".kept", store)
+            os.fsync(kept.fileno())
+
+
+def processor_of_children():
+    """Seconds, as fine as the system counts them; os.times counts hundredths."""
+    used = resource.getrusage(resource.RUSAGE_CHILDREN)
+    return used.ru_utime + used.ru_stime
 
 
 def run(words, given=os.devnull, **more):
     """The processor and the clock seconds of a run and of all that it runs."""
-    before, start = os.times(), time.perf_counter()
+    before, start = processor_of_children(), time.perf_counter()
     with open(given, "rb") as file:
         subprocess.run(words, check=True, stdin=file, stdout=subprocess.DEVNULL, **more)
-    clock, after = time.perf_counter() - start, os.times()
-    return after.children_user + after.children_system - before.children_user - before.children_system, clock
+    clock = time.perf_counter() - start
+    return processor_of_children() - before, clock
 
 
 def memory(words, given=os.devnull):
@@ -163,13 +173,23 @@ def seconds(all_of):
     return [middle(times) for times in taken]
 
 
+class Row(NamedTuple):
+    """What an import takes."""
+
+    processor: float
+    peak: float
+    reads: int
+    read: int
+    written: int
+
+
 def table(rows):
     print("| | processor | clock | memory, MB | reads | bytes read | writes | bytes written |\n|---|---|---|---|---|---|---|---|")
     for (name, each), (processor, clock) in zip(rows, seconds([each for _, each in rows])):
         peak, read, written = measured(each)
         calls = " | ".join(f"{count:,} | {size:,}" for count, size in (read, written))
         print(f"| {name} | {processor:.3f} s | {clock:.3f} s | {peak:.1f} | {calls} |", flush=True)
-        yield written[1]
+        yield Row(processor, peak, *read, written[1])
 
 
 # ---- what is measured
@@ -191,17 +211,20 @@ def beside(gx, store, given, repository):
         count, size = what_is_new(fetch)
         refs = len(made([gx, "refs", store]))
         ours = Import(gx, store, given)
-        written, _ = table([(each.name, each) for each in (ours, fetch)])
-        most = size + refs
-        print(f"new: {count:,} objects, {size:,} bytes; refs: {refs:,} bytes; `gx import` writes {written / most:.2f} times that")
+        row, _ = table([(each.name, each) for each in (ours, fetch)])
+        print(f"new: {count:,} objects, {size:,} bytes; refs: {refs:,} bytes; `gx import` writes {row.written / (size + refs):.2f} times that")
+        print("at most: 0.2 s of processor, 60 MB, and twice these bytes")
     finally:
         shutil.rmtree(fetch.folder)
 
 
-def same(gx, store, other, given):
-    """The same import into two stores."""
-    sizes = [f"{os.path.getsize(path):,} bytes" for path in (store, other)]
-    list(table([(f"`gx import`, {size}", Import(gx, path, given)) for size, path in zip(sizes, (store, other))]))
+def same(gx, given, *stores):
+    """The same import into stores of other sizes."""
+    sizes = [f"{os.path.getsize(path):,} bytes" for path in stores]
+    first, *others = table([(f"`gx import`, {size}", Import(gx, path, given)) for size, path in zip(sizes, stores)])
+    for size, row in zip(sizes[1:], others):
+        times = (f"{now / before:.2f} times the {name}" for name, now, before in zip(Row._fields, row, first))
+        print(f"{size}, at most 1.2: " + ", ".join(times))
 
 
 def synced(words):

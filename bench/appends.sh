@@ -1,5 +1,5 @@
 #!/usr/bin/env bash
-# Measures what is appended to a growing store: an import of ten commits beside `git fetch`, and into a store and a larger one with
+# Measures what is appended to a growing store: an import of ten commits beside `git fetch`, and into a store and larger ones with
 # the same tip; a drop of one ref besides its syncs; and a mirror with nothing new.
 #   bench/appends.sh [GX [FOLDER]]    GX: the built program, crates/gx/out/gx if left out; FOLDER: where stores are made, and found
 #                                     when they stand there, as those of bench/looks.sh; a temporary one if left out
@@ -29,6 +29,7 @@ python3 bench/appends.py drop "$gx" "$store"
 python3 bench/appends.py mirror "$gx" "$store" "$folder/$size.git"
 
 stored "$small"
+padded "$small" "$size"
 padded "$small" "$large"
 python3 bench/appends.py stream "$gx" "$folder/$small.gx" > "$folder/commits"
-python3 bench/appends.py same "$gx" "$folder/$small.gx" "$folder/$small-in-$large.gx" "$folder/commits"
+python3 bench/appends.py same "$gx" "$folder/commits" "$folder/$small.gx" "$folder/$small-in-$size.gx" "$folder/$small-in-$large.gx"

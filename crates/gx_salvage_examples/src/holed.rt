@@ -1,6 +1,8 @@
 //! A repository of which one object can't be read.
 
 ghost use Rattle.std.specs.Prelude.{None};
+ghost use Rattle.sha1.specs.Sha1.{sha1};
+ghost use Rattle.gx_model.specs.Objects.Naming.{record_text};
 
 use gx_object::{Name, Sha1Namer};
 use gx_objects::{LookFault, Object, Objects};
@@ -17,7 +19,7 @@ pub(crate) struct Holed<'a> {
 }
 
 impl<'a> Objects for Holed<'a> {
-    ghost name_of = { λ s. Sha1Namer.name_of s.repo.now.0 };
+    ghost name_of = { λ _ kind body. sha1 (record_text kind body) };
 
     ghost told = { λ _. None };
 

@@ -58,25 +58,32 @@ fn drop_in_place(
     } else {
         Vec::new(alloc)
     };
-    let mut names = texts_of(alloc, refs)?;
-    add_lines(&mut names, &more)?;
-    let left = without(alloc, &held, &names)?;
-    if names.is_empty() {
-        opened.settle(next.place())?;
-    } else if !opened.append_refs(next.place(), left.count, &left.lines)? {
-        return Err(RunFault::Command(CliFault::OutOfMemory));
+    match left_without(alloc, &held, refs, &more)? {
+        None => opened.settle(next.place())?,
+        Some(left) => {
+            if !opened.append_refs(next.place(), left.count, &left.lines)? {
+                return Err(RunFault::Command(CliFault::OutOfMemory));
+            }
+        }
     }
     Ok(true)
 }
 
-/// The refs that none of these names has. The first name that is no ref's, or that is given before, is refused.
-fn without(
+/// The refs that have none of the names that words and lines give; none where these give no name. The first name that is no ref's, or
+/// that is given before, is refused.
+fn left_without<'a>(
     alloc: Global,
     held: &RefLines<'_, Global>,
-    names: &[&[u8]],
-) -> Result<LeftRefs<Global>, CliFault> {
-    match left_refs(alloc, held, names) {
-        Ok(left) => Ok(left),
+    words: &[&'a str],
+    lines: &'a [Vec<u8>],
+) -> Result<Option<LeftRefs<Global>>, CliFault> {
+    let mut names = texts_of(alloc, words)?;
+    add_lines(&mut names, lines)?;
+    if names.is_empty() {
+        return Ok(None);
+    }
+    match left_refs(alloc, held, &names) {
+        Ok(left) => Ok(Some(left)),
         Err(DropFault::OutOfMemory) => Err(CliFault::OutOfMemory),
         Err(DropFault::UnknownRef { number }) => Err(CliFault::Revision {
             number,

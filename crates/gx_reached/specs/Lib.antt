@@ -1,0 +1,3 @@
+pub mod Damages
+pub mod Links
+pub mod Reaching

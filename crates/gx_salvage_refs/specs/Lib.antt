@@ -1,0 +1,4 @@
+pub mod Parting
+pub mod Salvaging
+pub mod Saved
+pub mod Taking

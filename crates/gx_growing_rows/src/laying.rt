@@ -1,17 +1,18 @@
 //! The table of rows that a writer lays out for the objects of a store. Source: this project's own format.
-ghost use Rattle.std.specs.Prelude.{◌≡◌, ℕ, ◌+◌, ◌*◌, ◌≤◌, ◌++◌, drop, length, IfOk, IfSome};
+ghost use Rattle.std.specs.Prelude.{◌≡◌, ℕ, ◌+◌, ◌*◌, ◌≤◌, ◌++◌, codes, drop, length, IfOk, IfSome};
 ghost use Rattle.std.specs.List.{flat_map};
 ghost use Rattle.sha2.specs.Sha256.{sha256};
+ghost use Rattle.gx_model.specs.Histories.{Record};
 ghost use Rattle.gx_model.specs.Objects.{line};
 ghost use Rattle.gx_model.specs.Texts.Numbers.{number_text};
 ghost use Rattle.gx_model.specs.declared.store_versions.Version.TheVariants.{Two};
 ghost use Rattle.gx_model.specs.Stores.StoreText.{stored_record};
-ghost use Rattle.gx_growing.specs.GrowingText.{first_rows, page_digests, placed, row_text, rows_in, rows_place};
+ghost use Rattle.gx_growing.specs.GrowingText.{first_rows, page_digests, placed, row_text, rows_in, rows_place, sorted_rows};
 ghost use Rattle.gx_growing_rows.specs.NextTable.{next_place, next_rows};
 
 use crate::checking::{Row, first_row};
 use gx_growing_parts::{HEAD, digest_of, first_page};
-use gx_object::{Kind, Name, Namer};
+use gx_object::{Kind, Namer};
 use gx_store::Store;
 use itoa::Buffer;
 use std::alloc::{AllocError, Allocator};
@@ -61,16 +62,34 @@ pub fn next_table<N: Namer, A: Allocator + Copy>(
         table.digests.items ≡ page_digests sha256 table.rows.items) }
 {
     let mut rows = read_rows(alloc, taken_in)?;
-    let new = store.len().saturating_sub(held);
-    let Some(first) = ends.checked_add(line_length(b"objects", new)) else {
+    let Some(first) = first_place(ends, store.len().saturating_sub(held)) else {
         return Err(AllocError);
     };
     let behind = push_placed(&mut rows, store, held, first)?;
-    let count = rows.len();
-    rows.sort_unstable();
-    let Some(place) = behind.checked_add(line_length(b"rows", count)) else {
+    table_behind(alloc, rows, behind)
+}
+
+/// The table of these rows, put in order, in a segment whose records end at a place.
+///
+/// `AllocError`: a growth was refused, or the line of the rows ends behind 2^64 bytes. Cost: the rows are sorted and hashed. Memory:
+/// 28 bytes for each row. Source: this project's own format.
+pub fn table_behind<A: Allocator + Copy>(
+    alloc: A,
+    rows: Vec<Row, A>,
+    behind: u64,
+) -> Result<Table<A>, AllocError>
+    ensures place { IfOk result (λ table. table.place
+        ≡ behind + length (line (codes "rows") (number_text (length rows.items)))) }
+    ensures rows { IfOk result (λ table.
+        table.rows.items ≡ flat_map row_text (sorted_rows rows.items)) }
+    ensures digests { IfOk result (λ table.
+        table.digests.items ≡ page_digests sha256 table.rows.items) }
+{
+    let mut rows = rows;
+    let Some(place) = behind.checked_add(line_length(b"rows", rows.len())) else {
         return Err(AllocError);
     };
+    rows.sort_unstable();
     let rows = row_bytes(alloc, rows.as_slice())?;
     let digests = page_digests(alloc, rows.as_slice())?;
     Ok(Table {
@@ -78,6 +97,15 @@ pub fn next_table<N: Namer, A: Allocator + Copy>(
         rows,
         digests,
     })
+}
+
+/// Where the first record stands of a segment with so many objects behind a place, if that is below 2^64. Cost: constant. Takes no
+/// memory. Source: this project's own format.
+pub fn first_place(ends: u64, count: usize) -> Option<u64>
+    ensures { IfSome result (λ first.
+        first ≡ ends + length (line (codes "objects") (number_text count))) }
+{
+    ends.checked_add(line_length(b"objects", count))
 }
 
 /// The rows that bytes are.
@@ -112,7 +140,7 @@ fn push_placed<N: Namer, A: Allocator + Copy>(
         let Some((name, kind, body)) = store.record(at) else {
             unreachable!();
         };
-        let Some(behind) = behind_record(place, &name, kind, body) else {
+        let Some(behind) = record_end(place, kind, body.len() as u64) else {
             return Err(AllocError);
         };
         let bytes = name.bytes;
@@ -122,15 +150,16 @@ fn push_placed<N: Namer, A: Allocator + Copy>(
     Ok(place)
 }
 
-/// Where the text of a record ends that begins at a place, if that is below 2^64.
-fn behind_record(place: u64, name: &Name, kind: Kind, body: &[u8]) -> Option<u64>
-    ensures { IfSome result (λ behind. behind ≡ place + length (stored_record Two
-        (record { name = name.now.bytes; kind = kind; body = body.now }))) }
+/// Where the text of a record of this kind ends that begins at a place, and whose body has so many bytes, if that is below 2^64. Cost:
+/// constant. Takes no memory. Source: this project's own format.
+pub fn record_end(place: u64, kind: Kind, size: u64) -> Option<u64>
+    ensures { IfSome result (λ behind. (held : Record) → length held.name ≡ 20 → held.kind ≡ kind
+        → length held.body ≡ size → behind ≡ place + length (stored_record Two held)) }
 {
-    // two spaces and an LF stand in the line beside the digits of the name, and an LF behind the body
-    let line = kind.word().len() + digits_length(body.len()) + 2 * name.bytes.as_slice().len() + 4;
+    // the digits of a name, two spaces and an LF stand in the line, and an LF behind the body
+    let line = kind.word().len() + digits_length(size as usize) + 44;
     let begins = place.checked_add(line as u64)?;
-    let behind = begins.checked_add(body.len() as u64)?;
+    let behind = begins.checked_add(size)?;
     Some(behind)
 }
 

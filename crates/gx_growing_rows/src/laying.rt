@@ -86,10 +86,11 @@ pub fn table_behind<A: Allocator + Copy>(
         table.digests.items ≡ page_digests sha256 table.rows.items) }
 {
     let mut rows = rows;
-    let Some(place) = behind.checked_add(line_length(b"rows", rows.len())) else {
+    let count = rows.len();
+    rows.sort_unstable();
+    let Some(place) = behind.checked_add(line_length(b"rows", count)) else {
         return Err(AllocError);
     };
-    rows.sort_unstable();
     let rows = row_bytes(alloc, rows.as_slice())?;
     let digests = page_digests(alloc, rows.as_slice())?;
     Ok(Table {

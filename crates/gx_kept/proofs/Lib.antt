@@ -1,0 +1,3 @@
+mod ListedRecords
+mod SetMarks
+mod Weights

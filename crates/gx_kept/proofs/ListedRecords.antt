@@ -6,7 +6,6 @@ use Rattle.std.specs.List.{AllByRecursion, filter_map, list_any, position, posit
 use Rattle.std.specs.Bool.{passes}
 use Rattle.std.specs.Option.{option_map}
 use Rattle.std.proofs.lemmas.Bool.{false≢true, false_from_ne_true}
-use Rattle.std.proofs.lemmas.Bool.Decides.{nat_tests}
 use Rattle.std.proofs.lemmas.List.{length-map}
 use Rattle.gx_model.specs.declared.objects.Kind.{Kind}
 use Rattle.gx_model.specs.declared.objects.Kind.TheVariants as kinds
@@ -26,6 +25,7 @@ use Rattle.gx_repo.specs.Pruning.{objects_held}
 use Rattle.gx_repo.proofs.Places.{found_before, held_by_all, held_nowhere, is_place, no_place, no_record}
 use Rattle.gx_repo.proofs.PrunedRecords.{entry_links, gitlink_links, store_sound}
 use Rattle.gx_repo.proofs.RecordRooms.{linked_at}
+use Rattle.gx_listed.proofs.Numbers.{position_step}
 use Rattle.gx_listed.specs.Listings.{HaveHeads, Head, Listed, head_of, number_named, shown_head}
 use Rattle.gx_kept.specs.Marking.{IsBelow}
 
@@ -63,20 +63,6 @@ record_listed (o ∷ os) (r ∷ rs) zero one h e =
 record_listed (o ∷ os) (r ∷ rs) (suc k) one h e = let more : map shown_head os ≡ map head_of rs = cc in record_listed os rs k one more e
 
 -- ---- the own number of a record
-
-position_step : {X : Type 0} (test : X → Bool) (x : X) (xs : List X) → position test (x ∷ xs) ≡ cond (test x) (Some 0) (option_map suc (position test xs))
-position_step test x xs = by (test x)
-  where
-    k : ℕ
-    k = position_or_len test xs
-
-    apart : (b c : Bool) → c ≡ b → cond c (Some (1 + k)) None ≡ option_map suc (cond b (Some k) None)
-    apart true c e = ap (λ b. cond b (Some (1 + k)) None) e
-    apart false c e = ap (λ b. cond b (Some (1 + k)) None) e
-
-    by : (b : Bool) → cond (nat_lt (cond (not b) (1 + k) 0) (suc (length xs))) (Some (cond (not b) (1 + k) 0)) None ≡ cond b (Some 0) (option_map suc (position test xs))
-    by true = ap (λ b. cond b (Some 0) None) (let l : nat_lt 0 (suc (length xs)) ≡ true = grind (arith, nat_tests) in l)
-    by false = apart (nat_lt k (length xs)) (nat_lt (1 + k) (suc (length xs))) (grind (arith, nat_tests))
 
 -- a name that no record has isn't that of one of them
 other_there : (n : Bytes) (rs : List Record) (k : ℕ) (held : Record) → list_any (same_bytes n) (map (λ r. r.name) rs) ≡ false → slice_get rs k ≡ Some held → held.name ≡ n → ⊥

@@ -54,7 +54,7 @@ impl<A: Allocator + Copy> Listing<A> {
         ensures pushes { OnOk result (Pushes self.old self.new (name, standing)) }
         ensures unchanged { OnErr result (self.new ≡ self.old) }
     {
-        if self.objects.get(&name).is_some() {
+        if self.number(&name).is_some() {
             return Ok(false);
         }
         match self.objects.insert(name, standing) {

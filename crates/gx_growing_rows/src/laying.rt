@@ -2,7 +2,7 @@
 ghost use Rattle.std.specs.Prelude.{◌≡◌, ℕ, ◌+◌, ◌*◌, ◌≤◌, ◌++◌, codes, drop, length, IfOk, IfSome};
 ghost use Rattle.std.specs.List.{flat_map};
 ghost use Rattle.sha2.specs.Sha256.{sha256};
-ghost use Rattle.gx_model.specs.Histories.{Record};
+ghost use Rattle.gx_model.specs.Texts.{Bytes};
 ghost use Rattle.gx_model.specs.Objects.{line};
 ghost use Rattle.gx_model.specs.Texts.Numbers.{number_text};
 ghost use Rattle.gx_model.specs.declared.store_versions.Version.TheVariants.{Two};
@@ -12,7 +12,7 @@ ghost use Rattle.gx_growing_rows.specs.NextTable.{next_place, next_rows};
 
 use crate::checking::{Row, first_row};
 use gx_growing_parts::{HEAD, digest_of, first_page};
-use gx_object::{Kind, Namer};
+use gx_object::{Kind, Name, Namer};
 use gx_store::Store;
 use itoa::Buffer;
 use std::alloc::{AllocError, Allocator};
@@ -141,7 +141,7 @@ fn push_placed<N: Namer, A: Allocator + Copy>(
         let Some((name, kind, body)) = store.record(at) else {
             unreachable!();
         };
-        let Some(behind) = record_end(place, kind, body.len() as u64) else {
+        let Some(behind) = record_end(place, &name, kind, body.len() as u64) else {
             return Err(AllocError);
         };
         let bytes = name.bytes;
@@ -151,14 +151,15 @@ fn push_placed<N: Namer, A: Allocator + Copy>(
     Ok(place)
 }
 
-/// Where the text of a record of this kind ends that begins at a place, and whose body has so many bytes, if that is below 2^64. Cost:
-/// constant. Takes no memory. Source: this project's own format.
-pub fn record_end(place: u64, kind: Kind, size: u64) -> Option<u64>
-    ensures { IfSome result (λ behind. (held : Record) → length held.name ≡ 20 → held.kind ≡ kind
-        → length held.body ≡ size → behind ≡ place + length (stored_record Two held)) }
+/// Where the text of a record ends that begins at a place, and whose body has so many bytes, if that is below 2^64. Cost: constant.
+/// Takes no memory. Source: this project's own format.
+pub fn record_end(place: u64, name: &Name, kind: Kind, size: u64) -> Option<u64>
+    ensures { IfSome result (λ behind. (body : Bytes) → length body ≡ size
+        → behind ≡ place + length (stored_record Two
+        (record { name = name.now.bytes; kind = kind; body = body }))) }
 {
-    // the digits of a name, two spaces and an LF stand in the line, and an LF behind the body
-    let line = kind.word().len() + digits_length(size as usize) + 44;
+    // two spaces and an LF stand in the line beside the digits of the name, and an LF behind the body
+    let line = kind.word().len() + digits_length(size as usize) + 2 * name.bytes.as_slice().len() + 4;
     let begins = place.checked_add(line as u64)?;
     let behind = begins.checked_add(size)?;
     Some(behind)

@@ -1,6 +1,8 @@
 -- How many objects are marked, and how many bytes the bodies of the others have.
-use Rattle.std.proofs.Common.{◌≡◌, ℕ, zero, suc, ◌+◌, Bool, true, false, cond, List, [], ◌∷◌, length, map, drop, take, Some, refl, sym, ap, ◌∙◌, arith}
-use Rattle.std.specs.List.{filter}
+use Rattle.std.proofs.Common.{◌≡◌, ℕ, zero, suc, ◌+◌, Bool, true, false, cond, List, [], ◌∷◌, length, map, drop, get_or, Some, refl, sym, ap, ◌∙◌, arith}
+use Rattle.std.specs.List.{filter, slice_get}
+use Rattle.std.proofs.lemmas.List.{drop_more}
+use Rattle.std.proofs.lemmas.Option.{get_or_from_slice_get, slice_get_within}
 use Rattle.gx_model.specs.Histories.{Record}
 use Rattle.gx_repo.specs.Pruning.{weight}
 use Rattle.gx_store.specs.Marked.{first_mark, marked}
@@ -31,3 +33,34 @@ marked_heads marks (o ∷ os) (r ∷ rs) h =
         → map shown_head (cond b (o ∷ marked (drop 1 marks) os) (marked (drop 1 marks) os)) ≡ map head_of (cond b (r ∷ marked (drop 1 marks) rs) (marked (drop 1 marks) rs))
     by true e k = λ i. e i ∷ k i
     by false e k = k
+
+-- ---- one after the other
+
+at_mark : (marks : List Bool) (i : ℕ) → first_mark (drop i marks) ≡ get_or marks i false
+at_mark [] zero = refl
+at_mark [] (suc i) = refl
+at_mark (m ∷ marks) zero = refl
+at_mark (m ∷ marks) (suc i) = at_mark marks i
+
+behind_mark : (marks : List Bool) (i : ℕ) → drop 1 (drop i marks) ≡ drop (i + 1) marks
+behind_mark [] zero = refl
+behind_mark [] (suc i) = refl
+behind_mark (m ∷ marks) zero = refl
+behind_mark (m ∷ marks) (suc i) = let s : suc i + 1 ≡ suc (i + 1) = omega arith in rw s (behind_mark marks i)
+
+module _ {X : Type 0} (marks : List Bool) (xs : List X) (i : ℕ) (x : X) (at : slice_get xs i ≡ Some x) where
+  here : drop i xs ≡ x ∷ drop (i + 1) xs
+  here = drop_more xs i x (slice_get_within xs i x at) ∙ ap (λ y. y ∷ drop (i + 1) xs) (get_or_from_slice_get xs i x x at)
+
+  left : (b : Bool) → get_or marks i false ≡ b → marked (drop i marks) (drop i xs) ≡ cond b (x ∷ marked (drop (i + 1) marks) (drop (i + 1) xs)) (marked (drop (i + 1) marks) (drop (i + 1) xs))
+  left b e =
+      ap (marked (drop i marks)) here
+      ∙ (λ j. cond ((at_mark marks i ∙ e) j) (x ∷ marked (behind_mark marks i j) (drop (i + 1) xs)) (marked (behind_mark marks i j) (drop (i + 1) xs)))
+
+  -- one that is marked comes before those that are left
+  pub marked_on : get_or marks i false ≡ true → marked (drop i marks) (drop i xs) ≡ x ∷ marked (drop (i + 1) marks) (drop (i + 1) xs)
+  marked_on e = left true e
+
+  -- one that isn't leaves the same
+  pub marked_past : get_or marks i false ≡ false → marked (drop i marks) (drop i xs) ≡ marked (drop (i + 1) marks) (drop (i + 1) xs)
+  marked_past e = left false e

@@ -66,7 +66,7 @@ fn placed<A: Allocator + Copy>(
             let Some((name, standing)) = listing.get(number) else {
                 unreachable!();
             };
-            let Some(behind) = record_end(place, standing.kind, standing.length) else {
+            let Some(behind) = record_end(place, &name, standing.kind, standing.length) else {
                 return Err(AllocError);
             };
             let bytes = name.bytes;

@@ -1,3 +1,5 @@
 mod ListedRecords
+mod SentRecords
 mod SetMarks
+mod Spreading
 mod Weights

@@ -15,13 +15,18 @@ of_look look.Damaged = Damaged
 
 -- only of what tells no repository it is answered that it is damaged
 abbrev pub IsOnTheWay : {X : Type 0} → Option Records → Result X KeptFault → Type 0
+IsOnTheWay told (Ok x) = ⊤
+IsOnTheWay told (Err OutOfMemory) = ⊤
+IsOnTheWay told (Err ReadFailed) = ⊤
+IsOnTheWay told (Err WriteFailed) = ⊤
 IsOnTheWay told (Err Damaged) = told ≡ None
-IsOnTheWay told _ = ⊤
 
 -- where a text doesn't go out as a whole a front of it does, and the rest isn't empty where the sink failed
 abbrev pub Stops : Bytes → Option Taken → Option Taken → KeptFault → Type 0
 Stops text was now WriteFailed = FailedWithin was now text
-Stops text was now _ = TookFront was now text
+Stops text was now OutOfMemory = TookFront was now text
+Stops text was now ReadFailed = TookFront was now text
+Stops text was now Damaged = TookFront was now text
 
 -- a text went out, or the front of it
 abbrev pub Sends : {X : Type 0} → Bytes → Option Taken → Option Taken → Result X KeptFault → Type 0

@@ -14,7 +14,7 @@ use Rattle.gx_object.specs.declared.name.Name.{Name}
 use Rattle.gx_store.specs.Marked.{marked}
 use Rattle.gx_listed.specs.Listings.{HaveHeads, Listed, head_of, shown_head}
 use Rattle.gx_listed.specs.declared.listing.Standing.{Standing}
-use Rattle.gx_kept.specs.Faults.{Sends}
+use Rattle.gx_kept.specs.Faults.{Stops}
 use Rattle.gx_kept.specs.declared.fault.KeptFault.{KeptFault}
 
 -- what is left of a repository where marks stand, under the same refs
@@ -41,7 +41,7 @@ module _ (name : Kind → Bytes → Bytes) where
       (held : Record) × (head_of held ≡ shown_head (called, standing)) × (held.name ≡ name held.kind held.body) × Took was now (stored_record Two held)
       × IfSome told (λ r. record_named r.records called.bytes ≡ Some held)
   SendsRecord told called standing was now (Err fault) =
-      IfSome told (λ r. (held : Record) → record_named r.records called.bytes ≡ Some held → Sends (stored_record Two held) was now (Err {T = Unit {0}} fault))
+      IfSome told (λ r. (held : Record) → record_named r.records called.bytes ≡ Some held → Stops (stored_record Two held) was now fault)
 
   -- the records of the objects that are marked went out
   abbrev pub SendsRecords : Option Records → List Listed → List Bool → Option Taken → Option Taken → Result (Unit {0}) KeptFault → Type 0
@@ -49,4 +49,4 @@ module _ (name : Kind → Bytes → Bytes) where
       (kept : List Record) × HaveHeads (marked marks listed) kept × AreNamed kept × Took was now (flat_map (stored_record Two) kept)
       × IfSome told (λ r. kept ≡ marked marks r.records)
   SendsRecords told listed marks was now (Err fault) =
-      IfSome told (λ r. Sends (flat_map (stored_record Two) (marked marks r.records)) was now (Err {T = Unit {0}} fault))
+      IfSome told (λ r. Stops (flat_map (stored_record Two) (marked marks r.records)) was now fault)

@@ -1,3 +1,4 @@
+mod LaidMarks
 mod ListedRecords
 mod SentRecords
 mod SetMarks

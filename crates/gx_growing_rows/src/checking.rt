@@ -132,9 +132,8 @@ fn is_above(last: Option<[u8; 20]>, name: &[u8; 20]) -> bool
     }
 }
 
-/// The first row, whose place has its most significant byte first, and those behind it; none where there are fewer than 28 bytes.
-/// Cost: constant. Takes no memory. Source: this project's own format.
-pub fn first_row(rows: &[u8]) -> Option<(Row, &[u8])>
+/// The first row, whose place has its most significant byte first, and those behind it.
+pub(crate) fn first_row(rows: &[u8]) -> Option<(Row, &[u8])>
     ensures { MatchOption result (length rows.now < 28) (λ parts. (28 ≤ length rows.now)
         × (parts.0 ≡ (take 20 rows.now, from_be_bytes w64 (part rows.now 20 8)))
         × (parts.1.now ≡ drop 28 rows.now)) }

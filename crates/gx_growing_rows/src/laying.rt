@@ -109,8 +109,8 @@ pub fn first_place(ends: u64, count: usize) -> Option<u64>
     ends.checked_add(line_length(b"objects", count))
 }
 
-/// The rows that bytes are.
-fn read_rows<A: Allocator + Copy>(alloc: A, bytes: &[u8]) -> Result<Vec<Row, A>, AllocError>
+/// The rows that bytes are, each of 28. Cost and memory: the rows. Source: this project's own format.
+pub fn read_rows<A: Allocator + Copy>(alloc: A, bytes: &[u8]) -> Result<Vec<Row, A>, AllocError>
     ensures { (count : ℕ) → length bytes.now ≡ 28 * count
         → IfOk result (λ rows. rows.items ≡ rows_in count bytes.now) }
 {

@@ -5,6 +5,8 @@
 mod checking;
 mod laying;
 
-pub use checking::{Row, check_rows, first_row};
+pub use checking::{Row, check_rows};
 pub use gx_growing_parts::Run;
-pub use laying::{Table, first_place, first_table, next_table, record_end, table_behind};
+pub use laying::{
+    Table, first_place, first_table, next_table, read_rows, record_end, table_behind,
+};

@@ -19,14 +19,10 @@ use Rattle.gx_look.specs.Tails.{AreWithin}
 
 -- ---- rows
 
--- a place and a name, as a row has them
-abbrev pub row_of : ℕ × Bytes → Row
-row_of at = (at.1, at.0)
-
--- the rows of a run were added, each with its place first; of what tells no text, nothing is claimed
-abbrev pub AddsRows : Option Bytes → GivenRun → List (ℕ × Bytes) → List (ℕ × Bytes) → Type 0
+-- the rows of a run were added; of what tells no text, nothing is claimed
+abbrev pub AddsRows : Option Bytes → GivenRun → List Row → List Row → Type 0
 AddsRows None run old new = ⊤
-AddsRows (Some text) run old new = map row_of new ≡ map row_of old ++ run_rows text (shown_run run)
+AddsRows (Some text) run old new = new ≡ old ++ run_rows text (shown_run run)
 
 -- places that never fall
 abbrev pub NeverFall : List ℕ → Type 0
@@ -34,11 +30,11 @@ NeverFall [] = ⊤
 NeverFall (p ∷ ps) = AllByRecursion (λ later. p ≤ later) ps × NeverFall ps
 
 -- these are the rows of runs, in the order of places
-pub record AreRows (text : Bytes) (runs : List GivenRun) (rows : List (ℕ × Bytes)) : Type 0 where
-  pub all : IsPermutation (live_rows text (map shown_run runs)) (map row_of rows)
-  pub up : NeverFall (map (λ at. at.0) rows)
+pub record AreRows (text : Bytes) (runs : List GivenRun) (rows : List Row) : Type 0 where
+  pub all : IsPermutation (live_rows text (map shown_run runs)) rows
+  pub up : NeverFall (map (λ row. row.1) rows)
 
-abbrev pub AreRowsOf : Option Bytes → List GivenRun → List (ℕ × Bytes) → Type 0
+abbrev pub AreRowsOf : Option Bytes → List GivenRun → List Row → Type 0
 AreRowsOf None runs rows = ⊤
 AreRowsOf (Some text) runs rows = AreRows text runs rows
 
@@ -50,14 +46,14 @@ EndsBeforeRuns (Some text) runs fault = fault ≡ Damaged → AreWithin (length 
 -- ---- records
 
 module _ (text : Bytes) (ends : ℕ) where
-  -- these records stand at these places before an end, under these names
-  abbrev pub AreRecordsAt : (Kind → Bytes → Bytes) → List (ℕ × Bytes) → List Record → Type 0
-  AreRecordsAt name rows records = AllZip (λ at held. IsRecordAt name text ends at.0 at.1 held) rows records
+  -- these records stand at the places in rows before an end, under their names
+  abbrev pub AreRecordsAt : (Kind → Bytes → Bytes) → List Row → List Record → Type 0
+  AreRecordsAt name rows records = AllZip (λ row held. IsRecordAt name text ends row.1 row.0 held) rows records
 
   -- of records that stand so it is listed where they stand, of what kind they are, and how long
-  abbrev pub ListsRecords : List (ℕ × Bytes) → List Listed → Type 0
+  abbrev pub ListsRecords : List Row → List Listed → Type 0
   ListsRecords rows listed =
-      (name : Kind → Bytes → Bytes) (records : List Record) → AreRecordsAt name rows records → HaveHeads listed records × (map (λ one. one.1.place) listed ≡ map (λ at. at.0) rows)
+      (name : Kind → Bytes → Bytes) (records : List Record) → AreRecordsAt name rows records → HaveHeads listed records × (map (λ one. one.1.place) listed ≡ map (λ row. row.1) rows)
 
 -- of the record of a name at a place before an end it is told of what kind it is, and how long
 abbrev pub TellsStanding : Option Bytes → ℕ → ℕ → Name → Result Standing LookFault → Type 0
@@ -66,12 +62,12 @@ TellsStanding (Some text) ends place called result =
     (name : Kind → Bytes → Bytes) (held : Record) → IsRecordAt name text ends place called.bytes held
     → Gives (λ standing. (standing.place ≡ place) × (shown_head (called, standing) ≡ head_of held)) result
 
-abbrev pub ListsRows : Option Bytes → ℕ → List (ℕ × Bytes) → List Listed → Type 0
+abbrev pub ListsRows : Option Bytes → ℕ → List Row → List Listed → Type 0
 ListsRows None ends rows listed = ⊤
 ListsRows (Some text) ends rows listed = ListsRecords text ends rows listed
 
 -- where records stand so whose names differ, nothing is damaged
-abbrev pub RefusesRows : Option Bytes → ℕ → List (ℕ × Bytes) → LookFault → Type 0
+abbrev pub RefusesRows : Option Bytes → ℕ → List Row → LookFault → Type 0
 RefusesRows None ends rows fault = ⊤
 RefusesRows (Some text) ends rows fault =
     fault ≡ Damaged → (name : Kind → Bytes → Bytes) (records : List Record) → AreRecordsAt text ends name rows records → AreDistinct (map (λ held. held.name) records) → ⊥

@@ -1,6 +1,6 @@
 //! All objects of a growing text, by the rows of its live runs.
 
-ghost use Rattle.std.specs.Prelude.{◌+◌, ◌*◌, ◌<◌, ◌^◌, IfErr, IfOk, OnOk};
+ghost use Rattle.std.specs.Prelude.{◌≡◌, ◌+◌, ◌*◌, ◌<◌, ◌^◌, IfErr, IfOk, OnOk};
 ghost use Rattle.gx_look.specs.Listing.{AddsRows, AreRowsOf, EndsBeforeRuns, ListsRows, RefusesRows, TellsStanding};
 ghost use Rattle.gx_look.specs.Reading.{EndsBefore};
 ghost use Rattle.gx_look.specs.Rows.{AreNear};
@@ -9,7 +9,7 @@ use crate::fill::{read_on, refill};
 use crate::records::read_heading;
 use gx_at::ReadAt;
 use gx_growing_parts::Run;
-use gx_growing_rows::first_row;
+use gx_growing_rows::{Row, read_rows};
 use gx_listed::{Listing, Standing};
 use gx_object::Name;
 use gx_objects::LookFault;
@@ -19,12 +19,12 @@ use std::hash::RandomState;
 /// How many bytes are read of a record: its line has fewer.
 const LINE: u64 = 128;
 
-/// The places and names in the rows of runs, the least place first.
+/// The rows of runs, in the order of places.
 pub(crate) fn rows_by_place<S: ReadAt, A: Allocator + Copy>(
     alloc: A,
     source: &S,
     runs: &[Run],
-) -> Result<Vec<(u64, [u8; 20]), A>, LookFault>
+) -> Result<Vec<Row, A>, LookFault>
     requires { AreNear runs.now }
     ensures rows { IfOk result (λ rows. AreRowsOf (S.text source.now) runs.now rows.items) }
     ensures fault { IfErr result (EndsBeforeRuns (S.text source.now) runs.now) }
@@ -32,17 +32,22 @@ pub(crate) fn rows_by_place<S: ReadAt, A: Allocator + Copy>(
     let mut rows = Vec::new(alloc);
     let mut room = Vec::new(alloc);
     for run in runs {
-        push_rows(source, run, &mut rows, &mut room)?;
+        push_rows(alloc, source, run, &mut rows, &mut room)?;
     }
-    rows.sort_unstable();
+    rows.sort_unstable_by_key(|row: &Row| -> u64
+        ensures { result ≡ row.now.1 }
+    {
+        row.1
+    });
     Ok(rows)
 }
 
-/// Pushes the places and names in the rows of a run.
+/// Pushes the rows of a run.
 fn push_rows<S: ReadAt, A: Allocator + Copy>(
+    alloc: A,
     source: &S,
     run: &Run,
-    rows: &mut Vec<(u64, [u8; 20]), A>,
+    rows: &mut Vec<Row, A>,
     room: &mut Vec<u8, A>,
 ) -> Result<(), LookFault>
     requires { run.now.place + 28 * run.now.count < 2 ^ 64 }
@@ -51,11 +56,8 @@ fn push_rows<S: ReadAt, A: Allocator + Copy>(
 {
     room.clear();
     read_on(source, run.place, (28 * run.count) as usize, room)?;
-    let mut rest = room.as_slice();
-    while let Some((row, behind)) = first_row(rest) {
-        rows.push((row.1, row.0))?;
-        rest = behind;
-    }
+    let more = read_rows(alloc, room.as_slice())?;
+    rows.extend_from_slice(more.as_slice())?;
     Ok(())
 }
 
@@ -65,7 +67,7 @@ pub(crate) fn list_rows<S: ReadAt, A: Allocator + Copy>(
     alloc: A,
     source: &S,
     ends: u64,
-    rows: &[(u64, [u8; 20])],
+    rows: &[Row],
     state: RandomState,
 ) -> Result<Listing<A>, LookFault>
     ensures listed { IfOk result (ListsRows (S.text source.now) ends rows.now) }
@@ -73,9 +75,9 @@ pub(crate) fn list_rows<S: ReadAt, A: Allocator + Copy>(
 {
     let mut listing = Listing::new(alloc, state);
     let mut room = Vec::new(alloc);
-    for (place, bytes) in rows {
-        let name = Name { bytes: *bytes };
-        let standing = standing_at(source, ends, *place, &name, &mut room)?;
+    for row in rows {
+        let name = Name { bytes: row.0 };
+        let standing = standing_at(source, ends, row.1, &name, &mut room)?;
         if !listing.push(name, standing)? {
             return Err(LookFault::Damaged);
         }

@@ -1,10 +1,10 @@
 //! What is kept of random stores.
 
 use crate::stores::{Dice, look_into, random_text};
-use gx_kept::{KeptFault, collect, rewrite};
+use gx_kept::{collect, rewrite};
 use gx_object::{Name, Sha1Namer};
 use gx_repo::{Pruned, Repo};
-use gx_text::{Growing, Held};
+use gx_text::Growing;
 use std::alloc::Global;
 use std::hash::RandomState;
 

@@ -3,6 +3,7 @@
 use crate::stores::{Dice, look_into, random_text};
 use gx_kept::{KeptFault, collect};
 use gx_object::{Namer, Sha1Namer};
+use gx_objects::Objects;
 use gx_text::Growing;
 use std::alloc::Global;
 use std::hash::RandomState;
@@ -29,12 +30,19 @@ fn are_named(alloc: Global, text: &[u8], state: RandomState) -> Option<bool> {
     let mut room = Vec::new(alloc);
     for number in 0..listing.len() {
         let (name, standing) = listing.get(number)?;
-        let object = gx_objects::Objects::object_at(&look, standing.place, &name, &mut room).ok()?;
+        let object = look.object_at(standing.place, &name, &mut room).ok()?;
         if Sha1Namer.name(object.kind, object.body) != name {
             return Some(false);
         }
     }
     Some(true)
+}
+
+/// Puts a byte at a place, if the text has one there.
+fn put(text: &mut Vec<u8>, place: usize, byte: u8) {
+    if let Some(held) = text.get_mut(place) {
+        *held = byte;
+    }
 }
 
 /// How many changes of one byte are told as damage, where what goes out otherwise has its names.
@@ -44,7 +52,7 @@ fn damages(alloc: Global, seed: u64, state: RandomState) -> Option<(usize, usize
     let mut told = 0;
     for place in 0..text.len() {
         let held = *text.get(place)?;
-        *text.get_mut(place)? = held ^ 1;
+        put(&mut text, place, held ^ 1);
         match collected(alloc, text.as_slice(), state)? {
             Ok(left) => {
                 if !are_named(alloc, left.as_slice(), state)? {
@@ -54,7 +62,7 @@ fn damages(alloc: Global, seed: u64, state: RandomState) -> Option<(usize, usize
             Err(KeptFault::Damaged) => told += 1,
             Err(_) => return None,
         }
-        *text.get_mut(place)? = held;
+        put(&mut text, place, held);
     }
     Some((told, text.len()))
 }

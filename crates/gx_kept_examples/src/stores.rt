@@ -10,6 +10,7 @@ use std::alloc::Global;
 use std::hash::RandomState;
 
 /// Numbers that look like random ones, the same for each seed.
+#[derive(Drop)]
 pub(crate) struct Dice {
     pub(crate) state: u64,
 }

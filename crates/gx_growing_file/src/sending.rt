@@ -216,7 +216,12 @@ fn send_laid_out<N: Namer, A: Allocator + Copy, W: Sink>(
 }
 
 /// Sends the head of a growing text whose first slot is picked, and says this.
-pub fn send_head<W: Sink>(sink: &mut W, ends: u64, tail: u64, digest: &[u8; 32]) -> Result<(), Failed>
+pub fn send_head<W: Sink>(
+    sink: &mut W,
+    ends: u64,
+    tail: u64,
+    digest: &[u8; 32],
+) -> Result<(), Failed>
     ensures { Sent (head_text (codes "a")
         (slot_text (record { ends = ends; tail = tail; digest = digest.now })) (slot_text no_slot))
         (W.taken sink.old) (W.taken sink.new) result }

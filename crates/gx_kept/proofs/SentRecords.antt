@@ -112,7 +112,7 @@ module _ (name : Kind → Bytes → Bytes) (told : Option Records) (listed : Lis
         by (Some r) k t =
             let rest = marked (drop (i + 1) marks) (drop (i + 1) r.records) in
             let whole : texts (marked marks r.records) ≡ texts h.kept ++ (stored_record Two t.0 ++ texts rest) =
-                ap texts (sym k) ∙ texts_more h.kept (marked (drop i marks) (drop i r.records)) ∙ ap (λ xs. texts h.kept ++ texts xs) (marked_on marks r.records i t.0 t.1 mark) in
+            ap texts (sym k) ∙ texts_more h.kept (marked (drop i marks) (drop i r.records)) ∙ ap (λ xs. texts h.kept ++ texts xs) (marked_on marks r.records i t.0 t.1 mark) in
             left_stops (texts (marked marks r.records)) was now new (stored_record Two t.0) (texts rest) fault (record { front = texts h.kept; parts = whole; took = h.took }) t.2
 
   -- behind the last, all did

@@ -19,7 +19,7 @@ use Rattle.gx_objects.specs.declared.objects.Object.{Object}
 use Rattle.gx_repo.specs.Pruning.{MarksNames, Spreads, marks_by}
 use Rattle.gx_repo.proofs.Places.{no_record}
 use Rattle.gx_repo.proofs.PrunedRecords.{body_at, marks_none, spread_none, spread_on, spread_past}
-use Rattle.gx_listed.specs.Listings.{Head, Listed, ListsIfTold, head_of, shown_head}
+use Rattle.gx_listed.specs.Listings.{Head, Listed, ListsAll, ListsIfTold, head_of, shown_head}
 use Rattle.gx_kept.specs.Marking.{IsBelow, MarksHeld, RefusesOthers, SpreadsAt}
 use Rattle.gx_kept.proofs.ListedRecords.{links_below, own_place, own_record, record_listed, same_length}
 
@@ -84,13 +84,15 @@ module _ (name : Kind → Bytes → Bytes) (stands : ℕ → ℕ) (told : Option
 
     -- and nothing of it is refused
     pub refuses_none : {E : Type 0} (fault : E) → RefusesOthers {X = Unit {0}} listed number object.kind object.body.now (Err fault) → told ≡ None
-    refuses_none fault refused = untold told (both_told told (λ r. IsRecordOf r × IsHeldThere one.0.bytes r object) _ (λ r. ⊥) (λ r p l.
-        let h = p.0 in
-        let o = object_is r h object p.1 in
-        let body : IsBody object.kind object.body.now = subst (λ k. IsBody k object.body.now) (sym o.0) (subst (IsBody h.held.kind) (sym o.1) (body_at [] r.records h.sound_is.linked number h.held h.here)) in
-        let links : links_of h.held.kind h.held.body ≡ links_of object.kind object.body.now = λ i. links_of (sym o.0 i) (sym o.1 i) in
-        refused body (subst (AllByRecursion (IsBelow listed number)) links (links_below name r h.sound_is listed l.heads number h.held h.here)))
-    (both_told told IsRecordOf (λ r. IsHeldThere one.0.bytes r object) (λ r. IsRecordOf r × IsHeldThere one.0.bytes r object) (λ r a b. (a, b)) record_told there) lists)
+    refuses_none fault refused = untold told (both_told told IsRecordOf (λ r. IsHeldThere one.0.bytes r object × ListsAll stands r listed) (λ r. ⊥) clash record_told
+        (both_told told (λ r. IsHeldThere one.0.bytes r object) (λ r. ListsAll stands r listed) (λ r. IsHeldThere one.0.bytes r object × ListsAll stands r listed) (λ r a b. (a, b)) there lists))
+      where
+        clash : (r : Records) → IsRecordOf r → IsHeldThere one.0.bytes r object × ListsAll stands r listed → ⊥
+        clash r h p =
+            let o = object_is r h object p.0 in
+            let body : IsBody object.kind object.body.now = subst (λ k. IsBody k object.body.now) (sym o.0) (subst (IsBody h.held.kind) (sym o.1) (body_at [] r.records h.sound_is.linked number h.held h.here)) in
+            let links : links_of h.held.kind h.held.body ≡ links_of object.kind object.body.now = λ i. links_of (sym o.0 i) (sym o.1 i) in
+            refused body (subst (AllByRecursion (IsBelow listed number)) links (links_below name r h.sound_is listed p.1.heads number h.held h.here))
 
   -- a blob names nothing
   pub blob_spreads : one.1.kind ≡ kinds.Blob → (marks : List Bool) → IfSome told (λ r. SpreadsAt r.records number marks marks)

@@ -32,11 +32,7 @@ fn rewritten(alloc: Global, text: &[u8], state: RandomState) -> Option<Vec<u8>> 
 }
 
 /// Names of some objects, and of none.
-fn some_names(
-    alloc: Global,
-    dice: &mut Dice,
-    repo: &Repo<Sha1Namer, Global>,
-) -> Option<Vec<Name>> {
+fn some_names(alloc: Global, dice: &mut Dice, repo: &Repo<Sha1Namer, Global>) -> Option<Vec<Name>> {
     let mut names = Vec::new(alloc);
     for _ in 0..dice.below(3) {
         let place = dice.below(repo.store().len() as u64);

@@ -22,7 +22,11 @@ impl Dice {
             .state
             .wrapping_mul(6_364_136_223_846_793_005)
             .wrapping_add(1_442_695_040_888_963_407);
-        if most == 0 { 0 } else { (self.state >> 33) % most }
+        if most == 0 {
+            0
+        } else {
+            (self.state >> 33) % most
+        }
     }
 
     /// One of these names.
@@ -48,7 +52,10 @@ const REFS: [&[u8]; 4] = [
     b"refs/remotes/origin/HEAD",
 ];
 
-const TEXTS: [&[u8]; 2] = [b"author A <a@b> 0 +0000\n", b"committer A <a@b> 0 +0000\n\nm\n"];
+const TEXTS: [&[u8]; 2] = [
+    b"author A <a@b> 0 +0000\n",
+    b"committer A <a@b> 0 +0000\n\nm\n",
+];
 
 impl Grown {
     /// An empty one.
@@ -189,10 +196,7 @@ fn append(
 }
 
 /// A look into a text that is read in pieces.
-pub(crate) fn look_into(
-    alloc: Global,
-    text: &[u8],
-) -> Option<Look<TextAt<'_>, Sha1Namer, Global>> {
+pub(crate) fn look_into(alloc: Global, text: &[u8]) -> Option<Look<TextAt<'_>, Sha1Namer, Global>> {
     let piece = 1_000;
     Look::open(alloc, Sha1Namer, TextAt { text, piece }).ok()
 }

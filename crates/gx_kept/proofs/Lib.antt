@@ -1,5 +1,7 @@
+mod GoneObjects
 mod LaidMarks
 mod ListedRecords
+mod MarkedTips
 mod SentRecords
 mod SetMarks
 mod Spreading

@@ -1,5 +1,5 @@
 -- The growing text of the objects that are marked, as far as it went out.
-use Rattle.std.proofs.Common.{◌≡◌, ℕ, ◌<◌, ◌^◌, Bool, List, ◌++◌, codes, length, Option, Some, None, Ok, Err, sym, subst}
+use Rattle.std.proofs.Common.{◌≡◌, ℕ, ◌<◌, ◌^◌, Bool, List, codes, length, Option, Some, None, Ok, Err, sym, subst}
 use Rattle.std.specs.Prelude.{IfSome}
 use Rattle.std.specs.List.{filter, flat_map}
 use Rattle.sha2.specs.Sha256.{sha256}
@@ -16,7 +16,7 @@ use Rattle.gx_model.proofs.Texts.SentTexts.{less_left}
 use Rattle.gx_objects.proofs.Named.{refs_are}
 use Rattle.gx_objects.specs.Answers.{SpellsRefs}
 use Rattle.gx_store.specs.Marked.{marked}
-use Rattle.gx_growing.specs.GrowingText.{growing_text, rows_text}
+use Rattle.gx_growing.specs.GrowingText.{growing_text}
 use Rattle.gx_growing_parts.specs.Shown.{shown_slot}
 use Rattle.gx_growing_file.proofs.SentGrowing.{table}
 use Rattle.gx_growing_file.specs.Sending.{LaysOut}
@@ -27,7 +27,7 @@ use Rattle.gx_kept.specs.Layouts.{LaysOutMarked}
 use Rattle.gx_kept.specs.Sending.{AreNamed, SendsRecords, left_of}
 use Rattle.gx_kept.specs.declared.fault.KeptFault.{KeptFault}
 use Rattle.gx_kept.specs.declared.fault.KeptFault.TheVariants.{WriteFailed}
-use Rattle.gx_kept.proofs.SentMarked.{as_many, count_fails, count_went, head_fails, laid_head, laid_short, records_part, table_fails, table_went}
+use Rattle.gx_kept.proofs.SentMarked.{as_many, count_fails, count_went, head_fails, laid_head, laid_short, laid_table, records_part, table_fails, table_went}
 use Rattle.gx_kept.proofs.SentRecords.{left_stops}
 use Rattle.gx_kept.proofs.Spreading.{both_told}
 use Rattle.gx_kept.proofs.Stopping.{then_told}
@@ -39,11 +39,10 @@ module _ {A : Type 0} (name : Kind → Bytes → Bytes) (namer : IsNamer name) (
   abbrev text : Records → Bytes
   text r = growing_text sha256 (left_of marks r)
 
-  IsLaid : Records → Type 0
+  abbrev IsLaid : Records → Type 0
   IsLaid r = LaysOut (left_of marks r) layout × HaveHeads (marked marks listed) (marked marks r.records)
 
   laid_told : IfSome told IsLaid
-  unfolding IsLaid
   laid_told = by told sound lists spelled
     where
       by : (o : Option Records) → IfSome o (IsSound name) → ListsIfTold o stands listed → IfSome o (λ r. lines ≡ flat_map stored_ref r.refs)
@@ -54,22 +53,18 @@ module _ {A : Type 0} (name : Kind → Bytes → Bytes) (namer : IsNamer name) (
           (laid (marked marks r.records) heads r.refs (refs_are name namer r s) e, heads)
 
   pub short_told : IfSome told (λ r. length (text r) < 2 ^ 63)
-  unfolding IsLaid
   short_told = then_told told IsLaid (λ r. length (text r) < 2 ^ 63) (λ r l. laid_short (left_of marks r) layout l.0 was) laid_told
 
   pub head_stops : (first : Option Taken) → FailedWithin was first (laid_head (shown_slot layout.slot)) → IfSome told (λ r. Stops (text r) was first WriteFailed)
-  unfolding IsLaid
   head_stops first failed = then_told told IsLaid (λ r. Stops (text r) was first WriteFailed) (λ r l. head_fails (left_of marks r) layout l.0 was first failed) laid_told
 
   module _ (count : ℕ) (long : length marks ≡ length listed) (counted : count ≡ length (filter (λ mark. mark) marks)) (first second : Option Taken) (head : Took was first (laid_head (shown_slot layout.slot))) where
     pub count_stops : FailedWithin first second (line (codes "objects") (number_text count)) → IfSome told (λ r. Stops (text r) was second WriteFailed)
-    unfolding IsLaid
     count_stops failed = then_told told IsLaid (λ r. Stops (text r) was second WriteFailed)
         (λ r l. count_fails (left_of marks r) layout l.0 was first second count (as_many listed marks (marked marks r.records) count long l.1 counted) head failed) laid_told
 
     module _ (line_went : Took first second (line (codes "objects") (number_text count))) (third : Option Taken) where
       pub records_stop : (fault : KeptFault) → SendsRecords name told listed marks second third (Err fault) → IfSome told (λ r. Stops (text r) was third fault)
-      unfolding IsLaid
       records_stop fault stops = both_told told IsLaid (λ r. Stops (records_part (left_of marks r)) second third fault) (λ r. Stops (text r) was third fault)
           (λ r l s. left_stops (text r) was second third (records_part (left_of marks r)) (table (left_of marks r)) fault
           (count_went (left_of marks r) layout l.0 was first second count (as_many listed marks (marked marks r.records) count long l.1 counted) head line_went) s) laid_told stops
@@ -79,19 +74,14 @@ module _ {A : Type 0} (name : Kind → Bytes → Bytes) (namer : IsNamer name) (
         went_told : IfSome told (λ r. Took second third (records_part (left_of marks r)))
         went_told = then_told told (λ r. sent.0 ≡ marked marks r.records) (λ r. Took second third (records_part (left_of marks r))) (λ r e. subst (λ kept. Took second third (flat_map (stored_record Two) kept)) e sent.3) sent.4
 
-        abbrev table_text : Bytes
-        table_text = rows_text count (layout.table.rows.items ++ layout.table.digests.items) tail
-
-        pub table_stops : FailedWithin third fourth table_text → IfSome told (λ r. Stops (text r) was fourth WriteFailed)
-        unfolding IsLaid
+        pub table_stops : FailedWithin third fourth (laid_table layout count tail) → IfSome told (λ r. Stops (text r) was fourth WriteFailed)
         table_stops failed = both_told told IsLaid (λ r. Took second third (records_part (left_of marks r))) (λ r. Stops (text r) was fourth WriteFailed)
             (λ r l t.
                 let many = as_many listed marks (marked marks r.records) count long l.1 counted in
                 let left = less_left (text r) was second third (records_part (left_of marks r)) (table (left_of marks r)) (count_went (left_of marks r) layout l.0 was first second count many head line_went) t in
                 table_fails (left_of marks r) layout l.0 was third fourth count tail many tail_is left failed) laid_told went_told
 
-        pub all_went : Took third fourth table_text → IfSome told (λ r. Took was fourth (text r))
-        unfolding IsLaid
+        pub all_went : Took third fourth (laid_table layout count tail) → IfSome told (λ r. Took was fourth (text r))
         all_went last = both_told told IsLaid (λ r. Took second third (records_part (left_of marks r))) (λ r. Took was fourth (text r))
             (λ r l t.
                 let many = as_many listed marks (marked marks r.records) count long l.1 counted in
@@ -99,7 +89,7 @@ module _ {A : Type 0} (name : Kind → Bytes → Bytes) (namer : IsNamer name) (
                 table_went (left_of marks r) layout l.0 was third fourth count tail many tail_is left last) laid_told went_told
 
         -- whatever is told, it is the text of records that have their names
-        pub named_went : SpellsRefs lines → Took third fourth table_text → (kept : Records) × AreNamed name kept.records × Took was fourth (growing_text sha256 kept)
+        pub named_went : SpellsRefs lines → Took third fourth (laid_table layout count tail) → (kept : Records) × AreNamed name kept.records × Took was fourth (growing_text sha256 kept)
         named_went (refs, is, are) last =
             let kept : Records = record { records = sent.0; refs = refs } in
             let lays = laid sent.0 sent.1 refs are is in

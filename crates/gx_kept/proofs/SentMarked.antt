@@ -25,6 +25,14 @@ use Rattle.gx_kept.proofs.Weights.{marked_long}
 pub as_many : (listed : List Listed) (marks : List Bool) (records : List Record) (count : ℕ) → length marks ≡ length listed → HaveHeads (marked marks listed) records → count ≡ length (filter (λ mark. mark) marks) → count ≡ length records
 as_many listed marks records count long heads is = is ∙ sym (marked_long marks listed long) ∙ same_length (marked marks listed) records heads
 
+-- a head with a slot, which is picked
+abbrev pub laid_head : Slot → Bytes
+laid_head slot = head_text (codes "a") (slot_text slot) (slot_text no_slot)
+
+-- a table of so many rows that was laid out, with a tail
+abbrev pub laid_table : {A : Type 0} → Layout A → ℕ → Bytes → Bytes
+laid_table layout count tail = rows_text count (layout.table.rows.items ++ layout.table.digests.items) tail
+
 module _ (r : Records) where
   abbrev pub count_line : Bytes
   count_line = line (codes "objects") (number_text (length r.records))
@@ -36,9 +44,6 @@ module _ (r : Records) where
   begun was = subst (λ t. IsLeft (growing_text sha256 r) was was (head r ++ t)) (append_assoc count_line records_part (table r)) (growing_left r was)
 
   module _ {A : Type 0} (layout : Layout A) (laid : LaysOut r layout) (was : Option Taken) where
-    abbrev laid_head : Slot → Bytes
-    laid_head slot = head_text (codes "a") (slot_text slot) (slot_text no_slot)
-
     -- the head
     pub head_fails : (first : Option Taken) → FailedWithin was first (laid_head (shown_slot layout.slot)) → FailedWithin was first (growing_text sha256 r)
     head_fails first failed =
@@ -64,20 +69,17 @@ module _ (r : Records) where
         (subst (λ n. Took first second (line (codes "objects") (number_text n))) is sent)
 
     -- the table
-    abbrev pub laid_table : ℕ → Bytes → Bytes
-    laid_table count tail = rows_text count (layout.table.rows.items ++ layout.table.digests.items) tail
-
-    table_is : (count : ℕ) (tail : Bytes) → count ≡ length r.records → tail ≡ layout.tail.items → laid_table count tail ≡ table r
+    table_is : (count : ℕ) (tail : Bytes) → count ≡ length r.records → tail ≡ layout.tail.items → laid_table layout count tail ≡ table r
     table_is count tail is ends = λ i. rows_text (is i) (laid.rows i ++ laid.digests i) ((ends ∙ laid.tail) i)
 
     pub table_fails : (third fourth : Option Taken) (count : ℕ) (tail : Bytes) → count ≡ length r.records → tail ≡ layout.tail.items → IsLeft (growing_text sha256 r) was third (table r)
-        → FailedWithin third fourth (laid_table count tail) → FailedWithin was fourth (growing_text sha256 r)
+        → FailedWithin third fourth (laid_table layout count tail) → FailedWithin was fourth (growing_text sha256 r)
     table_fails third fourth count tail is ends left failed =
         left_fails (growing_text sha256 r) was third fourth (table r) [] (subst (IsLeft (growing_text sha256 r) was third) (sym (append-nil (table r))) left)
         (subst (FailedWithin third fourth) (table_is count tail is ends) failed)
 
     pub table_went : (third fourth : Option Taken) (count : ℕ) (tail : Bytes) → count ≡ length r.records → tail ≡ layout.tail.items → IsLeft (growing_text sha256 r) was third (table r)
-        → Took third fourth (laid_table count tail) → Took was fourth (growing_text sha256 r)
+        → Took third fourth (laid_table layout count tail) → Took was fourth (growing_text sha256 r)
     table_went third fourth count tail is ends left sent =
         subst (Took was fourth) (sym left.parts) (took_both was third fourth left.front (table r) left.took (subst (Took third fourth) (table_is count tail is ends) sent))
 

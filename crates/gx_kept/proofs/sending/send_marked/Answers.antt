@@ -47,9 +47,9 @@ returns-in_err-send_count-clause-text g c =
 pub returns-in_err-send_records-clause-text : goal.returns-in_err-send_records-clause-text
 returns-in_err-send_records-clause-text g c =
     let p = err_from_is_err_and c.from_residual-in_err-send_records.result c.from_residual-in_err-send_records.ensures.1 in
-    rw p.1 (records_stop (g.O.Objects.name_of c.args.objects.now) c.sound_if_told.ensures.namer (g.O.Objects.stands c.args.objects.now) (g.O.Objects.told c.args.objects.now) c.args.listing.now c.args.marks.now
+    rw (p.1, p.2) (records_stop (g.O.Objects.name_of c.args.objects.now) c.sound_if_told.ensures.namer (g.O.Objects.stands c.args.objects.now) (g.O.Objects.told c.args.objects.now) c.args.listing.now c.args.marks.now
     c.in_ok-ref_lines.field-0.now c.in_ok-layout.layout c.in_ok-layout.ensures c.sound_if_told.ensures.sound c.requires.listed c.in_ok-ref_lines.ensures.lines (g.W.Sink.taken c.args.sink.now)
-    c.count_marks-count.result c.requires.long c.count_marks-count.ensures (g.W.Sink.taken c.send_head.new.sink) (g.W.Sink.taken c.send_count.new.sink) c.in_ok-send_head.ensures c.in_ok-send_count.ensures (g.W.Sink.taken c.send_records.new.sink) p.0 c.in_err-send_records.ensures.records)
+    c.count_marks-count.result c.requires.long c.count_marks-count.ensures (g.W.Sink.taken c.send_head.new.sink) (g.W.Sink.taken c.send_count.new.sink) c.in_ok-send_head.ensures c.in_ok-send_count.ensures (g.W.Sink.taken c.send_records.new.sink) c.in_err-send_records.field-0 c.in_err-send_records.ensures.records)
 
 pub returns-in_err-send_table-clause-text : goal.returns-in_err-send_table-clause-text
 returns-in_err-send_table-clause-text g c =

@@ -34,8 +34,8 @@ returns-in_err-send_object-clause-records g c =
     let mid = g.W.Sink.taken c.loop-number.sink in
     let now = g.W.Sink.taken c.send_object.new.sink in
     let one : Listed = (c.in-Some.name, c.in-Some.standing) in
-    rw p.1 (one_stops name told listed c.args.marks.now (g.W.Sink.taken c.args.sink.now) c.loop-number.number mid c.loop-number.invariant one (sym c.in-Some.ensures) now p.0 c.if-marks-number.true
-    (stops_told name stands told listed c.sound_if_told.ensures.sound c.requires.listed c.loop-number.number one c.in-Some.ensures mid now p.0 c.in_err-send_object.ensures.record))
+    rw (p.1, p.2) (one_stops name told listed c.args.marks.now (g.W.Sink.taken c.args.sink.now) c.loop-number.number mid c.loop-number.invariant one (sym c.in-Some.ensures) now c.in_err-send_object.field-0 c.if-marks-number.true
+    (stops_told name stands told listed c.sound_if_told.ensures.sound c.requires.listed c.loop-number.number one c.in-Some.ensures mid now c.in_err-send_object.field-0 c.in_err-send_object.ensures.record))
 
 pub loop-number-preserved-then-marks-number : goal.loop-number-preserved-then-marks-number
 loop-number-preserved-then-marks-number g c =

@@ -20,6 +20,6 @@ returns-clause-pushes g c =
     let none = ap (λ v. number_named v n.bytes) c.self.view_is ∙ free in
     elim c.match-insert.branch [
       | in-Ok w ↦ subst (λ r. IfOk r (Pushes c.args.self.now c.insert.new.self.entries (n, c.args.standing))) (sym w.result-is)
-        (w.in-Ok.ensures.entries ∙ insert_entry-new (equality.eq-value).it c.self.inside.objects n c.args.standing (lookup_free n es none) ∙ ap (λ v. v ++ (n, c.args.standing) ∷ []) c.self.view_is, free)
+          (w.in-Ok.ensures.entries ∙ insert_entry-new (equality.eq-value).it c.self.inside.objects n c.args.standing (lookup_free n es none) ∙ ap (λ v. v ++ (n, c.args.standing) ∷ []) c.self.view_is, free)
       | in-Err w ↦ subst (λ r. IfOk r (Pushes c.args.self.now c.insert.new.self.entries (n, c.args.standing))) (sym w.result-is) tt
     ]

@@ -73,6 +73,12 @@ record_listed (o ∷ os) (r ∷ rs) zero one h e =
     (r, refl, ap shown_head (sym same) ∙ head)
 record_listed (o ∷ os) (r ∷ rs) (suc k) one h e = let more : map shown_head os ≡ map head_of rs = cc in record_listed os rs k one more e
 
+-- each number below their count is that of one
+pub some_listed : (listed : List Listed) (k : ℕ) → k < length listed → None ≡ slice_get listed k → ⊥
+some_listed [] k l e = omega (arith, l)
+some_listed (o ∷ os) zero l e = cc
+some_listed (o ∷ os) (suc k) l e = some_listed os k (omega (arith, l)) e
+
 -- ---- the own number of a record
 
 -- a name that no record has isn't that of one of them

@@ -74,10 +74,13 @@ record_listed (o ∷ os) (r ∷ rs) zero one h e =
 record_listed (o ∷ os) (r ∷ rs) (suc k) one h e = let more : map shown_head os ≡ map head_of rs = cc in record_listed os rs k one more e
 
 -- each number below their count is that of one
+pub one_listed : (listed : List Listed) (k : ℕ) → k < length listed → (one : Listed) × (Some one ≡ slice_get listed k)
+one_listed [] k l = absurd (omega (arith, l))
+one_listed (o ∷ os) zero l = (o, refl)
+one_listed (o ∷ os) (suc k) l = one_listed os k (omega (arith, l))
+
 pub some_listed : (listed : List Listed) (k : ℕ) → k < length listed → None ≡ slice_get listed k → ⊥
-some_listed [] k l e = omega (arith, l)
-some_listed (o ∷ os) zero l e = cc
-some_listed (o ∷ os) (suc k) l e = some_listed os k (omega (arith, l)) e
+some_listed listed k l none = let x = one_listed listed k l in let clash : None ≡ Some x.0 = none ∙ sym x.1 in cc clash
 
 -- ---- the own number of a record
 

@@ -1,6 +1,6 @@
 -- What is told of the object of a number: where it stands, what it names, and that nothing is refused.
 use Rattle.std.proofs.Common.{◌≡◌, ℕ, ◌+◌, ◌<◌, ◌≤◌, Bool, true, false, List, [], ◌∷◌, drop, get_or, length, Option, Some, None, Result, Ok, Err, refl, sym, ap, ◌∙◌, subst, arith}
-use Rattle.std.specs.Prelude.{IfSome}
+use Rattle.std.specs.Prelude.{IfSome, OnOk, ⊤}
 use Rattle.std.specs.List.{AllByRecursion, slice_get}
 use Rattle.std.specs.Option.{option_map}
 use Rattle.std.proofs.lemmas.Option.{slice_get-get_or}
@@ -14,13 +14,14 @@ use Rattle.gx_model.specs.Records.Publishing.{Ref}
 use Rattle.gx_model.specs.Records.Sound.{IsSound}
 use Rattle.gx_model.specs.Texts.{Bytes}
 use Rattle.gx_store.specs.Stores.{place_named}
-use Rattle.gx_objects.specs.Answers.{IsHeldThere, StandsIfTold}
+use Rattle.gx_objects.specs.Answers.{IsHeldThere, OnlyUntold, StandsIfTold}
+use Rattle.gx_objects.specs.declared.fault.LookFault.{LookFault}
 use Rattle.gx_objects.specs.declared.objects.Object.{Object}
 use Rattle.gx_repo.specs.Pruning.{MarksNames, Spreads, marks_by}
 use Rattle.gx_repo.proofs.Places.{no_record}
 use Rattle.gx_repo.proofs.PrunedRecords.{body_at, marks_none, spread_none, spread_on, spread_past}
 use Rattle.gx_listed.specs.Listings.{Head, Listed, ListsAll, ListsIfTold, head_of, shown_head}
-use Rattle.gx_kept.specs.Marking.{IsBelow, MarksHeld, RefusesOthers, SpreadsAt}
+use Rattle.gx_kept.specs.Marking.{IsBelow, MarksHeld, MarksListed, RefusesOthers, SpreadsAt}
 use Rattle.gx_kept.proofs.ListedRecords.{links_below, own_place, own_record, record_listed, same_length}
 
 -- ---- what is told, or isn't
@@ -93,6 +94,19 @@ module _ (name : Kind → Bytes → Bytes) (stands : ℕ → ℕ) (told : Option
             let body : IsBody object.kind object.body.now = subst (λ k. IsBody k object.body.now) (sym o.0) (subst (IsBody h.held.kind) (sym o.1) (body_at [] r.records h.sound_is.linked number h.held h.here)) in
             let links : links_of h.held.kind h.held.body ≡ links_of object.kind object.body.now = λ i. links_of (sym o.0 i) (sym o.1 i) in
             refused body (subst (AllByRecursion (IsBelow listed number)) links (links_below name r h.sound_is listed p.1.heads number h.held h.here))
+
+    -- so it is whatever comes of its links
+    pub links_spread : {E : Type 0} (old new : List Bool) (result : Result (Unit {0}) E) → MarksListed listed (links_of object.kind object.body.now) old new result → IfSome told (λ r. OnOk result (SpreadsAt r.records number old new))
+    links_spread old new (Ok done) m = names_marked_of old new m
+    links_spread old new (Err fault) m = by told
+      where
+        by : (o : Option Records) → IfSome o (λ r. ⊤)
+        by None = tt
+        by (Some r) = tt
+
+    pub links_untold : (result : Result (Unit {0}) LookFault) → RefusesOthers listed number object.kind object.body.now result → OnlyUntold told result
+    links_untold (Ok done) h = tt
+    links_untold (Err fault) h = λ damaged. refuses_none fault h
 
   -- a blob names nothing
   pub blob_spreads : one.1.kind ≡ kinds.Blob → (marks : List Bool) → IfSome told (λ r. SpreadsAt r.records number marks marks)

@@ -1,8 +1,11 @@
 use Rattle.std.proofs.Common.{◌≡◌, ◌+◌, ◌*◌, ◌≤◌, arith}
-use Rattle.gx_kept.proofs.GoneObjects.{all_gone, all_weighed, one_gone, one_stays}
+use Rattle.gx_kept.proofs.GoneObjects.{all_gone, all_weighed, none_gone, one_gone, one_stays}
 use Rattle.gx_kept.proofs.ListedRecords.{one_listed}
 use Rattle.gx_kept.proofs.gone.gone.Goals.{else-not-marks-number, then-not-marks-number+in-Some}
 use Rattle.gx_kept.proofs.gone.gone.Goals as goal
+
+pub loop-number-init : goal.loop-number-init
+loop-number-init g c = (none_gone c.args.listing.now c.args.marks.now, omega arith, omega arith)
 
 pub loop-number-preserved : goal.loop-number-preserved
 loop-number-preserved g c =

@@ -24,6 +24,11 @@ loop-entry-init g c =
       subst (λ left. MarksListedSoFar listed names left c.args.marks.now c.args.marks.now) (ap (filter_map link_of) (entries_read es body c.in-Ok.ensures.found ∙ sym same)) (listed_none listed names c.args.marks.now),
     )
 
+pub returns-in_err-mark_below-clause-marks : goal.returns-in_err-mark_below-clause-marks
+returns-in_err-mark_below-clause-marks g c =
+    let p = err_from_is_err_and c.from_residual.result c.from_residual.ensures.1 in
+    rw p.1 tt
+
 pub returns-in_err-mark_below-clause-refused : goal.returns-in_err-mark_below-clause-refused
 returns-in_err-mark_below-clause-refused g c =
     let p = err_from_is_err_and c.from_residual.result c.from_residual.ensures.1 in

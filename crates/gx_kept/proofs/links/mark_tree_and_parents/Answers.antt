@@ -12,6 +12,11 @@ use Rattle.gx_kept.proofs.links.mark_tree_and_parents.Goals as goal
 pub returns-in_default-clause-refused : goal.returns-in_default-clause-refused
 returns-in_default-clause-refused g c = λ body below. c.in_default.ensures.only body.0 body.1
 
+pub returns-in_err-mark_below-clause-marks : goal.returns-in_err-mark_below-clause-marks
+returns-in_err-mark_below-clause-marks g c =
+    let p = err_from_is_err_and c.from_residual.result c.from_residual.ensures.1 in
+    rw p.1 tt
+
 pub returns-in_err-mark_below-clause-refused : goal.returns-in_err-mark_below-clause-refused
 returns-in_err-mark_below-clause-refused g c =
     let p = err_from_is_err_and c.from_residual.result c.from_residual.ensures.1 in
@@ -39,6 +44,11 @@ unreachable-requires-in_default-parent g c =
     let there = slice_get-get_or ns c.loop-number.number [] (omega (arith, c.loop-number-test.true, c.parent_count-number-end.ensures)) in
     let clash : None ≡ Some (get_or ns c.loop-number.number []) = c.in_default-parent.ensures ∙ there in
     cc
+
+pub returns-in_err-mark_below-2-clause-marks : goal.returns-in_err-mark_below-2-clause-marks
+returns-in_err-mark_below-2-clause-marks g c =
+    let p = err_from_is_err_and c.from_residual-in_err-mark_below-2.result c.from_residual-in_err-mark_below-2.ensures.1 in
+    rw p.1 tt
 
 pub returns-in_err-mark_below-2-clause-refused : goal.returns-in_err-mark_below-2-clause-refused
 returns-in_err-mark_below-2-clause-refused g c =

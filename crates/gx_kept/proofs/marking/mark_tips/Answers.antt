@@ -9,6 +9,11 @@ use Rattle.gx_kept.proofs.marking.mark_tips.Goals as goal
 pub loop-change-init : goal.loop-change-init
 loop-change-init g c = (refl, λ refs are e. tips_begun c.args.listing.now refs c.args.marks.now c.args.lines.now are e)
 
+pub returns-in_err-mark_below-clause-marks : goal.returns-in_err-mark_below-clause-marks
+returns-in_err-mark_below-clause-marks g c =
+    let p = err_from_is_err_and c.from_residual.result c.from_residual.ensures.1 in
+    rw p.1 (λ refs are e. tt)
+
 pub returns-in_err-mark_below-clause-refused : goal.returns-in_err-mark_below-clause-refused
 returns-in_err-mark_below-clause-refused g c =
     let p = err_from_is_err_and c.from_residual.result c.from_residual.ensures.1 in

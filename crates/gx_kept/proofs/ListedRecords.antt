@@ -1,8 +1,8 @@
 -- Objects that are listed, as the records that they are: their numbers are the places of records, and what a record names has a lower
 -- one.
-use Rattle.std.proofs.Common.{◌≡◌, ◌⊎◌, inl, inr, ℕ, zero, suc, ◌+◌, ◌<◌, Bool, true, false, cond, List, [], ◌∷◌, length, map, take, get_or, Option, Some, None, refl, sym, ap, ◌∙◌, subst, arith}
+use Rattle.std.proofs.Common.{◌≡◌, inl, inr, ℕ, zero, suc, ◌+◌, ◌<◌, Bool, true, false, cond, List, [], ◌∷◌, length, map, take, Option, Some, None, refl, sym, ap, ◌∙◌, subst, arith}
 use Rattle.std.specs.Prelude.{◌||◌, nat_lt, not}
-use Rattle.std.specs.List.{AllByRecursion, filter_map, list_any, position, position_or_len, slice_get}
+use Rattle.std.specs.List.{AllByRecursion, filter_map, list_any, position_or_len, slice_get}
 use Rattle.std.specs.Bool.{passes}
 use Rattle.std.specs.Option.{option_map}
 use Rattle.std.proofs.lemmas.Bool.{false≢true, false_from_ne_true}
@@ -28,7 +28,7 @@ use Rattle.gx_repo.proofs.Places.{found_before, held_by_all, held_nowhere, is_pl
 use Rattle.gx_repo.proofs.PrunedRecords.{entry_links, gitlink_links, store_sound}
 use Rattle.gx_repo.proofs.RecordRooms.{linked_at}
 use Rattle.gx_listed.proofs.Numbers.{position_step}
-use Rattle.gx_listed.specs.Listings.{HaveHeads, Head, Listed, head_of, number_named, shown_head}
+use Rattle.gx_listed.specs.Listings.{HaveHeads, Listed, head_of, number_named, shown_head}
 use Rattle.gx_kept.specs.Marking.{IsBelow}
 
 -- ---- numbers

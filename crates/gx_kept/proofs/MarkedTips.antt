@@ -152,7 +152,6 @@ module _ (name : Kind → Bytes → Bytes) (namer : IsNamer name) (stands : ℕ 
       nothing : (o : Option Records) → IfSome o (λ r. ⊤)
       nothing None = tt
       nothing (Some r) = tt
-
   marks_are names none tips kept marks fresh held beside (Ok done) spreads = by told sound lists are_lines spreads
     where
       by : (o : Option Records) → IfSome o (IsSound name) → ListsIfTold o stands listed → IfSome o (λ r. lines ≡ flat_map stored_ref r.refs) → IfSome o (λ r. Spreads r.records kept marks)

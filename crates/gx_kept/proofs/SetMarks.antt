@@ -1,14 +1,12 @@
 -- Marks that are set at the numbers of names.
-use Rattle.std.proofs.Common.{◌≡◌, ℕ, ◌∙◌, Bool, true, List, [], ◌∷◌, ◌++◌, append_assoc, append-nil, map, set, Some, None, Result, Ok, Err, refl, sym, subst}
+use Rattle.std.proofs.Common.{◌≡◌, ℕ, ◌∙◌, Bool, true, List, [], ◌∷◌, ◌++◌, append_assoc, append-nil, set, Some, None, Result, Ok, Err, refl, sym, subst}
 use Rattle.std.specs.Prelude.{IfErr}
 use Rattle.std.specs.List.{AllByRecursion}
 use Rattle.gx_model.specs.declared.objects.Kind.{Kind}
 use Rattle.gx_model.specs.Pruning.{links_of}
 use Rattle.gx_model.specs.Texts.{Bytes}
-use Rattle.gx_model.specs.Histories.{AreDistinct, Record}
-use Rattle.gx_repo.specs.Pruning.{MarksNames}
 use Rattle.gx_repo.proofs.PrunedRecords.{mark_nowhere, mark_there, marks_both, marks_none}
-use Rattle.gx_listed.specs.Listings.{HaveHeads, Listed, number_named}
+use Rattle.gx_listed.specs.Listings.{Listed, number_named}
 use Rattle.gx_kept.specs.Marking.{IsBelow, MarksHeld, RefusesOthers}
 use Rattle.gx_kept.proofs.ListedRecords.{number_is}
 

@@ -1,5 +1,5 @@
 -- What is told of the object of a number: where it stands, what it names, and that nothing is refused.
-use Rattle.std.proofs.Common.{◌≡◌, ℕ, ◌+◌, ◌<◌, ◌≤◌, Bool, true, false, List, [], ◌∷◌, drop, get_or, length, Option, Some, None, Result, Ok, Err, refl, sym, ap, ◌∙◌, subst, arith}
+use Rattle.std.proofs.Common.{◌≡◌, ℕ, ◌+◌, ◌<◌, Bool, true, false, List, [], drop, get_or, length, Option, Some, None, Result, Ok, Err, refl, sym, ap, ◌∙◌, subst, arith}
 use Rattle.std.specs.Prelude.{IfSome, OnOk, ⊤}
 use Rattle.std.specs.List.{AllByRecursion, slice_get}
 use Rattle.std.specs.Option.{option_map}
@@ -76,11 +76,11 @@ module _ (name : Kind → Bytes → Bytes) (stands : ℕ → ℕ) (told : Option
     pub names_marked_of : (old new : List Bool) → MarksHeld listed (links_of object.kind object.body.now) old new → IfSome told (λ r. SpreadsAt r.records number old new)
     names_marked_of old new m =
         both_told told (λ r. IsRecordOf r × IsHeldThere one.0.bytes r object) (λ r. ListsAll stands r listed) (λ r. SpreadsAt r.records number old new) (λ r p l held here.
-            let h = p.0 in
-            let same : held ≡ h.held = let e = sym here ∙ h.here in cc in
-            let o = object_is r h object p.1 in
-            let links : links_of object.kind object.body.now ≡ links_of held.kind held.body = (λ i. links_of (o.0 i) (o.1 i)) ∙ ap (λ (x : Record). links_of x.kind x.body) (sym same) in
-            subst (λ ns. MarksNames r.records ns old new) links (m r.records l.heads h.sound_is.distinct))
+        let h = p.0 in
+        let same : held ≡ h.held = let e = sym here ∙ h.here in cc in
+        let o = object_is r h object p.1 in
+        let links : links_of object.kind object.body.now ≡ links_of held.kind held.body = (λ i. links_of (o.0 i) (o.1 i)) ∙ ap (λ (x : Record). links_of x.kind x.body) (sym same) in
+        subst (λ ns. MarksNames r.records ns old new) links (m r.records l.heads h.sound_is.distinct))
         (both_told told IsRecordOf (λ r. IsHeldThere one.0.bytes r object) (λ r. IsRecordOf r × IsHeldThere one.0.bytes r object) (λ r a b. (a, b)) record_told there) lists
 
     -- and nothing of it is refused

@@ -16,7 +16,7 @@ loop-number-preserved g c =
     let bytes = c.loop-number.bytes in
     let there = one_listed listed i (omega (arith, c.loop-number-test.true, c.len-number-end.ensures)) in
     elim c.if-not-marks-number.branch [
-      then-not-marks-number+in-Some w ↦ rw (w.objects-is, w.bytes-is) (
+      | then-not-marks-number+in-Some w ↦ rw (w.objects-is, w.bytes-is) (
         one_gone listed marks i objects bytes c.loop-number.invariant.0 _ w.in-Some.ensures w.if-not-marks-number.true,
         omega (arith, c.loop-number.invariant.1),
         ?,

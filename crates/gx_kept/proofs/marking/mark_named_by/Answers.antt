@@ -1,4 +1,4 @@
-use Rattle.std.proofs.Common.{◌≡◌, arith, rules}
+use Rattle.std.proofs.Common.{◌≡◌, rules}
 use Rattle.gx_model.specs.declared.objects.Kind.TheVariants as kinds
 use Rattle.gx_kept.proofs.ListedRecords.{some_listed}
 use Rattle.gx_kept.proofs.Spreading.{blob_spreads, links_spread, links_untold, stands_listed}

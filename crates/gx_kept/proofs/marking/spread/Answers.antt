@@ -1,4 +1,4 @@
-use Rattle.std.proofs.Common.{◌≡◌, ◌+◌, ◌-◌, ◌∙◌, length, refl, sym, subst, arith}
+use Rattle.std.proofs.Common.{◌≡◌, ◌+◌, ◌-◌, length, refl, sym, subst, arith}
 use Rattle.std.specs.Prelude.{IfSome}
 use Rattle.gx_kept.proofs.Spreading.{SpreadFrom, all_listed, spread_begun, spread_done, spread_more, spread_same, within_told}
 use Rattle.gx_kept.proofs.marking.spread.Goals as goal

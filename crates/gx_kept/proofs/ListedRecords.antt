@@ -144,7 +144,7 @@ module _ (rs : List Record) (k : ℕ) where
       by File q a rest = more (kind_before kinds.Blob e.name a) rest (λ g. absurd (let clash = sym q ∙ g in cc clash))
       by Exec q a rest = more (kind_before kinds.Blob e.name a) rest (λ g. absurd (let clash = sym q ∙ g in cc clash))
       by Link q a rest = more (kind_before kinds.Blob e.name a) rest (λ g. absurd (let clash = sym q ∙ g in cc clash))
-      by Dir q a rest = more (before_of _ e.name (λ r p. p.1.0) a) rest (λ g. absurd (let clash = sym q ∙ g in cc clash))
+      by Dir q a rest = more (before_of _ e.name (λ r p. p.1) a) rest (λ g. absurd (let clash = sym q ∙ g in cc clash))
       by Gitlink q a rest = subst (AllByRecursion StandsBefore) (sym (gitlink_links e es q)) rest
 
   parents_before : (ns : List Bytes) → AllByRecursion (Holds (take k rs) kinds.Commit) ns → AllByRecursion StandsBefore ns
@@ -183,7 +183,7 @@ tips_below name r s listed h = by r.refs s.held
 
     one : (ref called : Bytes) → IsTarget r.records ref called → IsBelow listed (length listed) called
     one ref called (inl a) = there _ called (λ held p. p.1) a
-    one ref called (inr a) = there _ called (λ held p. p.1.0) a
+    one ref called (inr a) = there _ called (λ held p. p.1) a
 
     by : (refs : List Ref) → AllByRecursion (λ ref. IsTarget r.records ref.0 ref.1) refs → AllByRecursion (IsBelow listed (length listed)) (objects_held refs)
     by [] a = tt

@@ -39,8 +39,8 @@ returns-in_err-mark_below-clause-refused g c =
     let ahead = subst (λ left. MarksListedSoFar listed names left c.args.marks.now c.loop-entry.marks) step c.loop-entry.invariant.1 in
     rw p.1 (λ body below. c.in_err-mark_below.ensures.refused (next_has (IsBelow listed c.args.limit) listed names (filter_map link_of c.next.new.self) e.name c.args.marks.now c.loop-entry.marks ahead below))
 
-pub loop-entry-preserved-in_ok-mark_below : goal.loop-entry-preserved-in_ok-mark_below
-loop-entry-preserved-in_ok-mark_below g c =
+pub loop-entry-preserved-in-Continue-1 : goal.loop-entry-preserved-in-Continue-1
+loop-entry-preserved-in-Continue-1 g c =
     let listed = c.args.listing.now in
     let names = links_of kinds.Tree c.args.body.now in
     let e = shown c.in-Some.entry in

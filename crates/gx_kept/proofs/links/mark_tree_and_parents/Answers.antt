@@ -38,8 +38,8 @@ loop-number-init g c =
       listed_next listed names ns c.tree.result.bytes c.args.marks.now c.args.marks.now c.mark_below.new.marks ahead c.in_ok-mark_below.ensures.marks,
     )
 
-pub unreachable-requires-in_default-parent : goal.unreachable-requires-in_default-parent
-unreachable-requires-in_default-parent g c =
+pub unreachable-requires : goal.unreachable-requires
+unreachable-requires g c =
     let ns = c.in-Ok.commit.parents in
     let there = slice_get-get_or ns c.loop-number.number [] (omega (arith, c.loop-number-test.true, c.parent_count-number-end.ensures)) in
     let clash : None ≡ Some (get_or ns c.loop-number.number []) = c.in_default-parent.ensures ∙ there in

@@ -75,10 +75,9 @@ fn mark_tips<A: Allocator + Copy>(
     ensures refused { RefusesTips listing.now lines.now result }
     ensures fault { IfErr result (λ fault. fault ≡ Damaged) }
 {
-    let count = marks.len();
     let mut rest = lines;
     while let Ok((change, behind)) = read_ref(rest) {
-        mark_below(listing, marks, count, &change.target)?;
+        mark_below(listing, marks, listing.len(), &change.target)?;
         rest = behind;
     }
     Ok(())

@@ -1,4 +1,4 @@
-use Rattle.std.proofs.Common.{◌≡◌, ◌+◌, ◌*◌, ◌≤◌, arith}
+use Rattle.std.proofs.Common.{◌≡◌, ◌+◌, ◌*◌, ◌≤◌, arith, rules}
 use Rattle.gx_kept.proofs.GoneObjects.{all_gone, all_weighed, none_gone, one_gone, one_stays}
 use Rattle.gx_kept.proofs.ListedRecords.{one_listed}
 use Rattle.gx_kept.proofs.gone.gone.Goals.{else-not-marks-number, then-not-marks-number+in-Some}
@@ -19,7 +19,7 @@ loop-number-preserved g c =
       | then-not-marks-number+in-Some w ↦ rw (w.objects-is, w.bytes-is) (
         one_gone listed marks i objects bytes c.loop-number.invariant.0 _ w.in-Some.ensures w.if-not-marks-number.true,
         omega (arith, c.loop-number.invariant.1),
-        ?,
+        search (rules, c.loop-number.invariant.2),
       )
       | else-not-marks-number w ↦ rw (w.objects-is, w.bytes-is) (one_stays listed marks i objects bytes c.loop-number.invariant.0 there.0 there.1 w.if-not-marks-number.false, omega (arith, c.loop-number.invariant.1), omega (arith, c.loop-number.invariant.2))
     ]

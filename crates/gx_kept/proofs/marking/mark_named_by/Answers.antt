@@ -13,10 +13,10 @@ returns-then-eq-clause-marks g c =
     let blob : c.in-Some.standing.kind ≡ kinds.Blob = search (rules, c.if-eq.true, c.eq.ensures) in
     blob_spreads (g.O.Objects.name_of o) (g.O.Objects.stands o) (g.O.Objects.told o) c.args.listing.now c.sound_if_told.ensures.sound c.requires.listed c.args.number (c.in-Some.name, c.in-Some.standing) c.in-Some.ensures blob c.args.marks.now
 
-pub object_at-requires-clause-there : goal.object_at-requires-clause-there
-object_at-requires-clause-there g c =
+pub object_at-requires : goal.object_at-requires
+object_at-requires g c =
     let o = c.args.objects.now in
-    stands_listed (g.O.Objects.name_of o) (g.O.Objects.stands o) (g.O.Objects.told o) c.args.listing.now c.sound_if_told.ensures.sound c.requires.listed c.args.number (c.in-Some.name, c.in-Some.standing) c.in-Some.ensures
+    record { there = stands_listed (g.O.Objects.name_of o) (g.O.Objects.stands o) (g.O.Objects.told o) c.args.listing.now c.sound_if_told.ensures.sound c.requires.listed c.args.number (c.in-Some.name, c.in-Some.standing) c.in-Some.ensures }
 
 pub returns-clause-marks : goal.returns-clause-marks
 returns-clause-marks g c =

@@ -1,4 +1,4 @@
-use Rattle.std.proofs.Common.{◌≡◌, length, refl, subst, arith}
+use Rattle.std.proofs.Common.{◌≡◌, length, refl, sym, subst, arith}
 use Rattle.std.specs.List.{AllByRecursion}
 use Rattle.std.proofs.lemmas.Result.{err_from_is_err_and}
 use Rattle.gx_repo.specs.Pruning.{objects_held}
@@ -19,8 +19,8 @@ returns-in_err-mark_below-clause-refused g c =
     let p = err_from_is_err_and c.from_residual.result c.from_residual.ensures.1 in
     let listed = c.args.listing.now in
     let change = c.in-Ok.change in
-    let count : length listed ≡ c.len-count.result = omega (arith, c.requires.long, c.len-count.ensures) in
-    rw p.1 (λ refs are e all. tip_refused listed refs c.args.marks.now c.loop-change.rest.now c.loop-change.marks (c.loop-change.invariant.1 refs are e) (change.name.now, change.target.bytes) c.in-Ok.behind.now c.in-Ok.ensures.change c.len-count.result
+    let count : length listed ≡ c.len.result = sym c.len.ensures in
+    rw p.1 (λ refs are e all. tip_refused listed refs c.args.marks.now c.loop-change.rest.now c.loop-change.marks (c.loop-change.invariant.1 refs are e) (change.name.now, change.target.bytes) c.in-Ok.behind.now c.in-Ok.ensures.change c.len.result
     c.in_err-mark_below.ensures.refused (subst (λ n. AllByRecursion (IsBelow listed n) (objects_held refs)) count all))
 
 pub loop-change-preserved : goal.loop-change-preserved

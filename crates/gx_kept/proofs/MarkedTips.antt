@@ -27,13 +27,27 @@ use Rattle.gx_lines.specs.Reads.{IsFaultOf}
 use Rattle.gx_file.specs.Gathering.{first_ref, ref_of_line, with_rest}
 use Rattle.gx_file.proofs.SetRefs.{line_read}
 use Rattle.gx_objects.specs.Answers.{AreRefs}
-use Rattle.gx_objects.proofs.Named.{refs_are}
+use Rattle.gx_model.proofs.Stores.StoredRefs.{targets_name}
+use Rattle.std.specs.Prelude.{T}
 use Rattle.gx_repo.specs.Pruning.{Spreads, is_kept_beside, marks_by, objects_held, tips_of}
 use Rattle.gx_repo.proofs.PrunedRecords.{names_marked, none_marked, tips_marked}
 use Rattle.gx_listed.specs.Listings.{Listed, ListsIfTold}
 use Rattle.gx_kept.specs.Marking.{IsBelow, MarksHeld}
 use Rattle.gx_kept.proofs.ListedRecords.{same_length, tips_below}
 use Rattle.gx_kept.proofs.SetMarks.{MarksListedSoFar, listed_all, listed_next, listed_none, next_has}
+
+-- ---- refs
+
+refs_are : (name : Kind → Bytes → Bytes) → IsNamer name → (r : Records) → IsSound name r → AreRefs r.refs
+refs_are name namer r sound = record {
+  sorted = sound.sorted;
+  names = sound.ref_names;
+  objects = named r.refs (targets_name name namer r.records sound.distinct sound.named r.refs sound.held);
+}
+  where
+    named : (refs : List (Bytes × Bytes)) → AllByRecursion (λ ref. T (is_name ref.1)) refs → AllByRecursion (λ ref. IsTrue (is_name ref.1)) refs
+    named [] h = tt
+    named (x ∷ xs) h = (is_true _ h.0, named xs h.1)
 
 -- ---- one line
 

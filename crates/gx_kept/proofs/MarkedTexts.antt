@@ -1,11 +1,11 @@
 -- The growing text of the objects that are marked, as far as it went out.
-use Rattle.std.proofs.Common.{◌≡◌, ℕ, ◌<◌, ◌^◌, Bool, List, codes, length, Option, Some, None, Ok, Err, sym, subst}
+use Rattle.std.proofs.Common.{◌≡◌, ℕ, ◌<◌, ◌^◌, Bool, List, codes, length, Option, Some, None, Ok, Err, subst}
 use Rattle.std.specs.Prelude.{IfSome}
 use Rattle.std.specs.List.{filter, flat_map}
 use Rattle.sha2.specs.Sha256.{sha256}
 use Rattle.gx_model.specs.declared.objects.Kind.{Kind}
 use Rattle.gx_model.specs.declared.store_versions.Version.TheVariants.{Two}
-use Rattle.gx_model.specs.Histories.{Record, Records}
+use Rattle.gx_model.specs.Histories.{Records}
 use Rattle.gx_model.specs.Objects.{IsNamer, line}
 use Rattle.gx_model.specs.Records.Sound.{IsSound}
 use Rattle.gx_model.specs.Stores.StoreText.{stored_record, stored_ref}
@@ -13,7 +13,7 @@ use Rattle.gx_model.specs.Texts.{Bytes}
 use Rattle.gx_model.specs.Texts.Numbers.{number_text}
 use Rattle.gx_model.specs.Texts.Sinks.{FailedWithin, Taken, Took}
 use Rattle.gx_model.proofs.Texts.SentTexts.{less_left}
-use Rattle.gx_objects.proofs.Named.{refs_are}
+use Rattle.gx_kept.proofs.MarkedTips.{refs_are}
 use Rattle.gx_objects.specs.Answers.{SpellsRefs}
 use Rattle.gx_store.specs.Marked.{marked}
 use Rattle.gx_growing.specs.GrowingText.{growing_text}

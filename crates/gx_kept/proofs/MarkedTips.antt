@@ -38,7 +38,7 @@ use Rattle.gx_kept.proofs.SetMarks.{MarksListedSoFar, listed_all, listed_next, l
 
 -- ---- refs
 
-refs_are : (name : Kind → Bytes → Bytes) → IsNamer name → (r : Records) → IsSound name r → AreRefs r.refs
+pub refs_are : (name : Kind → Bytes → Bytes) → IsNamer name → (r : Records) → IsSound name r → AreRefs r.refs
 refs_are name namer r sound = record {
   sorted = sound.sorted;
   names = sound.ref_names;

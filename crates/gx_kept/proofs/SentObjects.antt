@@ -1,5 +1,5 @@
 -- An object that goes out: it is the record of the repository that is told.
-use Rattle.std.proofs.Common.{◌≡◌, ℕ, Bool, true, false, length, Option, Some, None, Err, refl, sym, ap, ◌∙◌, subst}
+use Rattle.std.proofs.Common.{◌≡◌, ℕ, Bool, true, false, length, Option, Some, None, refl, sym, ap, ◌∙◌, subst}
 use Rattle.std.specs.Prelude.{IfSome, IsTrue, ◌↔◌, List}
 use Rattle.std.specs.List.{slice_get}
 use Rattle.std.specs.Option.{option_map}

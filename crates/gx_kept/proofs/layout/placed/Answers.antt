@@ -1,4 +1,4 @@
-use Rattle.std.proofs.Common.{◌≡◌, ◌++◌, ◌∷◌, [], ◌∙◌, arith, List, refl, subst, sym}
+use Rattle.std.proofs.Common.{arith, subst, sym}
 use Rattle.std.specs.Prelude.{◌+◌}
 use Rattle.gx_listed.specs.Listings.{Listed}
 use Rattle.gx_kept.proofs.LaidMarks.{AreLaid, first_is, none_laid, one_laid, past_laid, placed_is, some_at}

@@ -13,4 +13,6 @@ pub use gx_repo::{OutOfMemory, Text};
 pub use reading::{read, read_text};
 pub use records::read_record;
 pub use refs::{is_after, read_ref, read_refs};
-pub use sending::{send_all, send_count, send_records, send_refs, send_text, write, write_to};
+pub use sending::{
+    send_all, send_count, send_record, send_records, send_refs, send_text, write, write_to,
+};

@@ -70,8 +70,13 @@ pub fn send_records<N: Namer, A: Allocator + Copy, W: Sink>(
     Ok(())
 }
 
-/// Sends a record.
-fn send_record<W: Sink>(sink: &mut W, name: &Name, kind: Kind, body: &[u8]) -> Result<(), Failed>
+/// Sends a record. Source: this project's own format.
+pub fn send_record<W: Sink>(
+    sink: &mut W,
+    name: &Name,
+    kind: Kind,
+    body: &[u8],
+) -> Result<(), Failed>
     ensures text { Sent (record_called name.now kind body.now) (W.taken sink.old) (W.taken sink.new) result }
     ensures length { length body.now < 2 ^ 64 }
 {

@@ -8,4 +8,6 @@ mod sending;
 pub use gx_growing::GrowingFault;
 pub use gx_repo::{OutOfMemory, Text};
 pub use reading::read_text;
-pub use sending::{WriteFault, write, write_to};
+pub use sending::{
+    Layout, WriteFault, run_of, send_head, send_runs, send_table, slot_of, write, write_to,
+};

@@ -31,10 +31,10 @@ pub enum WriteFault {
 
 /// What stands around the records in the growing text of a repository.
 #[derive(Drop)]
-struct Layout<A: Allocator> {
-    slot: Slot,
-    table: Table<A>,
-    tail: Vec<u8, A>,
+pub struct Layout<A: Allocator> {
+    pub slot: Slot,
+    pub table: Table<A>,
+    pub tail: Vec<u8, A>,
 }
 
 /// The growing text of a repository, with one segment: all objects, their rows in the order of names, and the refs.
@@ -98,7 +98,7 @@ fn layout_of<N: Namer, A: Allocator + Copy>(
 }
 
 /// The run of a table with so many rows, and none where it has none.
-fn run_of<A: Allocator>(count: usize, table: &Table<A>) -> Option<Run>
+pub fn run_of<A: Allocator>(count: usize, table: &Table<A>) -> Option<Run>
     ensures { runs_of result ≡ runs_from table.now.place count table.now.digests.items }
 {
     if count == 0 {
@@ -112,7 +112,7 @@ fn run_of<A: Allocator>(count: usize, table: &Table<A>) -> Option<Run>
 }
 
 /// The slot of a text that ends with a table and a tail, if it has fewer than 2^63 bytes.
-fn slot_of<A: Allocator>(table: &Table<A>, tail: &[u8]) -> Option<Slot>
+pub fn slot_of<A: Allocator>(table: &Table<A>, tail: &[u8]) -> Option<Slot>
     ensures slot { IfSome result (λ slot.
         shown_slot slot ≡ slot_from (ends_of table.now tail.now) tail.now) }
     ensures short { IfSome result (λ slot. slot.ends < 2 ^ 63) }
@@ -161,7 +161,7 @@ fn send_tail<N: Namer, A: Allocator + Copy, W: Sink>(
 }
 
 /// Sends the number of runs and the runs, of which there is one or none.
-fn send_runs<W: Sink>(sink: &mut W, run: Option<Run>) -> Result<(), Failed>
+pub fn send_runs<W: Sink>(sink: &mut W, run: Option<Run>) -> Result<(), Failed>
     ensures { Sent (line (codes "runs") (number_text (length (runs_of run)))
         ++ flat_map run_text (runs_of run))
         (W.taken sink.old) (W.taken sink.new) result }
@@ -216,7 +216,12 @@ fn send_laid_out<N: Namer, A: Allocator + Copy, W: Sink>(
 }
 
 /// Sends the head of a growing text whose first slot is picked, and says this.
-fn send_head<W: Sink>(sink: &mut W, ends: u64, tail: u64, digest: &[u8; 32]) -> Result<(), Failed>
+pub fn send_head<W: Sink>(
+    sink: &mut W,
+    ends: u64,
+    tail: u64,
+    digest: &[u8; 32],
+) -> Result<(), Failed>
     ensures { Sent (head_text (codes "a")
         (slot_text (record { ends = ends; tail = tail; digest = digest.now })) (slot_text no_slot))
         (W.taken sink.old) (W.taken sink.new) result }
@@ -244,7 +249,7 @@ fn send_head<W: Sink>(sink: &mut W, ends: u64, tail: u64, digest: &[u8; 32]) -> 
 }
 
 /// Sends a table of so many rows with its line, and what follows it.
-fn send_table<A: Allocator, W: Sink>(
+pub fn send_table<A: Allocator, W: Sink>(
     sink: &mut W,
     count: usize,
     table: &Table<A>,

@@ -4,6 +4,8 @@ mod HeadPlaces
 mod HeadingsInTexts
 mod JoinedTexts
 mod LinesOfRefs
+mod ListedRows
+mod ListedTexts
 mod OldTexts
 mod OpenedTexts
 mod Opening

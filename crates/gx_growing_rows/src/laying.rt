@@ -1,12 +1,13 @@
 //! The table of rows that a writer lays out for the objects of a store. Source: this project's own format.
-ghost use Rattle.std.specs.Prelude.{◌≡◌, ℕ, ◌+◌, ◌*◌, ◌≤◌, ◌++◌, drop, length, IfOk, IfSome};
+ghost use Rattle.std.specs.Prelude.{◌≡◌, ℕ, ◌+◌, ◌*◌, ◌≤◌, ◌++◌, codes, drop, length, IfOk, IfSome};
 ghost use Rattle.std.specs.List.{flat_map};
 ghost use Rattle.sha2.specs.Sha256.{sha256};
+ghost use Rattle.gx_model.specs.Texts.{Bytes};
 ghost use Rattle.gx_model.specs.Objects.{line};
 ghost use Rattle.gx_model.specs.Texts.Numbers.{number_text};
 ghost use Rattle.gx_model.specs.declared.store_versions.Version.TheVariants.{Two};
 ghost use Rattle.gx_model.specs.Stores.StoreText.{stored_record};
-ghost use Rattle.gx_growing.specs.GrowingText.{first_rows, page_digests, placed, row_text, rows_in, rows_place};
+ghost use Rattle.gx_growing.specs.GrowingText.{first_rows, page_digests, placed, row_text, rows_in, rows_place, sorted_rows};
 ghost use Rattle.gx_growing_rows.specs.NextTable.{next_place, next_rows};
 
 use crate::checking::{Row, first_row};
@@ -61,11 +62,30 @@ pub fn next_table<N: Namer, A: Allocator + Copy>(
         table.digests.items ≡ page_digests sha256 table.rows.items) }
 {
     let mut rows = read_rows(alloc, taken_in)?;
-    let new = store.len().saturating_sub(held);
-    let Some(first) = ends.checked_add(line_length(b"objects", new)) else {
+    let Some(first) = first_place(ends, store.len().saturating_sub(held)) else {
         return Err(AllocError);
     };
     let behind = push_placed(&mut rows, store, held, first)?;
+    table_behind(alloc, rows, behind)
+}
+
+/// The table of these rows, put in order, in a segment whose records end at a place.
+///
+/// `AllocError`: a growth was refused, or the line of the rows ends behind 2^64 bytes. Cost: the rows are sorted and hashed. Memory:
+/// 28 bytes for each row. Source: this project's own format.
+pub fn table_behind<A: Allocator + Copy>(
+    alloc: A,
+    rows: Vec<Row, A>,
+    behind: u64,
+) -> Result<Table<A>, AllocError>
+    ensures place { IfOk result (λ table. table.place
+        ≡ behind + length (line (codes "rows") (number_text (length rows.items)))) }
+    ensures rows { IfOk result (λ table.
+        table.rows.items ≡ flat_map row_text (sorted_rows rows.items)) }
+    ensures digests { IfOk result (λ table.
+        table.digests.items ≡ page_digests sha256 table.rows.items) }
+{
+    let mut rows = rows;
     let count = rows.len();
     rows.sort_unstable();
     let Some(place) = behind.checked_add(line_length(b"rows", count)) else {
@@ -80,8 +100,17 @@ pub fn next_table<N: Namer, A: Allocator + Copy>(
     })
 }
 
-/// The rows that bytes are.
-fn read_rows<A: Allocator + Copy>(alloc: A, bytes: &[u8]) -> Result<Vec<Row, A>, AllocError>
+/// Where the first record stands of a segment with so many objects behind a place, if that is below 2^64. Cost: constant. Takes no
+/// memory. Source: this project's own format.
+pub fn first_place(ends: u64, count: usize) -> Option<u64>
+    ensures { IfSome result (λ first.
+        first ≡ ends + length (line (codes "objects") (number_text count))) }
+{
+    ends.checked_add(line_length(b"objects", count))
+}
+
+/// The rows that bytes are, each of 28. Cost and memory: the rows. Source: this project's own format.
+pub fn read_rows<A: Allocator + Copy>(alloc: A, bytes: &[u8]) -> Result<Vec<Row, A>, AllocError>
     ensures { (count : ℕ) → length bytes.now ≡ 28 * count
         → IfOk result (λ rows. rows.items ≡ rows_in count bytes.now) }
 {
@@ -112,7 +141,7 @@ fn push_placed<N: Namer, A: Allocator + Copy>(
         let Some((name, kind, body)) = store.record(at) else {
             unreachable!();
         };
-        let Some(behind) = behind_record(place, &name, kind, body) else {
+        let Some(behind) = record_end(place, &name, kind, body.len() as u64) else {
             return Err(AllocError);
         };
         let bytes = name.bytes;
@@ -122,15 +151,20 @@ fn push_placed<N: Namer, A: Allocator + Copy>(
     Ok(place)
 }
 
-/// Where the text of a record ends that begins at a place, if that is below 2^64.
-fn behind_record(place: u64, name: &Name, kind: Kind, body: &[u8]) -> Option<u64>
-    ensures { IfSome result (λ behind. behind ≡ place + length (stored_record Two
-        (record { name = name.now.bytes; kind = kind; body = body.now }))) }
+/// Where the text of a record ends that begins at a place, and whose body has so many bytes, if that is below 2^64. Cost: constant.
+/// Takes no memory. Source: this project's own format.
+pub fn record_end(place: u64, name: &Name, kind: Kind, size: u64) -> Option<u64>
+    ensures { IfSome result (λ behind. (body : Bytes) → length body ≡ size
+        → behind ≡ place + length (stored_record Two
+        (record { name = name.now.bytes; kind = kind; body = body }))) }
 {
     // two spaces and an LF stand in the line beside the digits of the name, and an LF behind the body
-    let line = kind.word().len() + digits_length(body.len()) + 2 * name.bytes.as_slice().len() + 4;
+    let line = kind.word().len()
+        + digits_length(size as usize)
+        + 2 * name.bytes.as_slice().len()
+        + 4;
     let begins = place.checked_add(line as u64)?;
-    let behind = begins.checked_add(body.len() as u64)?;
+    let behind = begins.checked_add(size)?;
     Some(behind)
 }
 

@@ -7,4 +7,6 @@ mod laying;
 
 pub use checking::{Row, check_rows};
 pub use gx_growing_parts::Run;
-pub use laying::{Table, first_table, next_table};
+pub use laying::{
+    Table, first_place, first_table, next_table, read_rows, record_end, table_behind,
+};

@@ -135,7 +135,7 @@ module _ (name : Kind → Bytes → Bytes) (text : Bytes) (ends place : ℕ) (ca
       there ∙ sym (ap (take (length room)) all ∙ take-take (length room) k (drop place text) l)
 
   -- the line is in the first block
-  pub block_is : (room : Bytes) → StandsAt (Some text) place room → length room ≤ ends - place → ((n : ℕ) → n ≤ 4096 → n ≤ ends - place → n ≤ length room)
+  pub block_is : (room : Bytes) → StandsAt (Some text) place room → length room ≤ ends - place → ((n : ℕ) → n ≤ 128 → n ≤ ends - place → n ≤ length room)
       → room ≡ heading_text held ++ take (length room - length (heading_text held)) (held.body ++ (10 ∷ drop (length record_text) behind))
   block_is room there within wide =
       let short = heading_short held here.written in
@@ -183,7 +183,7 @@ pub record IsHeadingOf (called : Bytes) (read : Heading × ℕ) (held : Record) 
   pub start_is : read.1 ≡ length (heading_text held)
 
 module _ (name : Kind → Bytes → Bytes) (told : Option Bytes) (ends place : ℕ) (called room shown : Bytes) (same : shown ≡ room) (there : StandsAt told place room) (within : length room ≤ ends - place)
-    (wide : (n : ℕ) → n ≤ 4096 → n ≤ ends - place → n ≤ length room) (text : Bytes) (is : told ≡ Some text) (held : Record) (here : IsRecordAt name text ends place called held) where
+    (wide : (n : ℕ) → n ≤ 128 → n ≤ ends - place → n ≤ length room) (text : Bytes) (is : told ≡ Some text) (held : Record) (here : IsRecordAt name text ends place called held) where
   line_there : (rest : Bytes) × (shown ≡ heading_text held ++ rest)
   line_there = let e = block_is name text ends place called held here room (subst (λ z. StandsAt z place room) is there) within wide in (_, same ∙ e)
 

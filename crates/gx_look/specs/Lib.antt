@@ -1,4 +1,5 @@
 pub mod Heads
+pub mod Listing
 pub mod Looking
 pub mod Opened
 pub mod Reading

@@ -4,6 +4,7 @@
 
 mod fill;
 mod head;
+mod listing;
 mod look;
 mod records;
 mod refs;

@@ -7,20 +7,24 @@ ghost use Rattle.gx_model.specs.Texts.{Bytes};
 ghost use Rattle.gx_growing.specs.GrowingReading.{grown_of};
 ghost use Rattle.gx_growing.specs.GrowingText.{IsGrowingText};
 ghost use Rattle.gx_growing_parts.specs.Endings.{IsEnding};
+ghost use Rattle.gx_listed.specs.Listings.{ListsAll};
 ghost use Rattle.gx_objects.specs.Answers.{FindsRef, Holds, IsNamed, OnlyUntold, Tells};
 ghost use Rattle.gx_look.specs.Looking.{place_at, told_by, told_rows};
 
 use crate::head::read_head;
+use crate::listing::{list_rows, rows_by_place};
 use crate::records::read_record;
 use crate::refs::{find_by_names, without_end};
 use crate::rows::{find_begun, find_place};
 use crate::tail::{Tail, read_tail};
 use gx_at::ReadAt;
 use gx_growing_parts::Ending;
+use gx_listed::Listing;
 use gx_object::{Name, Namer};
 use gx_objects::{LookFault, Object, Objects};
 use gx_store::{Prefix, names_begun_by};
 use std::alloc::Allocator;
+use std::hash::RandomState;
 use std::marker::Model;
 
 /// A growing text of which a question reads what it needs. Held are its live runs and its refs.
@@ -70,6 +74,21 @@ impl<S: ReadAt, N: Namer, A: Allocator + Copy> Look<S, N, A> {
             ends: picked.slot.ends,
             tail,
         })
+    }
+
+    /// All objects of the text in the order in which they were added, for who goes through them.
+    ///
+    /// ReadFailed: a read failed. OutOfMemory: a growth was refused. Damaged: this is no growing text.
+    /// Cost: the rows of the live runs are read and sorted, and one read of 128 bytes for each object, from the front to the back. No
+    /// body is read, and nothing is hashed but names. Memory: that of the listing, 28 bytes for each object beside it, and the rows of
+    /// one run. Source: this project's own format.
+    pub fn listing(&self, alloc: A, state: RandomState) -> Result<Listing<A>, LookFault>
+        ensures listed { Tells (told_by (N.name_of self.now.0) self.now.1)
+            (ListsAll (place_at (told_rows (N.name_of self.now.0) self.now.1))) result }
+        ensures fault { OnlyUntold (told_by (N.name_of self.now.0) self.now.1) result }
+    {
+        let rows = rows_by_place(alloc, &self.source, self.tail.runs.as_slice())?;
+        list_rows(alloc, &self.source, self.ends, rows.as_slice(), state)
     }
 
     /// How the text ends, for who appends to it. Cost: constant. Takes no memory. Source: this project's own format.

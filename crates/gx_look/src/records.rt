@@ -76,7 +76,7 @@ pub(crate) fn read_record<S: ReadAt, N: Namer, A: Allocator + Copy>(
 }
 
 /// What the first line of a record says, and where its body begins.
-fn read_heading(text: &[u8]) -> Result<(Heading, usize), LookFault>
+pub(crate) fn read_heading(text: &[u8]) -> Result<(Heading, usize), LookFault>
     ensures within { IfOk result (λ p. p.1 ≤ length text.now) }
     ensures heading { ReadsHeading text.now result }
 {

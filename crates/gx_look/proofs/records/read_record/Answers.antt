@@ -14,7 +14,7 @@ returns-in_err-heading-clause-record g c =
     let size = c.in_ok-refill.ensures.count in
     let left = c.in-Some.ensures.1 in
     let within : length room ≤ c.args.ends - c.args.place = omega (arith, size, left, c.min.ensures) in
-    let wide : (n : ℕ) → n ≤ 4096 → n ≤ c.args.ends - c.args.place → n ≤ length room = λ n a b. omega (arith, size, left, c.min.ensures) in
+    let wide : (n : ℕ) → n ≤ 128 → n ≤ c.args.ends - c.args.place → n ≤ length room = λ n a b. omega (arith, size, left, c.min.ensures) in
     rw (p.1, p.2) (told_of name told c.args.ends c.args.place c.args.name.now.bytes room _ (λ text is held here.
     heading_fault name told c.args.ends c.args.place c.args.name.now.bytes room c.as_slice.result.now c.as_slice.ensures.value c.in_ok-refill.ensures.there within wide text is held here c.in_err-heading.field-0.0 c.in_err-heading.ensures.heading))
 
@@ -26,7 +26,7 @@ returns-then-ne-clause-record g c =
     let size = c.in_ok-refill.ensures.count in
     let left = c.in-Some.ensures.1 in
     let within : length room ≤ c.args.ends - c.args.place = omega (arith, size, left, c.min.ensures) in
-    let wide : (n : ℕ) → n ≤ 4096 → n ≤ c.args.ends - c.args.place → n ≤ length room = λ n a b. omega (arith, size, left, c.min.ensures) in
+    let wide : (n : ℕ) → n ≤ 128 → n ≤ c.args.ends - c.args.place → n ≤ length room = λ n a b. omega (arith, size, left, c.min.ensures) in
     told_of name told c.args.ends c.args.place c.args.name.now.bytes room _ (λ text is held here same.
     let h = heading_is name told c.args.ends c.args.place c.args.name.now.bytes room c.as_slice.result.now c.as_slice.ensures.value c.in_ok-refill.ensures.there within wide text is held here (c.in_ok-heading.heading, c.in_ok-heading.start) c.in_ok-heading.ensures.heading in
     told_apart c.in_ok-heading.heading.name.bytes c.args.name.now.bytes c.ne.result c.ne.ensures c.if-ne.true h.name_is)
@@ -39,7 +39,7 @@ returns-then-heading-left-clause-record g c =
     let size = c.in_ok-refill.ensures.count in
     let left = c.in-Some.ensures.1 in
     let within : length room ≤ c.args.ends - c.args.place = omega (arith, size, left, c.min.ensures) in
-    let wide : (n : ℕ) → n ≤ 4096 → n ≤ c.args.ends - c.args.place → n ≤ length room = λ n a b. omega (arith, size, left, c.min.ensures) in
+    let wide : (n : ℕ) → n ≤ 128 → n ≤ c.args.ends - c.args.place → n ≤ length room = λ n a b. omega (arith, size, left, c.min.ensures) in
     told_of name told c.args.ends c.args.place c.args.name.now.bytes room _ (λ text is held here same.
     let fits = length_fits name told c.args.ends c.args.place c.args.name.now.bytes room c.as_slice.result.now c.as_slice.ensures.value c.in_ok-refill.ensures.there within wide text is held here (c.in_ok-heading.heading, c.in_ok-heading.start) c.in_ok-heading.ensures.heading in
     absurd (omega (arith, fits, left, c.if-heading-left.true)))
@@ -52,7 +52,7 @@ returns-then-ne-2-clause-record g c =
     let size = c.in_ok-refill.ensures.count in
     let left = c.in-Some.ensures.1 in
     let within : length room ≤ c.args.ends - c.args.place = omega (arith, size, left, c.min.ensures) in
-    let wide : (n : ℕ) → n ≤ 4096 → n ≤ c.args.ends - c.args.place → n ≤ length room = λ n a b. omega (arith, size, left, c.min.ensures) in
+    let wide : (n : ℕ) → n ≤ 128 → n ≤ c.args.ends - c.args.place → n ≤ length room = λ n a b. omega (arith, size, left, c.min.ensures) in
     let end = c.in_ok-heading.start + c.in_ok-heading.heading.length in
     let starts : c.in_ok-heading.start ≤ length room = subst (λ z. c.in_ok-heading.start ≤ length z) c.as_slice.ensures.value c.in_ok-heading.ensures.within in
     let has : HasBody told c.args.ends c.args.place end c.if-end-len.room.items = elim c.if-end-len.branch [
@@ -79,7 +79,7 @@ returns-clause-record g c =
     let size = c.in_ok-refill.ensures.count in
     let left = c.in-Some.ensures.1 in
     let within : length room ≤ c.args.ends - c.args.place = omega (arith, size, left, c.min.ensures) in
-    let wide : (n : ℕ) → n ≤ 4096 → n ≤ c.args.ends - c.args.place → n ≤ length room = λ n a b. omega (arith, size, left, c.min.ensures) in
+    let wide : (n : ℕ) → n ≤ 128 → n ≤ c.args.ends - c.args.place → n ≤ length room = λ n a b. omega (arith, size, left, c.min.ensures) in
     let end = c.in_ok-heading.start + c.in_ok-heading.heading.length in
     let starts : c.in_ok-heading.start ≤ length room = subst (λ z. c.in_ok-heading.start ≤ length z) c.as_slice.ensures.value c.in_ok-heading.ensures.within in
     let has : HasBody told c.args.ends c.args.place end c.if-end-len.room.items = elim c.if-end-len.branch [

@@ -1,0 +1,6 @@
+mod LaidMarks
+mod ListedRecords
+mod SentRecords
+mod SetMarks
+mod Spreading
+mod Weights

@@ -1,0 +1,15 @@
+use Rattle.std.proofs.Common.{◌+◌, ap, subst, arith, drop, drop_of_length-le, refl}
+use Rattle.gx_object.specs.Commits.{bytes_of_names}
+use Rattle.gx_repo.proofs.PrunedRecords.{next_name}
+use Rattle.gx_kept.proofs.SetMarks.{MarksListedSoFar, listed_all, listed_next, listed_none, listed_nowhere, listed_there}
+use Rattle.gx_kept.proofs.marking.mark_names.Goals as goal
+
+pub loop-name-init : goal.loop-name-init
+loop-name-init g c = (refl, listed_none c.args.listing.now (bytes_of_names c.args.names.now) c.args.marks.now)
+
+pub returns-clause-marks : goal.returns-clause-marks
+returns-clause-marks g c =
+    let listed = c.args.listing.now in
+    let names = c.args.names.now in
+    listed_all listed (bytes_of_names names) c.args.marks.now c.loop-name.marks
+    (subst (λ left. MarksListedSoFar listed (bytes_of_names names) left c.args.marks.now c.loop-name.marks) (ap bytes_of_names (drop_of_length-le names c.loop-name-test.false)) c.loop-name.invariant.1)

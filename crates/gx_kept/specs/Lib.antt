@@ -1,0 +1,5 @@
+pub mod Collecting
+pub mod Faults
+pub mod Layouts
+pub mod Marking
+pub mod Sending

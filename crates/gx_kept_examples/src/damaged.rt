@@ -1,0 +1,81 @@
+//! Stores that are damaged: what goes out as a whole has its names, and every call ends.
+
+use crate::stores::{Dice, look_into, random_text};
+use gx_kept::{KeptFault, collect};
+use gx_object::{Namer, Sha1Namer};
+use gx_objects::Objects;
+use gx_text::Growing;
+use std::alloc::Global;
+use std::hash::RandomState;
+
+/// Why nothing is collected of a text, or what is.
+fn collected(alloc: Global, text: &[u8], state: RandomState) -> Option<Result<Vec<u8>, KeptFault>> {
+    let Some(look) = look_into(alloc, text) else {
+        return Some(Err(KeptFault::Damaged));
+    };
+    let Ok(listing) = look.listing(alloc, state) else {
+        return Some(Err(KeptFault::Damaged));
+    };
+    let mut sink = Growing::new(alloc);
+    match collect(alloc, &look, &listing, &[], &mut sink) {
+        Ok(_) => Some(Ok(sink.into_bytes())),
+        Err(fault) => Some(Err(fault)),
+    }
+}
+
+/// Whether all objects of a text have their names.
+fn are_named(alloc: Global, text: &[u8], state: RandomState) -> Option<bool> {
+    let look = look_into(alloc, text)?;
+    let listing = look.listing(alloc, state).ok()?;
+    let mut room = Vec::new(alloc);
+    for number in 0..listing.len() {
+        let (name, standing) = listing.get(number)?;
+        let object = look.object_at(standing.place, &name, &mut room).ok()?;
+        if Sha1Namer.name(object.kind, object.body) != name {
+            return Some(false);
+        }
+    }
+    Some(true)
+}
+
+/// Puts a byte at a place, if the text has one there.
+fn put(text: &mut Vec<u8>, place: usize, byte: u8) {
+    if let Some(held) = text.get_mut(place) {
+        *held = byte;
+    }
+}
+
+/// How many changes of one byte are told as damage, where what goes out otherwise has its names.
+fn damages(alloc: Global, seed: u64, state: RandomState) -> Option<(usize, usize)> {
+    let mut dice = Dice { state: seed };
+    let (_grown, mut text) = random_text(alloc, &mut dice, 3, state)?;
+    let mut told = 0;
+    for place in 0..text.len() {
+        let held = *text.get(place)?;
+        put(&mut text, place, held ^ 1);
+        match collected(alloc, text.as_slice(), state)? {
+            Ok(left) => {
+                if !are_named(alloc, left.as_slice(), state)? {
+                    return None;
+                }
+            }
+            Err(KeptFault::Damaged) => told += 1,
+            Err(_) => return None,
+        }
+        put(&mut text, place, held);
+    }
+    Some((told, text.len()))
+}
+
+#[test]
+fn what_goes_out_of_a_damaged_store_has_its_names(rt: HostRuntime) {
+    let Ok(state) = RandomState::new(&rt) else {
+        return assert!(rt; false);
+    };
+    for seed in [5, 17] {
+        match damages(rt.alloc(), seed, state) {
+            Some((told, all)) => assert!(rt; told > 0 && told < all),
+            None => assert!(rt; false),
+        }
+    }
+}

@@ -1,0 +1,10 @@
+//! Texts of what is kept of random stores, beside those that repositories in memory give, and of stores that are damaged. There are
+//! tests alone here.
+#![tactic(auto)]
+
+#[cfg(test)]
+mod collected;
+#[cfg(test)]
+mod damaged;
+#[cfg(test)]
+mod stores;

@@ -1,0 +1,202 @@
+//! Random stores.
+
+use gx_additions::append_objects;
+use gx_at::TextAt;
+use gx_disk::{Disk, Plan};
+use gx_look::Look;
+use gx_object::{Kind, Name, Sha1Namer};
+use gx_repo::{RefChange, Repo};
+use std::alloc::Global;
+use std::hash::RandomState;
+
+/// Numbers that look like random ones, the same for each seed.
+#[derive(Drop)]
+pub(crate) struct Dice {
+    pub(crate) state: u64,
+}
+
+impl Dice {
+    /// A number below another.
+    pub(crate) fn below(&mut self, most: u64) -> u64 {
+        self.state = self
+            .state
+            .wrapping_mul(6_364_136_223_846_793_005)
+            .wrapping_add(1_442_695_040_888_963_407);
+        if most == 0 {
+            0
+        } else {
+            (self.state >> 33) % most
+        }
+    }
+
+    /// One of these names.
+    pub(crate) fn one_of(&mut self, names: &[Name]) -> Option<Name> {
+        let place = self.below(names.len() as u64);
+        names.get(place as usize).copied()
+    }
+}
+
+/// A repository that grows at random, with the names of its objects by their kinds.
+#[derive(Drop)]
+pub(crate) struct Grown {
+    pub(crate) repo: Repo<Sha1Namer, Global>,
+    blobs: Vec<Name>,
+    trees: Vec<Name>,
+    commits: Vec<Name>,
+}
+
+const REFS: [&[u8]; 4] = [
+    b"refs/heads/a",
+    b"refs/heads/b",
+    b"refs/heads/c",
+    b"refs/remotes/origin/HEAD",
+];
+
+const TEXTS: [&[u8]; 2] = [
+    b"author A <a@b> 0 +0000\n",
+    b"committer A <a@b> 0 +0000\n\nm\n",
+];
+
+impl Grown {
+    /// An empty one.
+    pub(crate) fn new(alloc: Global, state: RandomState) -> Grown {
+        Grown {
+            repo: Repo::new(alloc, Sha1Namer, state),
+            blobs: Vec::new(alloc),
+            trees: Vec::new(alloc),
+            commits: Vec::new(alloc),
+        }
+    }
+
+    /// One of all objects.
+    pub(crate) fn object(&self, dice: &mut Dice) -> Option<Name> {
+        let place = dice.below(self.repo.store().len() as u64);
+        let (name, _kind, _body) = self.repo.store().record(place as usize)?;
+        Some(name)
+    }
+
+    /// Adds a blob, a tree of some files and maybe a folder, and a commit, and sets a ref now and then.
+    pub(crate) fn step(&mut self, alloc: Global, dice: &mut Dice) -> Option<()> {
+        let mut body = Vec::new(alloc);
+        body.resize(dice.below(200) as usize, b'x').ok()?;
+        body.extend_from_slice(&dice.state.to_be_bytes()).ok()?;
+        self.blobs
+            .push(self.repo.add_blob(body.as_slice()).ok()?)
+            .ok()?;
+        self.add_tree(alloc, dice)?;
+        self.add_commit(alloc, dice)?;
+        if dice.below(3) == 0 {
+            let target = dice.one_of(self.commits.as_slice())?;
+            let name = *REFS.get(dice.below(4) as usize)?;
+            self.repo.publish(&[RefChange { name, target }]).ok()?;
+        }
+        if dice.below(8) == 0 {
+            self.add_tag(alloc, dice)?;
+        }
+        Some(())
+    }
+
+    fn add_tree(&mut self, alloc: Global, dice: &mut Dice) -> Option<()> {
+        let mut body = Vec::new(alloc);
+        for name in [b"a", b"b", b"c"] {
+            if name == b"a" || dice.below(2) == 0 {
+                let blob = dice.one_of(self.blobs.as_slice())?;
+                put_entry(&mut body, b"100644 ", name, &blob)?;
+            }
+        }
+        if dice.below(2) == 0 {
+            if let Some(tree) = dice.one_of(self.trees.as_slice()) {
+                put_entry(&mut body, b"40000 ", b"d", &tree)?;
+            }
+        }
+        if dice.below(5) == 0 {
+            let bytes = [9; 20];
+            put_entry(&mut body, b"160000 ", b"e", &Name { bytes })?;
+        }
+        let tree = self.repo.add_record(Kind::Tree, body.as_slice()).ok()?;
+        self.trees.push(tree).ok()
+    }
+
+    fn add_commit(&mut self, alloc: Global, dice: &mut Dice) -> Option<()> {
+        let mut body = Vec::new(alloc);
+        let tree = dice.one_of(self.trees.as_slice())?;
+        put_line(&mut body, b"tree ", &tree)?;
+        let mut last = None;
+        for _ in 0..dice.below(3) {
+            if let Some(parent) = dice.one_of(self.commits.as_slice()) {
+                if last != Some(parent) {
+                    put_line(&mut body, b"parent ", &parent)?;
+                }
+                last = Some(parent);
+            }
+        }
+        for text in TEXTS {
+            body.extend_from_slice(text).ok()?;
+        }
+        let commit = self.repo.add_record(Kind::Commit, body.as_slice()).ok()?;
+        self.commits.push(commit).ok()
+    }
+
+    fn add_tag(&mut self, alloc: Global, dice: &mut Dice) -> Option<()> {
+        let mut body = Vec::new(alloc);
+        let commit = dice.one_of(self.commits.as_slice())?;
+        put_line(&mut body, b"object ", &commit)?;
+        body.extend_from_slice(b"type commit\ntag v1\ntagger A <a@b> 0 +0000\n\nm\n")
+            .ok()?;
+        let target = self.repo.add_record(Kind::Tag, body.as_slice()).ok()?;
+        let name = b"refs/tags/v1";
+        self.repo.publish(&[RefChange { name, target }]).ok()
+    }
+}
+
+fn put_entry(body: &mut Vec<u8>, mode: &[u8], name: &[u8], object: &Name) -> Option<()> {
+    body.extend_from_slice(mode).ok()?;
+    body.extend_from_slice(name).ok()?;
+    body.push(0).ok()?;
+    body.extend_from_slice(&object.bytes).ok()
+}
+
+fn put_line(body: &mut Vec<u8>, word: &[u8], object: &Name) -> Option<()> {
+    body.extend_from_slice(word).ok()?;
+    body.extend_from_slice(&object.hex()).ok()?;
+    body.push(b'\n').ok()
+}
+
+/// A growing text of so many segments, of a repository that takes some random steps before each.
+pub(crate) fn random_text(
+    alloc: Global,
+    dice: &mut Dice,
+    segments: u64,
+    state: RandomState,
+) -> Option<(Grown, Vec<u8>)> {
+    let mut grown = Grown::new(alloc, state);
+    let text = gx_growing_file::write(alloc, &grown.repo).ok()?;
+    let mut disk = Disk::new(alloc, text.as_slice(), Plan::NONE).ok()?;
+    for _ in 0..segments {
+        let held = grown.repo.store().len();
+        for _ in 0..dice.below(6) {
+            grown.step(alloc, dice)?;
+        }
+        append(alloc, &mut disk, &grown.repo, held)?;
+    }
+    let text = Vec::from_slice(alloc, disk.text()).ok()?;
+    Some((grown, text))
+}
+
+/// Appends what a repository has more than so many objects, and its refs.
+fn append(
+    alloc: Global,
+    disk: &mut Disk<Global>,
+    repo: &Repo<Sha1Namer, Global>,
+    held: usize,
+) -> Option<()> {
+    let text = Vec::from_slice(alloc, disk.text()).ok()?;
+    let look = look_into(alloc, text.as_slice())?;
+    append_objects(alloc, disk, look.ending(), repo, held).ok()
+}
+
+/// A look into a text that is read in pieces.
+pub(crate) fn look_into(alloc: Global, text: &[u8]) -> Option<Look<TextAt<'_>, Sha1Namer, Global>> {
+    let piece = 1_000;
+    Look::open(alloc, Sha1Namer, TextAt { text, piece }).ok()
+}

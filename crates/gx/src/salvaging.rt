@@ -5,9 +5,7 @@ use crate::looks::{look_into, open_growing};
 use crate::run::{Run, Subject};
 use crate::stores::files::{open_text, read_store};
 use crate::stores::next_text::NextText;
-use crate::streams::devices::{Noted, flushed};
 use gx_at::ReadAt;
-use gx_cli::CliFault;
 use gx_look::Look;
 use gx_object::Sha1Namer;
 use gx_objects::Objects;
@@ -15,9 +13,9 @@ use gx_reached::Cause;
 use gx_salvage::OtherSlot;
 use gx_salvage_refs::{Lost, Salvaged, salvage};
 use gx_versions::StoreForm;
-use std::alloc::Global;
+use std::alloc::{AllocError, Global};
 use std::hash::RandomState;
-use std::io::{BufWriter, Write};
+use std::io::Write;
 
 /// The status where refs are lost.
 const LOST: u8 = 3;
@@ -36,10 +34,11 @@ pub(crate) fn salvage_into(
     let mut next = NextText::claim_new(run, new)?;
     next.shape(StoreForm::Growing);
     let saved = salvage_file(run, file, state)?;
+    let lines = lost_lines(run.rt.alloc(), saved.lost.as_slice())?;
     next.publish_store(&saved.repo)?;
     drop(next);
-    print_lost(run, saved.lost.as_slice())?;
-    Ok(if saved.lost.is_empty() { 0 } else { LOST })
+    run.want_written(Subject::Output, run.rt.stdout().write_all(&lines))?;
+    Ok(if lines.is_empty() { 0 } else { LOST })
 }
 
 /// Salvages a growing store by the slot that is picked, or by the other one where that leads to no tail. A store of another
@@ -83,32 +82,22 @@ fn salvage_look<S: ReadAt>(
     Ok(salvage(alloc, look, lines, Sha1Namer, state)?)
 }
 
-/// Prints a line for each ref that is lost: its name, the digits of the object that is damaged, and why it isn't saved.
-fn print_lost(run: &Run<'_>, lost: &[Lost<Global>]) -> Result<(), RunFault> {
-    match BufWriter::new(run.rt.alloc(), Noted::output(run)) {
-        Ok(mut out) => {
-            let printed = put_lost(run, &mut out, lost);
-            flushed(&mut out, printed)
-        }
-        Err(_) => Err(RunFault::Command(CliFault::OutOfMemory)),
+/// A line for each ref that is lost: its name, the digits of an object that isn't saved, and why that isn't.
+fn lost_lines(alloc: Global, lost: &[Lost<Global>]) -> Result<Vec<u8>, AllocError> {
+    let mut lines = Vec::new(alloc);
+    for one in lost {
+        put_lost(&mut lines, one)?;
     }
+    Ok(lines)
 }
 
-fn put_lost<W: Write>(run: &Run<'_>, out: &mut W, lost: &[Lost<Global>]) -> Result<(), RunFault> {
-    for one in lost {
-        let digits = one.damage.object.hex();
-        let parts = [
-            one.name.as_slice(),
-            b" ",
-            digits.as_slice(),
-            b" ",
-            word_of(one.damage.cause),
-            b"\n",
-        ];
-        for part in parts {
-            run.want_written(Subject::Output, out.write_all(part))?;
-        }
-    }
+fn put_lost(lines: &mut Vec<u8>, lost: &Lost<Global>) -> Result<(), AllocError> {
+    lines.extend_from_slice(&lost.name)?;
+    lines.push(b' ')?;
+    lines.extend_from_slice(lost.damage.object.hex().as_slice())?;
+    lines.push(b' ')?;
+    lines.extend_from_slice(word_of(lost.damage.cause))?;
+    lines.push(b'\n')?;
     Ok(())
 }
 

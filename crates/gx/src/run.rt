@@ -228,8 +228,9 @@ impl<'a> Run<'a> {
     }
 
     /// Tells why the run is refused, in a line. Where it is to be explained, further ones tell where the fault of a stream stands and
-    /// what it or a line of a push is about, and the file and the system's cause of what couldn't be read, written or locked. Whoever closed the pipe that is written into isn't told.
-    pub(crate) fn tell(&self, fault: &RunFault, file: Option<&str>) {
+    /// what it or a line of a push is about, and the file and the system's cause of what couldn't be read, written or locked;
+    /// the one that is written may be another. Whoever closed the pipe that is written into isn't told.
+    pub(crate) fn tell(&self, fault: &RunFault, file: Option<&str>, written: Option<&str>) {
         let cause = self.cause.get();
         let is_cut_off = has_closed_pipe(&cause);
         if is_cut_off && fault.is_failed_output() {
@@ -241,6 +242,10 @@ impl<'a> Run<'a> {
         }
         if let Some(cause) = &cause {
             if self.explains.get() && !is_cut_off {
+                let file = match cause.subject {
+                    Subject::NextText | Subject::Folder => written,
+                    _ => file,
+                };
                 self.tell_cause(cause, file.unwrap_or("-"));
             }
         }

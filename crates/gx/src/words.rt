@@ -88,6 +88,6 @@ fn tell_text(run: &Run<'_>, printed: io::Result<()>) -> ExitCode {
 }
 
 fn refuse(run: &Run<'_>, fault: CliFault) -> ExitCode {
-    run.tell(&RunFault::Command(fault), None);
+    run.tell(&RunFault::Command(fault), None, None);
     ExitCode::from(1)
 }

@@ -15,7 +15,7 @@ pub(crate) fn run_line(run: &Run<'_>, line: &Line<'_>) -> ExitCode {
     match run_seeded(run, line) {
         Ok(status) => ExitCode::from(status),
         Err(fault) => {
-            run.tell(&fault, file_of(line));
+            run.tell(&fault, file_of(line), written_of(line));
             ExitCode::from(1)
         }
     }
@@ -68,6 +68,14 @@ fn file_of<'a>(line: &Line<'a>) -> Option<&'a str> {
         | Line::Try { .. }
         | Line::Check { .. }
         | Line::Adapt { .. } => None,
+    }
+}
+
+/// The store file that a command writes, if it writes one.
+fn written_of<'a>(line: &Line<'a>) -> Option<&'a str> {
+    match line {
+        Line::Verify { salvage, .. } => *salvage,
+        _ => file_of(line),
     }
 }
 

@@ -238,8 +238,8 @@ fn write_kept(
     let noted = Noted::new(run, Subject::NextText, text);
     match BufWriter::with_capacity(alloc, BUFFER, noted) {
         Ok(mut out) => {
-            let sink = &mut IntoWrite::new(&mut out);
-            let sent = gx_kept::collect(alloc, look, listing, kept, sink);
+            let mut sink = IntoWrite::new(&mut out);
+            let sent = gx_kept::collect(alloc, look, listing, kept, &mut sink);
             flushed(&mut out, sent.map_err(RunFault::from))
         }
         Err(_) => Err(RunFault::Command(CliFault::OutOfMemory)),

@@ -118,7 +118,7 @@ LINES = [
     ("gx grow st", "store"),
     ("gx grow store ", ""),
     ("gx v", "verify"),
-    ("gx verify -", "--help"),
+    ("gx verify -", "--help --salvage"),
     ("gx verify st", "store"),
     ("gx verify store ", ""),
     ("gx p", "put"),

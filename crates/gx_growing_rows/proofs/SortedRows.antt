@@ -33,7 +33,7 @@ rows_ranked : IsStrictWeakOrder less
 rows_ranked = ranks_by rows_total (λ r. r)
 
 -- rows that pass the test are equal
-same_row_is : (x y : Row) → same_row x y ≡ true → x ≡ y
+pub same_row_is : (x y : Row) → same_row x y ≡ true → x ≡ y
 same_row_is x y h = by (rows_are (x ∷ []) (y ∷ []) (passes _ (and_from _ true h refl)))
   where
     by : x ∷ [] ≡ y ∷ [] → x ≡ y
@@ -111,14 +111,14 @@ sorted_up (x ∷ xs) = with_up x (sorted_rows xs) (sorted_up xs)
 
 -- ---- rows that are the same ones
 
-abbrev one_if : Row → Row → ℕ
+abbrev pub one_if : Row → Row → ℕ
 one_if x y = cond (same_row x y) 1 0
 
 -- how often a row stands among others
-abbrev count_of : Row → List Row → ℕ
+abbrev pub count_of : Row → List Row → ℕ
 count_of x = sum_by (one_if x)
 
-counted_once : (x : Row) → one_if x x ≡ 1
+pub counted_once : (x : Row) → one_if x x ≡ 1
 counted_once x = ap (λ b. cond b 1 0) (row_itself x)
 
 -- a row that stands among others isn't before the one that none of them is before

@@ -159,10 +159,8 @@ pub fn record_end(place: u64, name: &Name, kind: Kind, size: u64) -> Option<u64>
         (record { name = name.now.bytes; kind = kind; body = body }))) }
 {
     // two spaces and an LF stand in the line beside the digits of the name, and an LF behind the body
-    let line = kind.word().len()
-        + digits_length(size as usize)
-        + 2 * name.bytes.as_slice().len()
-        + 4;
+    let digits = digits_length(size as usize);
+    let line = kind.word().len() + digits + 2 * name.bytes.as_slice().len() + 4;
     let begins = place.checked_add(line as u64)?;
     let behind = begins.checked_add(size)?;
     Some(behind)

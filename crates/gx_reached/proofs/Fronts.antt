@@ -1,6 +1,6 @@
 -- What is in front, with one more, and with the last one taken out.
-use Rattle.std.proofs.Common.{◌≡◌, ℕ, zero, suc, ◌<◌, ◌≤◌, Bool, true, false, refl, sym, ap, subst, ◌∙◌, arith, List, [], ◌∷◌, ◌++◌, length, get_or, Option, Some, None, inl, inr, ◌⊎◌}
-use Rattle.std.specs.List.{All, AllByRecursion, position}
+use Rattle.std.proofs.Common.{◌≡◌, ℕ, zero, suc, ◌<◌, ◌≤◌, refl, sym, ap, subst, ◌∙◌, arith, List, [], ◌∷◌, ◌++◌, length, get_or, Option, Some, None, inl, inr, ◌⊎◌}
+use Rattle.std.specs.List.{All, AllByRecursion}
 use Rattle.std.specs.Option.{option_map}
 use Rattle.std.specs.Bool.{passes}
 use Rattle.std.specs.Ordering.{nat_cmp, match_ordering}
@@ -17,8 +17,7 @@ use Rattle.gx_model.specs.Texts.{Bytes, same_bytes}
 use Rattle.gx_model.proofs.Texts.PathTests.{same_is}
 use Rattle.gx_objects.specs.Answers.{GoesUp, StandsThere}
 use Rattle.gx_store.specs.Stores.{place_named}
-use Rattle.gx_reached.specs.Links.{shown_link}
-use Rattle.gx_reached.specs.Reaching.{AddsTo, AreBelow, InFront, IsOfLink, IsStep, behind_last}
+use Rattle.gx_reached.specs.Reaching.{AddsTo, AreBelow, InFront, IsStep, behind_last}
 use Rattle.gx_reached.specs.declared.links.Link.{Link}
 
 -- ---- places

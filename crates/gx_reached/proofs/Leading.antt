@@ -1,11 +1,10 @@
 -- What refs lead to.
 use Rattle.std.proofs.Common.{◌≡◌, ℕ, refl, sym, subst, List, [], ◌∷◌, ◌++◌, map, inl, inr, ◌⊎◌}
-use Rattle.std.specs.Prelude.{◌||◌, IsTrue}
+use Rattle.std.specs.Prelude.{IsTrue}
 use Rattle.std.specs.Bool.{passes}
 use Rattle.std.specs.List.{list_any}
 use Rattle.std.specs.declared.vec.Vec.{Vec}
 use Rattle.gx_model.specs.declared.objects.Kind.{Kind}
-use Rattle.gx_model.specs.Pruning.{links_of}
 use Rattle.gx_model.specs.Records.Sound.{AnyByRecursion}
 use Rattle.gx_model.specs.Texts.{Bytes, same_bytes}
 use Rattle.gx_model.proofs.Texts.PathTests.{is_same, is_true, left_or, right_or}
@@ -16,7 +15,7 @@ use Rattle.gx_reached.specs.Links.{AreLinksOf, Link as Named, links_in, shown_li
 use Rattle.gx_reached.specs.Reaching.{Among, InFront, IsLed, OnlyAdds, OnlyAddsLinks, targets_of, tip_links}
 use Rattle.gx_reached.specs.declared.links.Link.{Link}
 use Rattle.gx_reached.proofs.Closing.{among_cases}
-use Rattle.gx_reached.proofs.Fronts.{front_cases, front_last, front_left}
+use Rattle.gx_reached.proofs.Fronts.{front_last, front_left}
 use Rattle.gx_reached.proofs.LinkedRecords.{links_named}
 
 -- ---- what a body names

@@ -1,23 +1,22 @@
 -- What a record of a sound repository names: it stands before, and it is a blob where it is to be one.
-use Rattle.std.proofs.Common.{append-nil, ◌≡◌, ℕ, zero, suc, ◌<◌, Bool, true, false, cond, refl, sym, ap, subst, ◌∙◌, arith, List, [], ◌∷◌, ◌++◌, append_assoc, length, map, Option, Some, None, inl, inr}
+use Rattle.std.proofs.Common.{append-nil, ◌≡◌, ℕ, suc, ◌<◌, Bool, true, false, cond, refl, sym, ap, subst, ◌∙◌, arith, List, [], ◌∷◌, ◌++◌, append_assoc, length, map, Option, Some, None, inl, inr}
 use Rattle.std.specs.Prelude.{◌+◌, nat_lt, not, IfSome}
 use Rattle.std.proofs.lemmas.Bool.Decides.{nat_tests}
 use Rattle.std.specs.List.{AllByRecursion, cons_option, filter_map, position, position_or_len}
 use Rattle.std.specs.Option.{option_map}
-use Rattle.std.specs.Bool.{passes}
 use Rattle.gx_model.specs.declared.objects.Kind.{Kind}
 use Rattle.gx_model.specs.declared.objects.Kind.TheVariants as kind
 use Rattle.gx_model.specs.declared.objects.Mode.{Mode}
 use Rattle.gx_model.specs.declared.objects.Mode.TheVariants.{File, Exec, Link, Gitlink, Dir}
 use Rattle.gx_model.specs.Texts.{Bytes, same_bytes}
-use Rattle.gx_model.specs.Histories.{Record, Records}
+use Rattle.gx_model.specs.Histories.{Record}
 use Rattle.gx_model.specs.Objects.{CommitParts, Entry, TagParts, is_dir}
 use Rattle.gx_model.specs.Pruning.{link_of, links_of}
 use Rattle.gx_model.specs.Records.Growth.{record_named}
-use Rattle.gx_model.specs.Records.HistoryOf.{commit_parts_in, entries_in, tag_parts_in}
+use Rattle.gx_model.specs.Records.HistoryOf.{commit_parts_in, entries_in}
 use Rattle.gx_model.specs.Records.Sound.{AnyByRecursion, Holds, IsHeldAs, IsLinked, IsLinkedAfter}
 use Rattle.gx_model.proofs.ObjectTexts.BodiesReadBack.{commit_read, entries_read, tag_read}
-use Rattle.gx_model.proofs.Texts.PathTests.{is_same, is_true, same_is}
+use Rattle.gx_model.proofs.Texts.PathTests.{is_same, is_true}
 use Rattle.gx_store.specs.Stores.{place_named}
 use Rattle.gx_reached.specs.Links.{Link as Named, entry_link, links_in, no_blob}
 

@@ -1,5 +1,5 @@
 -- What an object of a repository names is put in front, and visited.
-use Rattle.std.proofs.Common.{◌≡◌, ℕ, zero, suc, ◌+◌, ◌<◌, ◌≤◌, true, false, refl, sym, ap, subst, ◌∙◌, arith, get_or, List, [], ◌∷◌, ◌++◌, length, length-append, map, take, Option, Some, None, inl, inr, ◌⊎◌}
+use Rattle.std.proofs.Common.{◌≡◌, ℕ, zero, suc, ◌+◌, ◌<◌, ◌≤◌, true, false, sym, ap, subst, ◌∙◌, arith, get_or, List, [], ◌∷◌, ◌++◌, length, length-append, map, take, Option, Some, None, inl, inr}
 use Rattle.std.specs.Prelude.{IfSome, OnOk, Result}
 use Rattle.std.specs.List.{AllByRecursion}
 use Rattle.std.specs.Option.{option_map}
@@ -10,13 +10,13 @@ use Rattle.std.proofs.lemmas.Bool.{false≢true}
 use Rattle.std.proofs.lemmas.List.{map-append, take_more}
 use Rattle.gx_model.specs.declared.objects.Kind.{Kind}
 use Rattle.gx_model.specs.declared.objects.Kind.TheVariants as kind
-use Rattle.gx_model.specs.Histories.{Record, Records, object_of}
+use Rattle.gx_model.specs.Histories.{Record, Records}
 use Rattle.gx_model.specs.Laws.StoreLaws.{IsBody}
 use Rattle.gx_model.specs.Pruning.{links_of}
 use Rattle.gx_model.specs.Records.Growth.{record_named}
 use Rattle.gx_model.specs.Records.Sound.{AnyByRecursion, IsLinked, IsLinkedAfter, IsSound}
 use Rattle.gx_model.specs.Texts.{Bytes}
-use Rattle.gx_model.proofs.Records.HeldObjects.{IsShown, is_shown}
+use Rattle.gx_model.proofs.Records.HeldObjects.{is_shown}
 use Rattle.gx_model.proofs.Records.TakenRecords.{named_some}
 use Rattle.gx_object.specs.declared.name.Name.{Name}
 use Rattle.gx_objects.specs.Answers.{GoesUp, IsHeldThere, StandsThere}
@@ -25,7 +25,7 @@ use Rattle.gx_repo.specs.declared.publishing.RefChange.{RefChange}
 use Rattle.gx_store.specs.Stores.{place_named}
 use Rattle.gx_reached.specs.Damages.{IsBad, KeepsBad}
 use Rattle.gx_reached.specs.Links.{AreLinksOf, Link as Named, links_in, shown_link}
-use Rattle.gx_reached.specs.Reaching.{AddsAll, AddsLinks, AddsTo, AreBelow, InFront, IsBefore, IsOfLink, IsPlaced, IsStep, IsVisited, LinksHave, OnlyAdds, StandsSomewhere, Waits, targets_of, tip_links}
+use Rattle.gx_reached.specs.Reaching.{AddsAll, AddsLinks, AddsTo, InFront, IsBefore, IsOfLink, IsPlaced, IsStep, IsVisited, LinksHave, OnlyAdds, StandsSomewhere, Waits, targets_of, tip_links}
 use Rattle.gx_reached.specs.declared.bad.Bad.{Bad}
 use Rattle.gx_reached.specs.declared.links.Link.{Link}
 use Rattle.gx_reached.proofs.Closing.{all_weaker, all_with, visited_more, visited_with}

@@ -6,7 +6,6 @@ use Rattle.gx_model.specs.declared.objects.Kind.{Kind}
 use Rattle.gx_model.specs.Texts.{Bytes, byte_cmp, same_bytes}
 use Rattle.gx_model.specs.Histories.{Records}
 use Rattle.gx_model.specs.Pruning.{links_of}
-use Rattle.gx_object.specs.declared.name.Name.{Name}
 use Rattle.gx_reached.specs.declared.bad.Bad.{Bad}
 use Rattle.gx_reached.specs.declared.damage.Cause.TheVariants.{ReadFailed}
 use Rattle.gx_reached.specs.declared.damage.Damage.{Damage}

@@ -179,9 +179,7 @@ fn place_of<O: Objects, A: Allocator + Copy>(
 }
 
 /// The place of an object by what is answered of it, or why the object isn't saved.
-fn place_or_cause(
-    answer: Result<Option<u64>, LookFault>,
-) -> Result<Result<u64, Cause>, AllocError>
+fn place_or_cause(answer: Result<Option<u64>, LookFault>) -> Result<Result<u64, Cause>, AllocError>
     ensures told { IfOk result (TellsPlace answer) }
     ensures memory { IfErr result (λ _. answer ≡ Err faults.OutOfMemory) }
 {

@@ -36,7 +36,12 @@ pub(crate) fn history(alloc: Global, state: RandomState) -> Option<Made> {
     let mut objects = Vec::new(alloc);
     let file = add(&mut repo, &mut objects, Kind::Blob, b"file\n")?;
     let other = add(&mut repo, &mut objects, Kind::Blob, b"other\n")?;
-    let below = add_tree(alloc, &mut repo, &mut objects, &[(b"100644 other\0", other)])?;
+    let below = add_tree(
+        alloc,
+        &mut repo,
+        &mut objects,
+        &[(b"100644 other\0", other)],
+    )?;
     let entries = [(b"40000 dir\0".as_slice(), below), (b"100644 file\0", file)];
     let tree = add_tree(alloc, &mut repo, &mut objects, &entries)?;
     let first = add_commit(alloc, &mut repo, &mut objects, &tree, None)?;
@@ -108,7 +113,8 @@ fn add_commit(
     if let Some(parent) = parent {
         put_line(&mut body, b"parent ", &parent)?;
     }
-    body.extend_from_slice(b"author A <a@b> 0 +0000\ncommitter A <a@b> 0 +0000\n\nm\n").ok()?;
+    body.extend_from_slice(b"author A <a@b> 0 +0000\ncommitter A <a@b> 0 +0000\n\nm\n")
+        .ok()?;
     add(repo, objects, Kind::Commit, &body)
 }
 
@@ -121,7 +127,8 @@ fn add_tag(
 ) -> Option<Name> {
     let mut body = Vec::new(alloc);
     put_line(&mut body, b"object ", commit)?;
-    body.extend_from_slice(b"type commit\ntag v1\ntagger A <a@b> 0 +0000\n\nm\n").ok()?;
+    body.extend_from_slice(b"type commit\ntag v1\ntagger A <a@b> 0 +0000\n\nm\n")
+        .ok()?;
     add(repo, objects, Kind::Tag, &body)
 }
 

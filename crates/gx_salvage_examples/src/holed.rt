@@ -23,7 +23,9 @@ impl<'a> Objects for Holed<'a> {
 
     ghost stands = { λ _ number. number };
 
-    fn sound_if_told(&self) {}
+    fn sound_if_told(&self) {
+        self.repo.sound_if_told();
+    }
 
     fn object<'b, A: Allocator + Copy>(
         &'b self,

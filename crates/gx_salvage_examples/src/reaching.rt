@@ -18,12 +18,18 @@ fn refs_of(alloc: Global, repo: &Repo<Sha1Namer, Global>) -> Option<Vec<RefChang
     Some(refs)
 }
 
-/// Whether each object of the history that its refs reach is reached, the newest first, and none is bad.
+/// Whether each object of the history that its refs reach is reached, the newest first, and none is bad. The one that they
+/// don't reach is missing.
 fn all_reached(alloc: Global, state: RandomState) -> Option<bool> {
     let made = history(alloc, state)?;
+    let holed = Holed {
+        repo: &made.repo,
+        hole: *made.objects.as_slice().last()?,
+        fault: None,
+    };
     let refs = refs_of(alloc, &made.repo)?;
     let mut bad = Bad::new(alloc);
-    let order = reached(alloc, &made.repo, refs.as_slice(), &mut bad).ok()?;
+    let order = reached(alloc, &holed, refs.as_slice(), &mut bad).ok()?;
     let mut newest = made.objects.iter().rev().skip(1);
     for (_, name) in order.as_slice() {
         if newest.next() != Some(name) || bad.damage(name).is_some() {
@@ -60,7 +66,11 @@ fn is_bad(
     let mut bad = Bad::new(alloc);
     reached(alloc, &holed, refs.as_slice(), &mut bad).ok()?;
     let is_asked = *REACHED.get(number)? != [false; 3] && (kind != Kind::Blob || fault.is_none());
-    let damage = if is_asked { Some(Damage { object, cause }) } else { None };
+    let damage = if is_asked {
+        Some(Damage { object, cause })
+    } else {
+        None
+    };
     Some(bad.damage(&object) == damage)
 }
 

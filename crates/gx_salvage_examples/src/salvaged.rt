@@ -2,7 +2,7 @@
 
 use crate::histories::{Made, REACHED, history};
 use crate::holed::Holed;
-use gx_object::{Name, Sha1Namer};
+use gx_object::Sha1Namer;
 use gx_objects::{LookFault, Objects};
 use gx_repo::Repo;
 use gx_reached::{Cause, Damage};
@@ -13,10 +13,10 @@ use std::hash::RandomState;
 /// The refs of the history.
 const REFS: [&[u8]; 3] = [b"refs/heads/main", b"refs/heads/topic", b"refs/tags/v1"];
 
-/// What is salvaged of some objects.
-fn salvaged<O: Objects>(
+/// What is salvaged of a repository of which one object can't be read.
+fn salvaged(
     alloc: Global,
-    objects: &O,
+    objects: &Holed<'_>,
     state: RandomState,
 ) -> Option<Salvaged<Sha1Namer, Global>> {
     let mut room = Vec::new(alloc);
@@ -45,7 +45,9 @@ fn are_first(saved: &Repo<Sha1Namer, Global>, repo: &Repo<Sha1Namer, Global>, co
 /// Whether nothing is lost of a history where all can be read.
 fn all_saved(alloc: Global, states: (RandomState, RandomState)) -> Option<bool> {
     let made = history(alloc, states.0)?;
-    let saved = salvaged(alloc, &made.repo, states.1)?;
+    let mut room = Vec::new(alloc);
+    let lines = made.repo.ref_lines(&mut room).ok()?;
+    let saved = salvage(alloc, &made.repo, lines, Sha1Namer, states.1).ok()?;
     Some(
         saved.lost.is_empty()
             && are_first(&saved.repo, &made.repo, 12)

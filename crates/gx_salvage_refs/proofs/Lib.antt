@@ -1,7 +1,7 @@
 pub mod KeptRefs
 pub mod Losses
-pub mod RefLines
 pub mod Refusals
+pub mod SavedRefs
 pub mod Settling
 pub mod TakenOver
 pub mod Visits

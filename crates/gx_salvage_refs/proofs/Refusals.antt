@@ -125,17 +125,19 @@ all_mapped P see (x ∷ xs) h = (h.0, all_mapped P see xs h.1)
 pub one_without : {X : Type 0} (P : X → Type 0) (xs : List X) (i : ℕ) (d : X) → i < length xs → AllByRecursion P (take i xs) → P (get_or xs i d) → AllByRecursion P (take (i + 1) xs)
 one_without P xs i d l h p = subst (AllByRecursion P) (sym (take_more xs i d l)) (all_with P (take i xs) (get_or xs i d) h p)
 
-module _ {A B : Type 0} (bad : Bad A) (own : Damage) (k : Kind) (body : Bytes) (links : Vec Link B) (are : AreLinksOf k body links) where
+module _ {A B : Type 0} (bad : Bad A) (own : Damage) (k : Kind) (body : Bytes) (links : Vec Link B) (are : AreLinksOf k body links) (items : List Link) (is : items ≡ links.items) where
   -- the damage of a link
-  pub link_found : (i : ℕ) (d : Link) (damage : Damage) → i < length links.items → damage_in bad (get_or links.items i d).name.bytes ≡ Some damage → FindsDamage bad own k body damage
+  pub link_found : (i : ℕ) (d : Link) (damage : Damage) → i < length items → damage_in bad (get_or items i d).name.bytes ≡ Some damage → FindsDamage bad own k body damage
   link_found i d damage l e = elim are [
-    | inl same ↦ inl (subst (AnyByRecursion (λ link. damage_in bad link ≡ Some damage)) (named_links k body links same) (any_at (λ link. damage_in bad link ≡ Some damage) (λ (x : Link). x.name.bytes) links.items i d l e))
-    | inr none ↦ absurd (let long = ap length none.0 in omega (arith, l, long))
+    | inl same ↦ inl (subst (AnyByRecursion (λ link. damage_in bad link ≡ Some damage)) (named_links k body links same)
+        (subst (λ xs. AnyByRecursion (λ link. damage_in bad link ≡ Some damage) (map (λ (x : Link). x.name.bytes) xs)) is (any_at (λ link. damage_in bad link ≡ Some damage) (λ (x : Link). x.name.bytes) items i d l e)))
+    | inr none ↦ absurd (let long = ap length (is ∙ none.0) in omega (arith, l, long))
   ]
 
   -- none has any
-  pub none_found : AllByRecursion (λ (l : Link). damage_in bad l.name.bytes ≡ None) links.items → FindsDamage bad own k body own
-  none_found h = inr (refl, λ is. elim are [
-    | inl same ↦ subst (AllByRecursion (λ link. damage_in bad link ≡ None)) (named_links k body links same) (all_mapped (λ link. damage_in bad link ≡ None) (λ (x : Link). x.name.bytes) links.items h)
-    | inr none ↦ absurd (none.1 is)
+  pub none_found : AllByRecursion (λ (l : Link). damage_in bad l.name.bytes ≡ None) items → FindsDamage bad own k body own
+  none_found h = inr (refl, λ canonical. elim are [
+    | inl same ↦ subst (AllByRecursion (λ link. damage_in bad link ≡ None)) (named_links k body links same)
+        (subst (λ xs. AllByRecursion (λ link. damage_in bad link ≡ None) (map (λ (x : Link). x.name.bytes) xs)) is (all_mapped (λ link. damage_in bad link ≡ None) (λ (x : Link). x.name.bytes) items h))
+    | inr none ↦ absurd (none.1 canonical)
   ])

@@ -6,16 +6,18 @@ ghost use Rattle.gx_model.specs.Records.Publishing.{Ref};
 ghost use Rattle.gx_model.specs.Stores.StoreReading.{is_target_of_kind};
 ghost use Rattle.gx_model.specs.Stores.StoreText.{stored_ref};
 ghost use Rattle.gx_model.specs.Texts.RefNames.{is_ref_name};
-ghost use Rattle.gx_objects.specs.Answers.{AreRefs};
+ghost use Rattle.gx_objects.specs.Answers.{AreRefs, SpellsRefs};
+ghost use Rattle.gx_ref_lines.specs.Refs.{shown_refs};
 ghost use Rattle.gx_repo.specs.Refs.{HasTagParts, TellsOwnRef, shown_update};
 ghost use Rattle.gx_reached.specs.Damages.{damage_in};
 ghost use Rattle.gx_salvage_refs.specs.Parting.{IsKnownDamage, IsLossBy, IsLossOf};
 ghost use Rattle.gx_salvage_refs.specs.Salvaging.{ArePartedBy, is_settable};
 
 use crate::Lost;
-use gx_file::read_ref;
-use gx_object::{Kind, Namer, decode_tag};
+use gx_object::{Kind, Name, Namer, decode_tag};
+use gx_objects::LookFault;
 use gx_reached::{Bad, Cause, Damage};
+use gx_ref_lines::RefLines;
 use gx_repo::{RefChange, Repo};
 use std::alloc::{AllocError, Allocator};
 
@@ -26,21 +28,37 @@ pub(crate) struct Parted<'a, A: Allocator> {
     pub(crate) lost: Vec<Lost<A>, A>,
 }
 
-/// The refs of lines. Cost and memory: the lines.
+/// The refs of lines, as changes that set them. Cost and memory: the lines.
 pub(crate) fn refs_of<'a, A: Allocator + Copy>(
     alloc: A,
     lines: &'a [u8],
 ) -> Result<Vec<RefChange<'a>, A>, AllocError>
-    ensures { IfOk result (λ refs. (given : List Ref) → AreRefs given →
-        lines.now ≡ flat_map stored_ref given → map shown_update refs.items ≡ given) }
+    requires spelled { SpellsRefs lines.now }
+    ensures { IfOk result (λ refs. (given : List Ref) → lines.now ≡ flat_map stored_ref given
+        → AreRefs given → map shown_update refs.items ≡ given) }
 {
-    let mut refs = Vec::new(alloc);
-    let mut rest = lines;
-    while let Ok((change, behind)) = read_ref(rest) {
-        refs.push(change)?;
-        rest = behind;
+    match RefLines::read(alloc, lines) {
+        Ok(read) => changes_of(alloc, read.refs.as_slice()),
+        Err(LookFault::OutOfMemory) => Err(AllocError),
+        Err(_) => unreachable!(),
     }
-    Ok(refs)
+}
+
+/// The changes that set refs.
+fn changes_of<'a, A: Allocator + Copy>(
+    alloc: A,
+    refs: &[(&'a [u8], Name)],
+) -> Result<Vec<RefChange<'a>, A>, AllocError>
+    ensures { IfOk result (λ changes. map shown_update changes.items ≡ shown_refs refs.now) }
+{
+    let mut changes = Vec::new(alloc);
+    for held in refs {
+        changes.push(RefChange {
+            name: held.0,
+            target: held.1,
+        })?;
+    }
+    Ok(changes)
 }
 
 /// Parts refs by whether they may hold their objects in a repository.
@@ -61,14 +79,15 @@ pub(crate) fn part<'a, N: Namer, A: Allocator + Copy>(
     let mut kept = Vec::new(alloc);
     let mut lost = Vec::new(alloc);
     for change in refs {
-        match loss_of(repo, bad, change) {
-            None => kept.push(*change)?,
-            Some(damage) => lost.push(Lost {
-                name: Vec::from_slice(alloc, change.name)?,
-                target: change.target,
-                damage,
-            })?,
-        }
+        let Some(damage) = loss_of(repo, bad, change) else {
+            kept.push(*change)?;
+            continue;
+        };
+        lost.push(Lost {
+            name: Vec::from_slice(alloc, change.name)?,
+            target: change.target,
+            damage,
+        })?;
     }
     Ok(Parted { kept, lost })
 }

@@ -11,4 +11,4 @@ loop-at-preserved g c =
     let r : Record = record { name = c.in-Some.name.bytes; kind = c.in-Some.kind; body = c.in-Some.body.now } in
     let behind = c.in-Some-record_end.behind in
     subst (λ rows. AreLaidOut old c.args.held c.args.first rs rows behind (at + 1)) (sym c.in_ok-push.ensures.items)
-    (one_laid old c.args.held c.args.first rs c.loop-at.rows.items c.loop-at.place at c.loop-at.invariant r behind (from_place rs at r c.in-Some.ensures) (c.in-Some-record_end.ensures c.in-Some.body.now (sym c.len.ensures)))
+    (one_laid old c.args.held c.args.first rs c.loop-at.rows.items c.loop-at.place at c.loop-at.invariant r behind (from_place rs at r c.in-Some.ensures) (c.in-Some-record_end.ensures c.in-Some.body.now refl))

@@ -1,4 +1,4 @@
-use Rattle.std.proofs.Common.{◌∙◌, ap, arith, codes, length}
+use Rattle.std.proofs.Common.{◌≡◌, ◌∙◌, ◌+◌, ap, arith, codes, length, subst}
 use Rattle.std.specs.List.{flat_map}
 use Rattle.gx_model.specs.Objects.{line}
 use Rattle.gx_model.specs.Texts.Numbers.{number_text}
@@ -8,8 +8,9 @@ use Rattle.gx_growing_rows.proofs.laying.table_behind.Goals as goal
 
 pub returns-clause-place : goal.returns-clause-place
 returns-clause-place g c =
-    let long = c.line_length.ensures.length ∙ ap (λ n. length (line (codes "rows") (number_text n))) c.len-count.ensures in
-    omega (arith, c.in-Some.ensures, long)
+    let count = c.len-count.ensures ∙ c.args.rows.ok.0 in
+    let long = c.line_length.ensures.length ∙ ap (λ n. length (line (codes "rows") (number_text n))) count in
+    subst (λ n. c.in-Some.place ≡ c.args.behind + n) long (omega (arith, c.in-Some.ensures))
 
 pub returns-clause-rows : goal.returns-clause-rows
 returns-clause-rows g c =

@@ -2,6 +2,7 @@ use Rattle.std.proofs.Common.{◌≡◌, ◌+◌, ◌∙◌, [], false, ap, get_
 use Rattle.std.specs.BTreeMap.{insert_entry}
 use Rattle.std.specs.List.{AllByRecursion}
 use Rattle.std.specs.Ordering.{nat_cmp}
+use Rattle.std.proofs.lemmas.List.{take_all}
 use Rattle.gx_reached.specs.Links.{shown_link}
 use Rattle.gx_reached.specs.Reaching.{AddsAll, AreBelow, IsStep, OnlyAdds}
 use Rattle.gx_reached.specs.declared.links.Link.{Link}
@@ -95,3 +96,8 @@ loop-link-preserved g c =
             adds = none_behind stands limit place link told (λ r. AddsAll r stands (map shown_link (take (i + 1) links)) old now then) w.if-place-limit.false there before;
           }
     ]
+
+pub returns-clause-only : goal.returns-clause-only
+returns-clause-only g c =
+    let l = c.loop-link in
+    subst (λ links. OnlyAdds (map shown_link links) c.args.front.now.entries l.front.entries) (take_all l.link-index c.args.links.now c.loop-link-test.false) l.invariant.only

@@ -1,8 +1,9 @@
-use Rattle.std.proofs.Common.{◌≡◌, [], inl, refl, subst, sym}
+use Rattle.std.proofs.Common.{[], inl, refl, subst, sym}
 use Rattle.std.specs.List.{AllByRecursion}
+use Rattle.std.proofs.lemmas.List.{take_all}
 use Rattle.gx_repo.specs.declared.publishing.RefChange.{RefChange}
 use Rattle.gx_reached.specs.Links.{Link, no_blob}
-use Rattle.gx_reached.specs.Reaching.{AddsAll, IsStep}
+use Rattle.gx_reached.specs.Reaching.{AddsAll, IsStep, OnlyAdds, tip_links}
 use Rattle.gx_reached.proofs.Stepping.{adds_none, next_bad, next_placed, next_puts, next_stays, none_told, one_stands, place_told, step_tip, told_each}
 use Rattle.gx_reached.proofs.reaching.add_tips.Goals as goal
 
@@ -68,3 +69,8 @@ loop-change-preserved g c =
       only = next_puts tip_link refs i _ lt old front now _ place made refl l.invariant.only;
       adds = next_placed tip_link refs i _ lt old front now _ place made refl l.bad then e.keeps told stands c.sound_if_told.ensures.order l.invariant.adds (step_tip stands place _ told there);
     }
+
+pub returns-clause-only : goal.returns-clause-only
+returns-clause-only g c =
+    let l = c.loop-change in
+    subst (λ refs. OnlyAdds (tip_links refs) c.args.front.now.entries l.front.entries) (take_all l.change-index c.args.refs.now c.loop-change-test.false) l.invariant.only

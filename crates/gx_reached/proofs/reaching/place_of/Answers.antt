@@ -9,5 +9,5 @@ returns-in-Ok-clause-place g c =
 pub returns-in_ok-enter_itself-in-Err-clause-bad : goal.returns-in_ok-enter_itself-in-Err-clause-bad
 returns-in_ok-enter_itself-in-Err-clause-bad g c =
     let o = c.args.objects.now in
-    entered_itself c.args.bad.now c.enter_itself.new.self (record { object = c.args.name.now; cause = c.in-Err.cause }) c.in_ok-enter_itself.ensures (g.O.Objects.name_of o) (g.O.Objects.told o)
+    entered_itself c.args.bad.now c.enter_itself.new.self (record { object = c.args.name.now; cause = c.in-Err.cause }) c.in_ok-enter_itself-in-Err.ensures (g.O.Objects.name_of o) (g.O.Objects.told o)
     (not_placed (g.O.Objects.told o) (g.O.Objects.stands o) c.args.name.now.bytes c.place.result c.in_ok-found.found c.in-Err.cause c.in-Err.is c.in_ok-found.ensures.told c.requires.stands c.place.ensures.place c.place.ensures.fault) c.requires.bad

@@ -14,11 +14,11 @@ returns c = λ a h.
     let nine = under eight export_command in
     let first = c.with_command-gx.ensures a init_command h c.init_command.ensures in
     let second = c.with_command-gx-2.ensures one grow_command first c.grow_command.ensures in
-    let third = c.with_command-gx-3.ensures two verify_command second c.file_command.ensures in
+    let third = c.with_command-gx-3.ensures two verify_command second c.verify_command.ensures in
     let fourth = c.with_command-gx-4.ensures three import_command third c.import_command.ensures in
     let fifth = c.with_command-gx-5.ensures four drop_command fourth c.drop_command.ensures in
     let sixth = c.with_command-gx-6.ensures five set_ref_command fifth c.set_ref_command.ensures in
     let seventh = c.with_command-gx-7.ensures six put_command sixth c.put_command.ensures in
     let eighth = c.with_command-gx-8.ensures seven gc_command seventh c.gc_command.ensures in
     let ninth = c.with_command-gx-9.ensures eight export_command eighth c.export_command.ensures in
-    c.with_command.ensures nine _ ninth c.file_command-2.ensures
+    c.with_command.ensures nine _ ninth c.file_command.ensures

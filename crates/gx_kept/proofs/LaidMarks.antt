@@ -1,5 +1,5 @@
 -- The rows of objects that are marked, laid out before a body is read: whatever the bodies are, they are those of the records.
-use Rattle.std.proofs.Common.{◌≡◌, ℕ, ◌+◌, ◌≤◌, Bool, true, false, codes, List, [], ◌∷◌, ◌++◌, append_assoc, append-nil, drop, get_or, length, length-append, map, Option, Some, None, refl, sym, ap, ◌∙◌, subst, arith}
+use Rattle.std.proofs.Common.{◌≡◌, ℕ, zero, suc, ◌+◌, ◌<◌, ◌≤◌, Bool, true, false, codes, List, [], ◌∷◌, ◌++◌, append_assoc, append-nil, drop, get_or, length, length-append, map, Option, Some, None, refl, sym, ap, ◌∙◌, subst, arith}
 use Rattle.std.specs.List.{filter, flat_map, slice_get}
 use Rattle.std.proofs.lemmas.List.{drop_all}
 use Rattle.gx_model.specs.declared.objects.Kind.{Kind}
@@ -15,6 +15,12 @@ use Rattle.gx_listed.specs.Listings.{HaveHeads, Head, Listed, head_of, shown_hea
 use Rattle.gx_kept.specs.Layouts.{ArePlaced}
 use Rattle.gx_kept.proofs.ListedRecords.{same_length}
 use Rattle.gx_kept.proofs.Weights.{marked_long, marked_on, marked_past}
+
+-- something stands at each place before the length
+pub some_at : {X : Type 0} (xs : List X) (i : ℕ) → i < length xs → (x : X) × (slice_get xs i ≡ Some x)
+some_at [] i h = absurd (omega (arith, h))
+some_at (x ∷ xs) zero h = (x, refl)
+some_at (x ∷ xs) (suc i) h = some_at xs i (omega (arith, h))
 
 abbrev texts : List Record → Bytes
 texts = flat_map (stored_record Two)

@@ -1,6 +1,14 @@
+mod CollectedTexts
+mod GoneObjects
 mod LaidMarks
 mod ListedRecords
+mod MarkedTexts
+mod MarkedTips
+mod SentMarked
+mod SentObjects
 mod SentRecords
 mod SetMarks
 mod Spreading
+mod Stopping
+mod TailLines
 mod Weights

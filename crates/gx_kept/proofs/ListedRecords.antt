@@ -6,7 +6,9 @@ use Rattle.std.specs.List.{AllByRecursion, filter_map, list_any, position, posit
 use Rattle.std.specs.Bool.{passes}
 use Rattle.std.specs.Option.{option_map}
 use Rattle.std.proofs.lemmas.Bool.{false≢true, false_from_ne_true}
+use Rattle.std.proofs.lemmas.Bool.Decides.{nat_tests}
 use Rattle.std.proofs.lemmas.List.{length-map}
+use Rattle.std.proofs.lemmas.Option.{cond_some}
 use Rattle.gx_model.specs.declared.objects.Kind.{Kind}
 use Rattle.gx_model.specs.declared.objects.Kind.TheVariants as kinds
 use Rattle.gx_model.specs.declared.objects.Mode.{Mode}
@@ -52,6 +54,15 @@ number_is n listed rs h =
     let long = same_length listed rs h in
     λ i. cond (nat_lt (at i) (long i)) (Some (at i)) None
 
+-- the number of a name is one of those that are listed
+pub within_listed : (listed : List Listed) (n : Bytes) (i : ℕ) → Some i ≡ number_named listed n → i < length listed
+within_listed listed n i e =
+    let k = position_or_len (λ one. same_bytes n one.0.bytes) listed in
+    let q = cond_some (nat_lt k (length listed)) k i (sym e) in
+    let l : nat_lt k (length listed) ≡ true = q.0 in
+    let m : k ≡ i = q.1 in
+    grind (arith, nat_tests)
+
 -- what is listed under a number is the record of that place
 pub record_listed : (listed : List Listed) (rs : List Record) (k : ℕ) (one : Listed) → HaveHeads listed rs → slice_get listed k ≡ Some one → (held : Record) × (slice_get rs k ≡ Some held) × (shown_head one ≡ head_of held)
 record_listed [] rs k one h e = absurd (cc)
@@ -61,6 +72,12 @@ record_listed (o ∷ os) (r ∷ rs) zero one h e =
     let same : o ≡ one = cc in
     (r, refl, ap shown_head (sym same) ∙ head)
 record_listed (o ∷ os) (r ∷ rs) (suc k) one h e = let more : map shown_head os ≡ map head_of rs = cc in record_listed os rs k one more e
+
+-- each number below their count is that of one
+pub some_listed : (listed : List Listed) (k : ℕ) → k < length listed → None ≡ slice_get listed k → ⊥
+some_listed [] k l e = omega (arith, l)
+some_listed (o ∷ os) zero l e = cc
+some_listed (o ∷ os) (suc k) l e = some_listed os k (omega (arith, l)) e
 
 -- ---- the own number of a record
 
@@ -118,7 +135,7 @@ module _ (rs : List Record) (k : ℕ) where
   entries_before (e ∷ es) h = by e.mode refl h.0 (entries_before es h.1)
     where
       more : StandsBefore e.name → AllByRecursion StandsBefore (filter_map link_of es) → (e.mode ≡ Gitlink → ⊥) → AllByRecursion StandsBefore (filter_map link_of (e ∷ es))
-      more one rest no = subst (AllByRecursion StandsBefore) (sym (entry_links e es no)) (one, rest)
+      more one rest other = subst (AllByRecursion StandsBefore) (sym (entry_links e es other)) (one, rest)
 
       by : (m : Mode) → e.mode ≡ m → IsHeldAs (take k rs) m e.name → AllByRecursion StandsBefore (filter_map link_of es) → AllByRecursion StandsBefore (filter_map link_of (e ∷ es))
       by File q a rest = more (kind_before kinds.Blob e.name a) rest (λ g. absurd (let clash = sym q ∙ g in cc clash))

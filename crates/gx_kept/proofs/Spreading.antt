@@ -45,7 +45,7 @@ module _ (name : Kind → Bytes → Bytes) (stands : ℕ → ℕ) (told : Option
     pub place : one.1.place ≡ stands number
 
   pub record_told : IfSome told IsRecordOf
-  record_told = both_told told (IsSound name) _ IsRecordOf (λ r s l.
+  record_told = both_told told (IsSound name) (λ r. ListsAll stands r listed) IsRecordOf (λ r s l.
       let x = record_listed listed r.records number one l.heads (sym at) in
       record { held = x.0; here = x.1; head = x.2; sound_is = s; place = l.places number one (sym at) }) sound lists
 
@@ -74,7 +74,7 @@ module _ (name : Kind → Bytes → Bytes) (stands : ℕ → ℕ) (told : Option
     -- what it names is marked
     pub names_marked_of : (old new : List Bool) → MarksHeld listed (links_of object.kind object.body.now) old new → IfSome told (λ r. SpreadsAt r.records number old new)
     names_marked_of old new m =
-        both_told told (λ r. IsRecordOf r × IsHeldThere one.0.bytes r object) _ (λ r. SpreadsAt r.records number old new) (λ r p l held here.
+        both_told told (λ r. IsRecordOf r × IsHeldThere one.0.bytes r object) (λ r. ListsAll stands r listed) (λ r. SpreadsAt r.records number old new) (λ r p l held here.
             let h = p.0 in
             let same : held ≡ h.held = let e = sym here ∙ h.here in cc in
             let o = object_is r h object p.1 in
@@ -130,9 +130,9 @@ module _ (told : Option Records) (first : List Bool) (k : ℕ) (old : List Bool)
       by (Some r) h l refs e = spread_past refs r.records k old (h refs e) l mark
 
 -- before the first nothing has been, and behind the last one all
-pub spread_begun : (told : Option Records) (k : ℕ) (marks : List Bool) → IfSome told (λ r. length r.records ≤ k) → IfSome told (SpreadFrom marks k marks)
+pub spread_begun : (told : Option Records) (k : ℕ) (marks : List Bool) → IfSome told (λ r. k ≡ length r.records) → IfSome told (SpreadFrom marks k marks)
 spread_begun None k marks l = tt
-spread_begun (Some r) k marks l refs e = spread_none refs r.records k marks l e
+spread_begun (Some r) k marks l refs e = spread_none refs r.records k marks (omega (arith, l)) e
 
 pub spread_done : (told : Option Records) (first marks : List Bool) → IfSome told (SpreadFrom first 0 marks) → IfSome told (λ r. Spreads r.records first marks)
 spread_done None first marks h = tt
@@ -142,3 +142,8 @@ spread_done (Some r) first marks h refs e = h refs e
 pub all_listed : (stands : ℕ → ℕ) (told : Option Records) (listed : List Listed) → ListsIfTold told stands listed → IfSome told (λ r. length listed ≡ length r.records)
 all_listed stands None listed h = tt
 all_listed stands (Some r) listed h = same_length listed r.records h.heads
+
+-- so the number of one that is listed is that of a record
+pub within_told : (told : Option Records) (n k : ℕ) → IfSome told (λ r. n ≡ length r.records) → k < n → IfSome told (λ r. k < length r.records)
+within_told None n k h l = tt
+within_told (Some r) n k h l = subst (λ m. k < m) h l

@@ -44,7 +44,7 @@ at_mark (m ∷ marks) (suc i) = at_mark marks i
 
 behind_mark : (marks : List Bool) (i : ℕ) → drop 1 (drop i marks) ≡ drop (i + 1) marks
 behind_mark [] zero = refl
-behind_mark [] (suc i) = refl
+behind_mark [] (suc i) = let s : suc i + 1 ≡ suc (i + 1) = omega arith in rw s refl
 behind_mark (m ∷ marks) zero = refl
 behind_mark (m ∷ marks) (suc i) = let s : suc i + 1 ≡ suc (i + 1) = omega arith in rw s (behind_mark marks i)
 

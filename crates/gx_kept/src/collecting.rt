@@ -11,6 +11,7 @@ use crate::KeptFault;
 use crate::gone::gone;
 use crate::marking::marks_of;
 use crate::sending::send_marked;
+use gx_growing::growing_laws::growing_is_read;
 use gx_listed::Listing;
 use gx_object::Name;
 use gx_objects::Objects;
@@ -39,6 +40,8 @@ pub fn collect<O: Objects, A: Allocator + Copy, W: Sink>(
     ensures named { SendsNamed (O.name_of objects.now) (W.taken sink.old) (W.taken sink.new) result }
     ensures fault { IsOnTheWay (O.told objects.now) result }
 {
+    objects.sound_if_told();
+    growing_is_read();
     let marks = marks_of(alloc, objects, listing, kept)?;
     send_marked(alloc, objects, listing, marks.as_slice(), sink)?;
     Ok(gone(listing, marks.as_slice()))
@@ -60,6 +63,8 @@ pub fn rewrite<O: Objects, A: Allocator + Copy, W: Sink>(
     ensures named { SendsNamed (O.name_of objects.now) (W.taken sink.old) (W.taken sink.new) result }
     ensures fault { IsOnTheWay (O.told objects.now) result }
 {
+    objects.sound_if_told();
+    growing_is_read();
     let count = listing.len();
     let marks = vec![in alloc; true; count]?;
     send_marked(alloc, objects, listing, marks.as_slice(), sink)

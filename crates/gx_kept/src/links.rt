@@ -1,6 +1,6 @@
 //! Marks of what an object names, which stands before it. Source: gitglossary(7), "reachable".
 
-ghost use Rattle.std.specs.Prelude.{◌≡◌, ◌≤◌, ◌∷◌, [], length, IfErr, ⊥};
+ghost use Rattle.std.specs.Prelude.{◌≡◌, ◌≤◌, ◌∷◌, [], length, IfErr};
 ghost use Rattle.gx_model.specs.declared.objects.Kind.TheVariants as kinds;
 ghost use Rattle.gx_model.specs.Pruning.{links_of};
 ghost use Rattle.gx_objects.specs.declared.fault.LookFault.TheVariants.{Damaged};
@@ -118,11 +118,12 @@ pub(crate) fn mark_below<A: Allocator + Copy>(
     ensures refused { IfErr result (λ _. IsBelow listing.now limit name.now.bytes → ⊥) }
     ensures fault { IfErr result (λ fault. fault ≡ Damaged) }
 {
-    match listing.number(name) {
-        Some(number) if number < limit => {
-            marks[number] = true;
-            Ok(())
-        }
-        _ => Err(LookFault::Damaged),
+    let Some(number) = listing.number(name) else {
+        return Err(LookFault::Damaged);
+    };
+    if limit <= number {
+        return Err(LookFault::Damaged);
     }
+    marks[number] = true;
+    Ok(())
 }

@@ -1,6 +1,6 @@
 //! The records that are kept go out, and what stands around them.
 
-ghost use Rattle.std.specs.Prelude.{◌≡◌, length, IfSome, IsTrue, ◌↔◌};
+ghost use Rattle.std.specs.Prelude.{◌≡◌, ◌<◌, ◌^◌, ◌↔◌, length, IfOk, IfSome, IsTrue};
 ghost use Rattle.sha2.specs.Sha256.{sha256};
 ghost use Rattle.gx_objects.specs.Answers.{StandsIfTold};
 ghost use Rattle.gx_growing.specs.GrowingText.{growing_text};
@@ -36,9 +36,12 @@ pub(crate) fn send_marked<O: Objects, A: Allocator + Copy, W: Sink>(
     requires long { length marks.now ≡ length listing.now }
     ensures text { IfSome (O.told objects.now) (λ r. Sends (growing_text sha256 (left_of marks.now r))
         (W.taken sink.old) (W.taken sink.new) result) }
+    ensures short { IfSome (O.told objects.now) (λ r. IfOk result (λ _.
+        length (growing_text sha256 (left_of marks.now r)) < 2 ^ 63)) }
     ensures named { SendsNamed (O.name_of objects.now) (W.taken sink.old) (W.taken sink.new) result }
     ensures fault { IsOnTheWay (O.told objects.now) result }
 {
+    objects.sound_if_told();
     let mut room = Vec::new(alloc);
     let layout = layout_of(alloc, listing, marks, objects.ref_lines(&mut room)?)?;
     let slot = &layout.slot;
@@ -64,6 +67,7 @@ fn send_records<O: Objects, A: Allocator + Copy, W: Sink>(
         (W.taken sink.old) (W.taken sink.new) result }
     ensures fault { IsOnTheWay (O.told objects.now) result }
 {
+    objects.sound_if_told();
     for number in 0..listing.len() {
         if marks[number] {
             let Some((name, standing)) = listing.get(number) else {

@@ -4,8 +4,8 @@ use gx_additions::append_objects;
 use gx_at::TextAt;
 use gx_disk::{Disk, Plan};
 use gx_look::Look;
-use gx_object::{Kind, Name, Sha1Namer};
-use gx_repo::{RefChange, Repo};
+use gx_object::{Kind, Name, Namer, Sha1Namer};
+use gx_repo::{AddFault, RefChange, Repo};
 use std::alloc::Global;
 use std::hash::RandomState;
 
@@ -80,9 +80,8 @@ impl Grown {
         let mut body = Vec::new(alloc);
         body.resize(dice.below(200) as usize, b'x').ok()?;
         body.extend_from_slice(&dice.state.to_be_bytes()).ok()?;
-        self.blobs
-            .push(self.repo.add_blob(body.as_slice()).ok()?)
-            .ok()?;
+        let blob = self.add(Kind::Blob, body.as_slice())?;
+        self.blobs.push(blob).ok()?;
         self.add_tree(alloc, dice)?;
         self.add_commit(alloc, dice)?;
         if dice.below(3) == 0 {
@@ -94,6 +93,15 @@ impl Grown {
             self.add_tag(alloc, dice)?;
         }
         Some(())
+    }
+
+    /// Adds an object, unless it is held.
+    fn add(&mut self, kind: Kind, body: &[u8]) -> Option<Name> {
+        match self.repo.add_record(kind, body) {
+            Ok(name) => Some(name),
+            Err(AddFault::DuplicateObject) => Some(Sha1Namer.name(kind, body)),
+            Err(_) => None,
+        }
     }
 
     fn add_tree(&mut self, alloc: Global, dice: &mut Dice) -> Option<()> {
@@ -113,7 +121,7 @@ impl Grown {
             let bytes = [9; 20];
             put_entry(&mut body, b"160000 ", b"e", &Name { bytes })?;
         }
-        let tree = self.repo.add_record(Kind::Tree, body.as_slice()).ok()?;
+        let tree = self.add(Kind::Tree, body.as_slice())?;
         self.trees.push(tree).ok()
     }
 
@@ -133,7 +141,7 @@ impl Grown {
         for text in TEXTS {
             body.extend_from_slice(text).ok()?;
         }
-        let commit = self.repo.add_record(Kind::Commit, body.as_slice()).ok()?;
+        let commit = self.add(Kind::Commit, body.as_slice())?;
         self.commits.push(commit).ok()
     }
 
@@ -143,7 +151,7 @@ impl Grown {
         put_line(&mut body, b"object ", &commit)?;
         body.extend_from_slice(b"type commit\ntag v1\ntagger A <a@b> 0 +0000\n\nm\n")
             .ok()?;
-        let target = self.repo.add_record(Kind::Tag, body.as_slice()).ok()?;
+        let target = self.add(Kind::Tag, body.as_slice())?;
         let name = b"refs/tags/v1";
         self.repo.publish(&[RefChange { name, target }]).ok()
     }

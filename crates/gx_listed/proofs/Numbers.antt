@@ -19,7 +19,7 @@ position_step test x xs = by (test x)
     k = position_or_len test xs
 
     apart : (b c : Bool) → c ≡ b → cond c (Some (1 + k)) None ≡ option_map suc (cond b (Some k) None)
-    apart true c e = ap (λ b. cond b (Some (1 + k)) None) e
+    apart true c e = ap (λ b. cond b (Some (1 + k)) None) e ∙ ap Some (let s : 1 + k ≡ suc k = omega arith in s)
     apart false c e = ap (λ b. cond b (Some (1 + k)) None) e
 
     by : (b : Bool) → cond (nat_lt (cond (not b) (1 + k) 0) (suc (length xs))) (Some (cond (not b) (1 + k) 0)) None ≡ cond b (Some 0) (option_map suc (position test xs))

@@ -1,6 +1,6 @@
 //! Objects, listed one behind the other.
 
-ghost use Rattle.std.specs.Prelude.{◌≡◌, ◌++◌, ◌∷◌, [], length, slice_get, None, OnErr, OnOk};
+ghost use Rattle.std.specs.Prelude.{◌≡◌, ◌++◌, ◌∷◌, [], length, slice_get, IfOk, None, OnErr};
 ghost use Rattle.gx_listed.specs.Listings.{Pushes, number_named};
 
 use gx_object::{Kind, Name};
@@ -51,7 +51,7 @@ impl<A: Allocator + Copy> Listing<A> {
     /// `AllocError`: a growth was refused; nothing was listed. Cost: constant, as expected of hashes. Memory: 44 bytes, and the place
     /// of its hash.
     pub fn push(&mut self, name: Name, standing: Standing) -> Result<bool, AllocError>
-        ensures pushes { OnOk result (Pushes self.old self.new (name, standing)) }
+        ensures pushes { IfOk result (Pushes self.old self.new (name, standing)) }
         ensures unchanged { OnErr result (self.new ≡ self.old) }
     {
         if self.number(&name).is_some() {

@@ -4,6 +4,7 @@ mod HeadPlaces
 mod HeadingsInTexts
 mod JoinedTexts
 mod LinesOfRefs
+mod ListedRows
 mod ListedTexts
 mod OldTexts
 mod OpenedTexts

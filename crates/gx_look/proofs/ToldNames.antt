@@ -42,7 +42,7 @@ use Rattle.gx_look.proofs.TellingRows.{none_there, stands_there}
 -- ---- rows in front of an end
 
 -- rows are read in front of what stands behind them
-rows_front : (n : ℕ) (x y : Bytes) → 28 * n ≤ length x → rows_in n (x ++ y) ≡ rows_in n x
+pub rows_front : (n : ℕ) (x y : Bytes) → 28 * n ≤ length x → rows_in n (x ++ y) ≡ rows_in n x
 rows_front zero x y l = refl
 rows_front (suc n) x y l =
     let m = length-drop 20 x in
@@ -114,6 +114,21 @@ module _ (name : Kind → Bytes → Bytes) (namer : IsNamer name) where
   pub told_sound : (told : Option Bytes) → IfSome (told_by name told) (IsSound name)
   told_sound told = each_told told (IsSound name) (λ text e r g. (is_told name namer text r g).1.sound)
 
+  -- a record of a name stands at a place before an end
+  pub record_at : (text : Bytes) (ends place : ℕ) (called : Bytes) (held : Record) → ends < 2 ^ 64 → ends ≤ length text → StandsAt (take ends text) place held → held.name ≡ called → held.name ≡ name held.kind held.body
+      → IsRecordAt name text ends place called held
+  record_at text ends place called held small whole stands is named =
+      let l = length-take ends text in
+      let size = stands_short (take ends text) place held stands in
+      let long : length (stored_record Two held) < 2 ^ 64 = omega arith in
+      record {
+        whole = whole;
+        stands = stands;
+        written = record { length = body_short (2 ^ 64) held long; name = is_true _ (subst (λ z. T (is_name z)) (sym named) (name_is_name name namer held.kind held.body)) };
+        name_is = is;
+        named = named;
+      }
+
   module _ {A : Type 0} {is_first : Bool} (told : Option Bytes) (ends : ℕ) (tail : Tail A) (opened : IsOpened name told is_first ends tail) where
     -- the runs and refs that are held, of a text that tells a repository
     pub record IsSeen (text : Bytes) (r : Records) : Type 0 where
@@ -135,29 +150,15 @@ module _ (name : Kind → Bytes → Bytes) (namer : IsNamer name) where
     record_stands called place text e r g found =
         let s = seen text e r g in
         let t = s.told_is in
-        let front = take s.x.0.ends text in
         let held = found.0 in
-        let small = opened.small in
-        let l = length-take s.x.0.ends text in
-        let size = stands_short front place held found.3 in
-        let same = s.ends_is in
-        let long : length (stored_record Two held) < 2 ^ 64 = omega arith in
         let named : held.name ≡ name held.kind held.body = all_named (λ z. z.name ≡ name z.kind z.body) r.records called held t.sound.named found.1 in
         record {
           held = held;
           named = found.1;
           stands = λ other i.
               let one : text ≡ other = some_is text other (sym e ∙ i) in
-              subst (λ z. IsRecordAt name z ends place called held) one (record {
-                whole = subst (λ n. n ≤ length text) (sym s.ends_is) t.ends;
-                stands = subst (λ n. StandsAt (take n text) place held) (sym s.ends_is) found.3;
-                written = record {
-                  length = body_short (2 ^ 64) held long;
-                  name = is_true _ (subst (λ z. T (is_name z)) (sym named) (name_is_name name namer held.kind held.body));
-                };
-                name_is = found.2;
-                named = named;
-              });
+              subst (λ z. IsRecordAt name z ends place called held) one
+              (record_at text ends place called held opened.small (subst (λ n. n ≤ length text) (sym s.ends_is) t.ends) (subst (λ n. StandsAt (take n text) place held) (sym s.ends_is) found.3) found.2 named);
         }
 
     -- a place that is found is that of the record with the name

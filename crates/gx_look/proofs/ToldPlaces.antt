@@ -67,7 +67,7 @@ position_behind p x xs = by (p x)
     by false = ap (λ t. cond t (Some (1 + position_or_len p xs)) None) (less_behind (position_or_len p xs) (length xs)) ∙ shift (position_or_len p xs) (nat_lt (position_or_len p xs) (length xs))
 
 -- a name that none of these has isn't among them
-not_among : (n : Bytes) (rs : List Record) → list_any (same_bytes n) (map (λ held. held.name) rs) ≡ false → AnyByRecursion (λ held. held.name ≡ n) rs → ⊥
+pub not_among : (n : Bytes) (rs : List Record) → list_any (same_bytes n) (map (λ held. held.name) rs) ≡ false → AnyByRecursion (λ held. held.name ≡ n) rs → ⊥
 not_among n [] e h = h
 not_among n (r ∷ rs) e h = by (not_among n rs) (same_bytes n r.name) (list_any (same_bytes n) (map (λ held. held.name) rs)) refl refl e h
   where

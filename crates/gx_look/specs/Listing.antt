@@ -1,7 +1,7 @@
 -- All objects of a growing text, by the rows of its live runs.
-use Rattle.std.specs.Prelude.{◌≡◌, ℕ, ◌≤◌, List, [], ◌∷◌, ◌++◌, length, map, Option, Some, None, Result, ⊤}
-use Rattle.std.specs.List.{AllByRecursion, AllZip}
-use Rattle.std.specs.List.Sorted.{IsPermutation}
+use Rattle.std.specs.Prelude.{◌≡◌, ℕ, List, ◌++◌, length, map, Option, Some, None, Result, ⊤}
+use Rattle.std.specs.List.{AllZip}
+use Rattle.std.specs.List.Sorted.{IsNonDecreasingBy, IsPermutation}
 use Rattle.gx_model.specs.declared.objects.Kind.{Kind}
 use Rattle.gx_model.specs.Texts.{Bytes}
 use Rattle.gx_model.specs.Histories.{AreDistinct, Record}
@@ -24,15 +24,10 @@ abbrev pub AddsRows : Option Bytes → GivenRun → List Row → List Row → Ty
 AddsRows None run old new = ⊤
 AddsRows (Some text) run old new = new ≡ old ++ run_rows text (shown_run run)
 
--- places that never fall
-abbrev pub NeverFall : List ℕ → Type 0
-NeverFall [] = ⊤
-NeverFall (p ∷ ps) = AllByRecursion (λ later. p ≤ later) ps × NeverFall ps
-
 -- these are the rows of runs, in the order of places
 pub record AreRows (text : Bytes) (runs : List GivenRun) (rows : List Row) : Type 0 where
   pub all : IsPermutation (live_rows text (map shown_run runs)) rows
-  pub up : NeverFall (map (λ row. row.1) rows)
+  pub up : IsNonDecreasingBy (λ row. row.1) rows
 
 abbrev pub AreRowsOf : Option Bytes → List GivenRun → List Row → Type 0
 AreRowsOf None runs rows = ⊤

@@ -34,11 +34,11 @@ pub(crate) fn rows_by_place<S: ReadAt, A: Allocator + Copy>(
     for run in runs {
         push_rows(alloc, source, run, &mut rows, &mut room)?;
     }
-    rows.sort_unstable_by_key(|row: &Row| -> u64
-        ensures { result ≡ row.now.1 }
-    {
-        row.1
-    });
+    rows.sort_unstable_by_key(
+        |row: &Row| -> u64
+            ensures { result ≡ row.now.1 }
+        { row.1 },
+    );
     Ok(rows)
 }
 

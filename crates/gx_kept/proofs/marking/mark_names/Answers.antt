@@ -1,11 +1,23 @@
-use Rattle.std.proofs.Common.{◌+◌, ap, subst, arith, drop, drop_of_length-le, refl}
+use Rattle.std.proofs.Common.{◌+◌, ap, refl, subst, arith, drop, drop_of_length-le}
 use Rattle.gx_object.specs.Commits.{bytes_of_names}
 use Rattle.gx_repo.proofs.PrunedRecords.{next_name}
+use Rattle.gx_kept.proofs.ListedRecords.{within_listed}
 use Rattle.gx_kept.proofs.SetMarks.{MarksListedSoFar, listed_all, listed_next, listed_none, listed_nowhere, listed_there}
 use Rattle.gx_kept.proofs.marking.mark_names.Goals as goal
 
 pub loop-name-init : goal.loop-name-init
 loop-name-init g c = (refl, listed_none c.args.listing.now (bytes_of_names c.args.names.now) c.args.marks.now)
+
+pub bounds-marks-number : goal.bounds-marks-number
+bounds-marks-number g c =
+    let within = within_listed c.args.listing.now _ c.in-Some.number c.in-Some.ensures in
+    omega (arith, c.loop-name.invariant.0, c.requires, within)
+
+pub loop-name-preserved-in-Some : goal.loop-name-preserved-in-Some
+loop-name-preserved-in-Some g c = ?
+
+pub loop-name-preserved : goal.loop-name-preserved
+loop-name-preserved g c = ?
 
 pub returns-clause-marks : goal.returns-clause-marks
 returns-clause-marks g c =

@@ -1,6 +1,6 @@
-use Rattle.std.proofs.Common.{◌≡◌, ◌-◌, ◌≤◌, ℕ, arith, length}
+use Rattle.std.proofs.Common.{◌≡◌, ◌-◌, ◌≤◌, ℕ, arith, length, refl, sym}
 use Rattle.std.proofs.lemmas.Result.{err_from_is_err_and}
-use Rattle.gx_look.proofs.ListedTexts.{standing_of}
+use Rattle.gx_look.proofs.ListedTexts.{head_is, standing_of}
 use Rattle.gx_look.proofs.RecordsInRooms.{heading_fault, heading_is, length_fits, told_apart}
 use Rattle.gx_look.proofs.listing.standing_at.Goals as goal
 
@@ -39,3 +39,15 @@ returns-then-heading-left g c =
     standing_of told c.args.ends c.args.place c.args.name.now _ (λ name text is held here same.
     let fits = length_fits name told c.args.ends c.args.place c.args.name.now.bytes room c.as_slice.result.now c.as_slice.ensures.value c.in_ok-refill.ensures.there within wide text is held here (c.in_ok-heading.heading, c.in_ok-heading.start) c.in_ok-heading.ensures.heading in
     absurd (omega (arith, fits, left, c.if-heading-left.true)))
+
+pub returns : goal.returns
+returns g c =
+    let told = g.S.ReadAt.text c.args.source.now in
+    let room = c.refill.new.room.items in
+    let size = c.in_ok-refill.ensures.count in
+    let left = c.in-Some.ensures.1 in
+    let within : length room ≤ c.args.ends - c.args.place = omega (arith, size, left, c.min.ensures) in
+    let wide : (n : ℕ) → n ≤ 128 → n ≤ c.args.ends - c.args.place → n ≤ length room = λ n a b. omega (arith, size, left, c.min.ensures) in
+    standing_of told c.args.ends c.args.place c.args.name.now _ (λ name text is held here.
+    let h = heading_is name told c.args.ends c.args.place c.args.name.now.bytes room c.as_slice.result.now c.as_slice.ensures.value c.in_ok-refill.ensures.there within wide text is held here (c.in_ok-heading.heading, c.in_ok-heading.start) c.in_ok-heading.ensures.heading in
+    (refl, head_is c.args.name.now _ held (sym here.name_is) h.kind_is h.length_is))

@@ -1,0 +1,68 @@
+use Rattle.std.proofs.Common.{◌+◌, arith, sym}
+use Rattle.std.proofs.lemmas.Result.{err_from_is_err_and}
+use Rattle.gx_file.proofs.SentTexts.{is_within}
+use Rattle.gx_listed.specs.Listings.{Listed}
+use Rattle.gx_kept.proofs.LaidMarks.{some_at}
+use Rattle.gx_kept.proofs.SentObjects.{known_told, stands_told, stops_told, there_told}
+use Rattle.gx_kept.proofs.SentRecords.{all_sent, none_sent, one_sent, one_stops, past_sent}
+use Rattle.gx_kept.proofs.Spreading.{all_listed, stands_listed}
+use Rattle.gx_kept.proofs.sending.send_records.Goals as goal
+
+pub loop-number-init : goal.loop-number-init
+loop-number-init g c = none_sent (g.O.Objects.name_of c.args.objects.now) (g.O.Objects.told c.args.objects.now) c.args.listing.now c.args.marks.now (g.W.Sink.taken c.args.sink.now)
+
+pub unreachable-requires : goal.unreachable-requires
+unreachable-requires g c = is_within c.args.listing.now c.loop-number.number c.in_default.ensures (omega (arith, c.loop-number-test.true, c.len.ensures))
+
+pub send_object-requires-clause-there : goal.send_object-requires-clause-there
+send_object-requires-clause-there g c =
+    stands_listed (g.O.Objects.name_of c.args.objects.now) (g.O.Objects.stands c.args.objects.now) (g.O.Objects.told c.args.objects.now) c.args.listing.now c.sound_if_told.ensures.sound c.requires.listed
+    c.loop-number.number (c.in-Some.name, c.in-Some.standing) c.in-Some.ensures
+
+pub send_object-requires-clause-known : goal.send_object-requires-clause-known
+send_object-requires-clause-known g c =
+    known_told (g.O.Objects.name_of c.args.objects.now) (g.O.Objects.stands c.args.objects.now) (g.O.Objects.told c.args.objects.now) c.args.listing.now c.sound_if_told.ensures.sound c.requires.listed
+    c.loop-number.number (c.in-Some.name, c.in-Some.standing) c.in-Some.ensures
+
+pub returns-in_err-send_object-clause-records : goal.returns-in_err-send_object-clause-records
+returns-in_err-send_object-clause-records g c =
+    let p = err_from_is_err_and c.from_residual.result c.from_residual.ensures.1 in
+    let name = g.O.Objects.name_of c.args.objects.now in
+    let stands = g.O.Objects.stands c.args.objects.now in
+    let told = g.O.Objects.told c.args.objects.now in
+    let listed = c.args.listing.now in
+    let mid = g.W.Sink.taken c.loop-number.sink in
+    let now = g.W.Sink.taken c.send_object.new.sink in
+    let one : Listed = (c.in-Some.name, c.in-Some.standing) in
+    rw (p.1, p.2) (one_stops name told listed c.args.marks.now (g.W.Sink.taken c.args.sink.now) c.loop-number.number mid c.loop-number.invariant one (sym c.in-Some.ensures) now c.in_err-send_object.field-0 c.if-marks-number.true
+    (stops_told name stands told listed c.sound_if_told.ensures.sound c.requires.listed c.loop-number.number one c.in-Some.ensures mid now c.in_err-send_object.field-0 c.in_err-send_object.ensures.record))
+
+pub loop-number-preserved-then-marks-number : goal.loop-number-preserved-then-marks-number
+loop-number-preserved-then-marks-number g c =
+    let name = g.O.Objects.name_of c.args.objects.now in
+    let stands = g.O.Objects.stands c.args.objects.now in
+    let told = g.O.Objects.told c.args.objects.now in
+    let listed = c.args.listing.now in
+    let one : Listed = (c.in-Some.name, c.in-Some.standing) in
+    let sent = c.in_ok-send_object.ensures.record in
+    one_sent name told listed c.args.marks.now (g.W.Sink.taken c.args.sink.now) c.loop-number.number (g.W.Sink.taken c.loop-number.sink) c.loop-number.invariant one (sym c.in-Some.ensures)
+    sent.0 (g.W.Sink.taken c.send_object.new.sink) c.if-marks-number.true sent.1 sent.2 sent.3
+    (there_told name stands told listed c.sound_if_told.ensures.sound c.requires.listed c.loop-number.number one c.in-Some.ensures sent.0 sent.4)
+
+pub loop-number-preserved : goal.loop-number-preserved
+loop-number-preserved g c =
+    let name = g.O.Objects.name_of c.args.objects.now in
+    let stands = g.O.Objects.stands c.args.objects.now in
+    let told = g.O.Objects.told c.args.objects.now in
+    let listed = c.args.listing.now in
+    let number = c.loop-number.number in
+    let there = some_at listed number (omega (arith, c.loop-number-test.true, c.len.ensures)) in
+    past_sent name told listed c.args.marks.now (g.W.Sink.taken c.args.sink.now) number (g.W.Sink.taken c.loop-number.sink) c.loop-number.invariant there.0 there.1 c.if-marks-number.false
+    (stands_told name stands told listed c.sound_if_told.ensures.sound c.requires.listed number there.0 (sym there.1))
+
+pub returns-clause-records : goal.returns-clause-records
+returns-clause-records g c =
+    let told = g.O.Objects.told c.args.objects.now in
+    let listed = c.args.listing.now in
+    all_sent (g.O.Objects.name_of c.args.objects.now) told listed c.args.marks.now (g.W.Sink.taken c.args.sink.now) c.loop-number.number (g.W.Sink.taken c.loop-number.sink) c.loop-number.invariant
+    (omega (arith, c.loop-number-test.false, c.len.ensures)) (all_listed (g.O.Objects.stands c.args.objects.now) told listed c.requires.listed)

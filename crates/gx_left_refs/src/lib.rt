@@ -1,8 +1,8 @@
 //! The refs that are left when some are dropped, by the lines of refs alone.
 #![tactic(auto)]
 
-mod left_refs;
+mod refs;
 #[cfg(test)]
 mod tests;
 
-pub use left_refs::{LeftRefs, left_refs};
+pub use refs::{LeftRefs, left_refs};

@@ -32,6 +32,9 @@ use Rattle.gx_salvage_refs.specs.declared.lost.Lost.{Lost}
 
 -- ---- one ref after the other
 
+pub none_parted : {A : Type 0} (records : List Record) (kept : List RefChange) (lost : List (Lost A)) → kept ≡ [] → lost ≡ [] → ArePartedBy records [] (map shown_update kept) lost
+none_parted records kept lost e f = record { kept_are = ap (map shown_update) e; lost_are = ap (map lost_ref) f }
+
 module _ {A : Type 0} (records : List Record) (refs kept : List Ref) (lost : List (Lost A)) where
   pub one_kept : (ref : Ref) → is_settable records ref ≡ true → ArePartedBy records refs kept lost → ArePartedBy records (refs ++ ref ∷ []) (kept ++ ref ∷ []) lost
   one_kept ref e p = record {

@@ -33,6 +33,7 @@ use Rattle.gx_reached.specs.declared.damage.Damage.{Damage}
 use Rattle.gx_salvage_refs.specs.declared.lost.Lost.{Lost}
 use Rattle.gx_reached.proofs.Closing.{all_weaker}
 use Rattle.gx_reached.proofs.LinkedRecords.{split_at}
+use Rattle.gx_salvage_refs.proofs.Refusals.{not_some}
 use Rattle.gx_salvage_refs.proofs.TakenOver.{same_held}
 
 -- ---- any loss
@@ -101,8 +102,8 @@ module _ (name : Kind → Bytes → Bytes) (r : Records) (sound : IsSound name r
     unread l (inl (unheld, e)) u = by (damage_in bad l.target.bytes) refl e u.settled
       where
         by : (o : Option Damage) → damage_in bad l.target.bytes ≡ o → IsKnownDamage l.target o l.damage → IsSettled rs bad l.target.bytes → l.damage.cause ≡ ReadFailed
-        by o f k (inl s) = absurd (let t : IsTrue (is_some None) = subst (λ (x : Option Record). IsTrue (is_some x)) unheld s in cc t)
-        by None f k (inr b) = absurd (let t : IsTrue (is_some None) = subst (λ (x : Option Damage). IsTrue (is_some x)) f b in cc t)
+        by o f k (inl s) = absurd (not_some (record_named rs l.target.bytes) unheld s)
+        by None f k (inr b) = absurd (not_some (damage_in bad l.target.bytes) f b)
         by (Some d) f k (inr b) = ap (λ (x : Damage). x.cause) k ∙ (are.damages.each l.target.bytes d f).unread
 
     all_unread : (ls : List (Lost A)) → AllByRecursion (IsLossBy rs bad) ls → AllByRecursion IsUnread (map lost_ref ls) → AllByRecursion (λ l. l.damage.cause ≡ ReadFailed) ls

@@ -23,6 +23,11 @@ use Rattle.gx_reached.proofs.Entering.{bad_now, entered, keeps_bad}
 use Rattle.gx_reached.proofs.LinkedRecords.{links_named}
 use Rattle.gx_salvage_refs.specs.Taking.{AreUnsaved, FindsDamage}
 
+-- one that is some isn't none
+pub not_some : {X : Type 0} (o : Option X) → o ≡ None → IsTrue (is_some o) → ⊥
+not_some None e h = passes _ h
+not_some (Some x) e h = cc e
+
 -- before one record is taken over
 pub none_taken : {A : Type 0} (name : Kind → Bytes → Bytes) (told : Option Records) (records : List Record) (bad : Bad A) → records ≡ [] → AreDamages name told bad → AreUnsaved name told records bad
 none_taken name told records bad none are = record { damages = are; unheld = λ called d e. ap (λ rs. record_named rs d.object.bytes) none }
@@ -66,7 +71,7 @@ grown name told records bad r fresh are = record {
     other : (d : Damage) → IsBad bad d.object.bytes → (b : Bool) → same_bytes d.object.bytes r.name ≡ b → b ≡ false
     other d bad_is true k =
         let same = same_is d.object.bytes r.name (passes _ k) in
-        absurd (let t : IsTrue (is_some (damage_in bad r.name)) = subst (λ n. IsTrue (is_some (damage_in bad n))) same bad_is in let f : IsTrue (is_some None) = subst (λ (o : Option Damage). IsTrue (is_some o)) fresh t in cc f)
+        absurd (not_some (damage_in bad r.name) fresh (subst (λ n. IsTrue (is_some (damage_in bad n))) same bad_is))
     other d bad_is false k = refl
 
 -- ---- what a link leads to

@@ -1,12 +1,12 @@
 -- What is saved of the refs that lines spell.
 use Rattle.std.proofs.Common.{◌≡◌, ℕ, refl, sym, ap, subst, ◌∙◌, List, [], ◌∷◌, map, Option, Some, None, Ok, Err, inl, inr, ◌⊎◌}
-use Rattle.std.specs.Prelude.{T, is_none, not, IfSome, IsTrue, Result, Unit}
+use Rattle.std.specs.Prelude.{T, not, IfSome, IsTrue, Result}
 use Rattle.std.specs.Bool.{passes}
 use Rattle.std.specs.FinMap.Entries.{is_sorted}
 use Rattle.std.specs.List.{AllByRecursion, filter, flat_map, list_all}
 use Rattle.gx_model.specs.declared.faults.Fault.{Fault}
 use Rattle.gx_model.specs.declared.objects.Kind.{Kind}
-use Rattle.gx_model.specs.Faults.{Gives, unless}
+use Rattle.gx_model.specs.Faults.{IsFaultOf, unless}
 use Rattle.gx_model.specs.Histories.{Record, Records}
 use Rattle.gx_model.specs.Objects.{IsNamer, is_name}
 use Rattle.gx_model.specs.Records.Publishing.{Ref, changes_fault, published, with_changes}
@@ -114,7 +114,7 @@ module _ {A : Type 0} (old : Records) (none : old.refs ≡ []) (refs kept : List
   set = ap (λ o. unless o (with_changes old.refs kept)) are_fine
 
   -- no other answer than want of memory
-  pub none_refused : (fault : PublishFault) → Gives {X = Unit {0}} fault_of (λ _. old.refs) (Err fault) (published old kept) → fault ≡ refusals.OutOfMemory
+  pub none_refused : (fault : PublishFault) → IsFaultOf (fault_of fault) (published old kept) → fault ≡ refusals.OutOfMemory
   none_refused refusals.OutOfMemory h = refl
   none_refused refusals.BadRefName h = absurd (let e = sym set ∙ h in cc e)
   none_refused refusals.UnknownObject h = absurd (let e = sym set ∙ h in cc e)

@@ -31,7 +31,7 @@ use Rattle.gx_reached.specs.declared.damage.Cause.TheVariants.{ReadFailed}
 use Rattle.gx_reached.specs.declared.damage.Damage.{Damage}
 use Rattle.gx_reached.proofs.Closing.{among_cases, visited_more}
 use Rattle.gx_reached.proofs.Stepping.{shown_body, told_alone, told_both}
-use Rattle.gx_salvage_refs.proofs.Refusals.{link_by}
+use Rattle.gx_salvage_refs.proofs.Refusals.{link_by, not_some}
 use Rattle.gx_salvage_refs.proofs.TakenOver.{taken_over}
 use Rattle.gx_salvage_refs.proofs.Visits.{last_visited, visited_without}
 
@@ -50,11 +50,11 @@ keeps_with rs x n h = saved_with rs x n h
 
 pub saved_last : (rs : List Record) (x : Record) → IsSaved (rs ++ x ∷ []) x.name
 saved_last [] x = ap (λ b. is_some (cond b (Some x) None)) (is_true _ (is_same x.name x.name refl))
-saved_last (r ∷ rs) x = by (same_bytes x.name r.name)
+saved_last (r ∷ rs) x = by (same_bytes x.name r.name) (saved_last rs x)
   where
-    by : (b : Bool) → IsTrue (is_some (cond b (Some r) (record_named (rs ++ x ∷ []) x.name)))
-    by true = refl
-    by false = saved_last rs x
+    by : (b : Bool) → IsSaved (rs ++ x ∷ []) x.name → IsTrue (is_some (cond b (Some r) (record_named (rs ++ x ∷ []) x.name)))
+    by true h = refl
+    by false h = h
 
 pub settled_more : {A : Type 0} (old new : List Record) (bad then : Bad A) → KeepsSaved old new → KeepsBad bad then → (n : Bytes) → IsSettled old bad n → IsSettled new then n
 settled_more old new bad then saved keeps n h = elim h [ inl s ↦ inl (saved n s) | inr b ↦ inr (keeps n b) ]
@@ -75,7 +75,7 @@ all_or_any P Q (l ∷ ls) h = elim h.0 [
 some_bad : {A : Type 0} (bad : Bad A) (ls : List Bytes) → AnyByRecursion (IsBad bad) ls → AllByRecursion (λ l. damage_in bad l ≡ None) ls → ⊥
 some_bad bad [] h a = h
 some_bad bad (l ∷ ls) h a = elim h [
-  | inl b ↦ (let f : IsTrue (is_some None) = subst (λ (o : Option Damage). IsTrue (is_some o)) a.0 b in cc f)
+  | inl b ↦ not_some (damage_in bad l) a.0 b
   | inr q ↦ some_bad bad ls q a.1
 ]
 
@@ -95,7 +95,7 @@ module _ {A : Type 0} (name : Kind → Bytes → Bytes) (namer : IsNamer name) (
   link_bad : damage_in bad called ≡ None → record_named rs called ≡ None → IsReady r rs bad called → (f : FileFault) → record_fault rs (record_for name o.kind o.body.now) ≡ Some f → AnyByRecursion (IsBad bad) (links_of o.kind o.body.now)
   link_bad fresh unheld ready f e =
       elim ready [
-        | inl b ↦ absurd (let t : IsTrue (is_some None) = subst (λ (d : Option Damage). IsTrue (is_some d)) fresh b in cc t)
+        | inl b ↦ absurd (not_some (damage_in bad called) fresh b)
         | inr links ↦
             let s = is_shown r.records called o.kind o.body.now held in
             let settled = subst (λ b. AllByRecursion (IsSettled rs bad) (links_of o.kind b)) s.of_body (subst (λ k. AllByRecursion (IsSettled rs bad) (links_of k s.held.body)) s.of_kind (links s.held s.found)) in

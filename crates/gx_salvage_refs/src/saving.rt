@@ -57,7 +57,9 @@ where
             repo,
             lost: parted.lost,
         }),
-        Err(PublishFault::OutOfMemory) => Err(AllocError),
-        Err(_) => unreachable!(),
+        Err(fault) => match fault {
+            PublishFault::OutOfMemory => Err(AllocError),
+            _ => unreachable!(),
+        },
     }
 }

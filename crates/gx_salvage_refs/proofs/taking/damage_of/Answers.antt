@@ -11,7 +11,7 @@ no_link = record { name = record { bytes = [] }; is_blob = false }
 pub loop-link-preserved : goal.loop-link-preserved
 loop-link-preserved g c =
     let items = c.as_slice-link-items.result.now in
-    one_without (λ (link : Link). damage_in c.args.bad.now link.name.bytes ≡ None) items c.loop-link.link-index no_link c.loop-link-test.true c.loop-link.invariant ?
+    one_without (λ (link : Link). damage_in c.args.bad.now link.name.bytes ≡ None) items c.loop-link.link-index no_link c.loop-link-test.true c.loop-link.invariant (sym c.in_default.ensures)
 
 pub returns-in-Some : goal.returns-in-Some
 returns-in-Some g c =

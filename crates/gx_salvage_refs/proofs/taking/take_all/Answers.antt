@@ -1,4 +1,4 @@
-use Rattle.std.proofs.Common.{◌≡◌, ℕ, ◌∙◌, [], ◌∷◌, ap, arith, false, length, length-append, refl, sym, true}
+use Rattle.std.proofs.Common.{◌≡◌, ℕ, ◌<◌, ◌∙◌, [], ◌∷◌, ap, arith, false, length, length-append, refl, sym, true}
 use Rattle.gx_object.specs.declared.name.Name.{Name}
 use Rattle.gx_reached.proofs.Fronts.{nothing_left}
 use Rattle.gx_salvage_refs.proofs.Refusals.{none_taken}
@@ -59,5 +59,5 @@ pub returns-clause-settled : goal.returns-clause-settled
 returns-clause-settled g c =
     let o = c.args.objects.now in
     let l = c.loop-place in
-    let none : l.left.items ≡ [] = nothing_left l.left.items (λ m. let f : false ≡ true = c.in_default.ensures.variant.1 m in cc f) in
+    let none : l.left.items ≡ [] = nothing_left l.left.items (λ m. let some : 0 < l.left.len = omega (arith, m, l.left.ok.0) in let f : false ≡ true = c.in_default.ensures.variant.1 some in cc f) in
     all_settled (g.O.Objects.told o) (g.O.Objects.stands o) c.args.visited.items c.args.bad.now l.repo.1.records l.bad l.left.items none l.invariant.left

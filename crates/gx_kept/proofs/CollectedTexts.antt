@@ -79,17 +79,18 @@ module _ (name : Kind → Bytes → Bytes) (namer : IsNamer name) (read : AreRea
 
     -- whatever comes of sending those that are marked, it comes of sending all
     pub rewriting : (result : Result (Unit {0}) KeptFault) → IfSome told (λ r. Sends (growing_text sha256 (left_of marks r)) was now result)
-        → IfSome told (λ r. IfOk result (λ _. length (growing_text sha256 (left_of marks r)) < 2 ^ 63)) → IfSome told (λ r. Rewrites name r was now result)
-    rewriting result sent short = by told sound lists sent short
+        → IfOk result (λ _. IfSome told (λ r. length (growing_text sha256 (left_of marks r)) < 2 ^ 63)) → IfSome told (λ r. Rewrites name r was now result)
+    rewriting (Ok u) sent short = by told sound lists sent short
       where
-        reads : (result : Result (Unit {0}) KeptFault) (r : Records) → IsSound name r → left_of marks r ≡ r → IfOk result (λ _. length (growing_text sha256 (left_of marks r)) < 2 ^ 63) → IfOk result (λ _. grown_of name sha256 (growing_text sha256 r) ≡ Ok r)
-        reads (Ok u) r s is k = read r s (subst (λ (x : Records). length (growing_text sha256 x) < 2 ^ 63) is k)
-        reads (Err f) r s is k = tt
-
-        by : (o : Option Records) → IfSome o (IsSound name) → ListsIfTold o stands listed → IfSome o (λ r. Sends (growing_text sha256 (left_of marks r)) was now result)
-            → IfSome o (λ r. IfOk result (λ _. length (growing_text sha256 (left_of marks r)) < 2 ^ 63)) → IfSome o (λ r. Rewrites name r was now result)
+        by : (o : Option Records) → IfSome o (IsSound name) → ListsIfTold o stands listed → IfSome o (λ r. Took was now (growing_text sha256 (left_of marks r)))
+            → IfSome o (λ r. length (growing_text sha256 (left_of marks r)) < 2 ^ 63) → IfSome o (λ r. Rewrites {X = Unit {0}} name r was now (Ok u))
         by None s l t k = tt
         by (Some r) s l t k = record {
-          text = subst (λ (x : Records). Sends (growing_text sha256 x) was now result) (all_left r l) t;
-          read = reads result r s (all_left r l) k;
+          text = subst (λ (x : Records). Took was now (growing_text sha256 x)) (all_left r l) t;
+          read = read r s (subst (λ (x : Records). length (growing_text sha256 x) < 2 ^ 63) (all_left r l) k);
         }
+    rewriting (Err f) sent short = by told lists sent
+      where
+        by : (o : Option Records) → ListsIfTold o stands listed → IfSome o (λ r. Stops (growing_text sha256 (left_of marks r)) was now f) → IfSome o (λ r. Rewrites {X = Unit {0}} name r was now (Err f))
+        by None l t = tt
+        by (Some r) l t = record { text = subst (λ (x : Records). Stops (growing_text sha256 x) was now f) (all_left r l) t; read = tt }

@@ -41,9 +41,8 @@ module _ (called : Name) (object : Object) where
       by None named h = absurd (cc)
       by (Some held) named h =
           let name : held.name ≡ called.bytes = named held refl in
-          let kind : held.kind ≡ object.kind = cc in
-          let body : held.body ≡ object.body.now = cc in
-          λ i. Some (record { name = name i; kind = kind i; body = body i })
+          let is : object_of held ≡ (object.kind, object.body.now) = cc in
+          λ i. Some (record { name = name i; kind = (is i).0; body = (is i).1 })
 
   module _ (told : Option Records) (there : IfSome told (λ r. IsHeldThere called.bytes r object)) where
     pub is_told : IfSome told (λ r. record_named r.records called.bytes ≡ Some its_record)

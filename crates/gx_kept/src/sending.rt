@@ -36,8 +36,8 @@ pub(crate) fn send_marked<O: Objects, A: Allocator + Copy, W: Sink>(
     requires long { length marks.now ≡ length listing.now }
     ensures text { IfSome (O.told objects.now) (λ r. Sends (growing_text sha256 (left_of marks.now r))
         (W.taken sink.old) (W.taken sink.new) result) }
-    ensures short { IfSome (O.told objects.now) (λ r. IfOk result (λ _.
-        length (growing_text sha256 (left_of marks.now r)) < 2 ^ 63)) }
+    ensures short { IfOk result (λ _. IfSome (O.told objects.now)
+        (λ r. length (growing_text sha256 (left_of marks.now r)) < 2 ^ 63)) }
     ensures named { SendsNamed (O.name_of objects.now) (W.taken sink.old) (W.taken sink.new) result }
     ensures fault { IsOnTheWay (O.told objects.now) result }
 {

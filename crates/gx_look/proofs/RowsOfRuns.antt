@@ -95,7 +95,7 @@ map_behind : (front : List GivenRun) (run : GivenRun) (behind : List GivenRun) �
 map_behind [] run behind = refl
 map_behind (r ∷ rs) run behind = ap (λ z. shown_run r ∷ z) (map_behind rs run behind)
 
-live_split : (text : Bytes) (front : List GivenRun) (run : GivenRun) (behind : List GivenRun) → live_rows text (map shown_run (front ++ run ∷ behind)) ≡ live_rows text (map shown_run front) ++ (run_rows text (shown_run run) ++ live_rows text (map shown_run behind))
+pub live_split : (text : Bytes) (front : List GivenRun) (run : GivenRun) (behind : List GivenRun) → live_rows text (map shown_run (front ++ run ∷ behind)) ≡ live_rows text (map shown_run front) ++ (run_rows text (shown_run run) ++ live_rows text (map shown_run behind))
 live_split text front run behind = ap (live_rows text) (map_behind front run behind) ∙ live_behind text (map shown_run front) (shown_run run) (map shown_run behind)
 
 -- a run that has the name is among the runs

@@ -18,7 +18,7 @@ returns-in_err-marks-clause-text g c =
 
 pub returns-clause-text : goal.returns-clause-text
 returns-clause-text g c =
-    let all = c.as_slice.ensures.value ∙ c.in_ok-marks.ensures ∙ ap (λ n. replicate n true) c.len-count.ensures in
+    let all = c.as_slice.ensures.value ∙ c.in_ok-marks.ensures.items_if_clones_equal (λ y e. e) ∙ ap (λ n. replicate n true) c.len-count.ensures in
     rewriting (g.O.Objects.name_of c.args.objects.now) c.sound_if_told.ensures.namer ((c.growing_is_read.ensures (g.O.Objects.name_of c.args.objects.now) c.sound_if_told.ensures.namer).written sha256 digester)
     (g.O.Objects.stands c.args.objects.now) (g.O.Objects.told c.args.objects.now) c.args.listing.now c.sound_if_told.ensures.sound c.requires.listed
     c.as_slice.result.now (g.W.Sink.taken c.args.sink.now) (g.W.Sink.taken c.send_marked.new.sink) all c.send_marked.result c.send_marked.ensures.text c.send_marked.ensures.short

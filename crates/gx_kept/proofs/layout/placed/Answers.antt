@@ -1,6 +1,5 @@
 use Rattle.std.proofs.Common.{◌≡◌, ◌++◌, ◌∷◌, [], ◌∙◌, arith, List, refl, subst, sym}
 use Rattle.std.specs.Prelude.{◌+◌}
-use Rattle.gx_file.proofs.SentTexts.{is_within}
 use Rattle.gx_listed.specs.Listings.{Listed}
 use Rattle.gx_kept.proofs.LaidMarks.{AreLaid, first_is, none_laid, one_laid, past_laid, placed_is, some_at}
 use Rattle.gx_kept.proofs.layout.placed.Goals as goal
@@ -9,9 +8,6 @@ pub loop-number-init : goal.loop-number-init
 loop-number-init g c = λ records heads.
     subst (λ rows. AreLaid c.args.listing.now c.args.marks.now c.in-Some.first records 0 rows c.in-Some.first) (sym c.new-rows.ensures.items)
     (none_laid c.args.listing.now c.args.marks.now c.in-Some.first records heads)
-
-pub unreachable-requires : goal.unreachable-requires
-unreachable-requires g c = is_within c.args.listing.now c.loop-number.number c.in_default.ensures (omega (arith, c.loop-number-test.true, c.len.ensures))
 
 pub loop-number-preserved-then-marks-number : goal.loop-number-preserved-then-marks-number
 loop-number-preserved-then-marks-number g c = λ records heads.

@@ -1,6 +1,5 @@
 use Rattle.std.proofs.Common.{◌+◌, arith, sym}
 use Rattle.std.proofs.lemmas.Result.{err_from_is_err_and}
-use Rattle.gx_file.proofs.SentTexts.{is_within}
 use Rattle.gx_listed.specs.Listings.{Listed}
 use Rattle.gx_kept.proofs.LaidMarks.{some_at}
 use Rattle.gx_kept.proofs.SentObjects.{known_told, stands_told, stops_told, there_told}
@@ -10,9 +9,6 @@ use Rattle.gx_kept.proofs.sending.send_records.Goals as goal
 
 pub loop-number-init : goal.loop-number-init
 loop-number-init g c = none_sent (g.O.Objects.name_of c.args.objects.now) (g.O.Objects.told c.args.objects.now) c.args.listing.now c.args.marks.now (g.W.Sink.taken c.args.sink.now)
-
-pub unreachable-requires : goal.unreachable-requires
-unreachable-requires g c = is_within c.args.listing.now c.loop-number.number c.in_default.ensures (omega (arith, c.loop-number-test.true, c.len.ensures))
 
 pub send_object-requires-clause-there : goal.send_object-requires-clause-there
 send_object-requires-clause-there g c =

@@ -1,11 +1,14 @@
-use Rattle.std.proofs.Common.{[], get_or}
+use Rattle.std.proofs.Common.{List, [], subst, sym}
 use Rattle.std.proofs.lemmas.Result.{err_from_is_err_and}
 use Rattle.gx_growing.specs.GrowingText.{Row}
-use Rattle.gx_look.proofs.ListedTexts.{all_listed, none_listed, one_listed, one_refused, one_twice}
+use Rattle.gx_listed.specs.Listings.{Listed}
+use Rattle.gx_look.proofs.ListedTexts.{ListsFront, all_listed, none_listed, one_listed, one_refused, one_twice}
 use Rattle.gx_look.proofs.listing.list_rows.Goals as goal
 
 pub loop-row-init : goal.loop-row-init
-loop-row-init g c = none_listed (g.S.ReadAt.text c.args.source.now) c.args.ends c.args.rows.now
+loop-row-init g c =
+    let told = g.S.ReadAt.text c.args.source.now in
+    subst (λ (listed : List Listed). ListsFront told c.args.ends c.args.rows.now 0 listed) (sym c.new-listing.ensures) (none_listed told c.args.ends c.args.rows.now)
 
 pub returns-in_err-standing-clause-fault : goal.returns-in_err-standing-clause-fault
 returns-in_err-standing-clause-fault g c =

@@ -1,13 +1,15 @@
-use Rattle.std.proofs.Common.{[], arith, get_or, rules}
+use Rattle.std.proofs.Common.{List, [], rules, subst, sym}
 use Rattle.std.proofs.lemmas.List.Sorted.{IsNonDecreasingBy-from_sort_by_key}
 use Rattle.std.proofs.lemmas.Result.{err_from_is_err_and}
 use Rattle.gx_growing.specs.GrowingText.{Row}
 use Rattle.gx_growing_parts.specs.declared.runs.Run.{Run}
-use Rattle.gx_look.proofs.ListedRows.{more_live, none_live, rows_are, runs_end}
+use Rattle.gx_look.proofs.ListedRows.{AreLive, more_live, none_live, rows_are, runs_end}
 use Rattle.gx_look.proofs.listing.rows_by_place.Goals as goal
 
 pub loop-run-init : goal.loop-run-init
-loop-run-init g c = none_live (g.S.ReadAt.text c.args.source.now)
+loop-run-init g c =
+    let told = g.S.ReadAt.text c.args.source.now in
+    subst (λ (rows : List Row). AreLive told [] rows) (sym c.new-rows.ensures.items) (none_live told)
 
 pub loop-run-preserved : goal.loop-run-preserved
 loop-run-preserved g c =

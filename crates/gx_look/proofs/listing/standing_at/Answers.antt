@@ -50,4 +50,4 @@ returns g c =
     let wide : (n : ℕ) → n ≤ 128 → n ≤ c.args.ends - c.args.place → n ≤ length room = λ n a b. omega (arith, size, left, c.min.ensures) in
     standing_of told c.args.ends c.args.place c.args.name.now _ (λ name text is held here.
     let h = heading_is name told c.args.ends c.args.place c.args.name.now.bytes room c.as_slice.result.now c.as_slice.ensures.value c.in_ok-refill.ensures.there within wide text is held here (c.in_ok-heading.heading, c.in_ok-heading.start) c.in_ok-heading.ensures.heading in
-    (refl, head_is c.args.name.now _ held (sym here.name_is) h.kind_is h.length_is))
+    (refl, head_is c.args.name.now (record { place = c.args.place; kind = c.in_ok-heading.heading.kind; length = c.in_ok-heading.heading.length }) held (sym here.name_is) h.kind_is h.length_is))

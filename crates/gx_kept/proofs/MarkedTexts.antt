@@ -77,16 +77,16 @@ module _ {A : Type 0} (name : Kind → Bytes → Bytes) (namer : IsNamer name) (
         pub table_stops : FailedWithin third fourth (laid_table layout count tail) → IfSome told (λ r. Stops (text r) was fourth WriteFailed)
         table_stops failed = both_told told IsLaid (λ r. Took second third (records_part (left_of marks r))) (λ r. Stops (text r) was fourth WriteFailed)
             (λ r l t.
-                let many = as_many listed marks (marked marks r.records) count long l.1 counted in
-                let left = less_left (text r) was second third (records_part (left_of marks r)) (table (left_of marks r)) (count_went (left_of marks r) layout l.0 was first second count many head line_went) t in
-                table_fails (left_of marks r) layout l.0 was third fourth count tail many tail_is left failed) laid_told went_told
+            let many = as_many listed marks (marked marks r.records) count long l.1 counted in
+            let left = less_left (text r) was second third (records_part (left_of marks r)) (table (left_of marks r)) (count_went (left_of marks r) layout l.0 was first second count many head line_went) t in
+            table_fails (left_of marks r) layout l.0 was third fourth count tail many tail_is left failed) laid_told went_told
 
         pub all_went : Took third fourth (laid_table layout count tail) → IfSome told (λ r. Took was fourth (text r))
         all_went last = both_told told IsLaid (λ r. Took second third (records_part (left_of marks r))) (λ r. Took was fourth (text r))
             (λ r l t.
-                let many = as_many listed marks (marked marks r.records) count long l.1 counted in
-                let left = less_left (text r) was second third (records_part (left_of marks r)) (table (left_of marks r)) (count_went (left_of marks r) layout l.0 was first second count many head line_went) t in
-                table_went (left_of marks r) layout l.0 was third fourth count tail many tail_is left last) laid_told went_told
+            let many = as_many listed marks (marked marks r.records) count long l.1 counted in
+            let left = less_left (text r) was second third (records_part (left_of marks r)) (table (left_of marks r)) (count_went (left_of marks r) layout l.0 was first second count many head line_went) t in
+            table_went (left_of marks r) layout l.0 was third fourth count tail many tail_is left last) laid_told went_told
 
         -- whatever is told, it is the text of records that have their names
         pub named_went : SpellsRefs lines → Took third fourth (laid_table layout count tail) → (kept : Records) × AreNamed name kept.records × Took was fourth (growing_text sha256 kept)

@@ -12,6 +12,7 @@ pub(crate) mod next_text;
 pub(crate) mod process;
 mod push;
 mod put;
+mod same_text;
 mod set_ref;
 mod small;
 mod stamp;

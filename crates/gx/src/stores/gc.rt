@@ -28,9 +28,11 @@ pub(crate) fn collect(
     let mut next = NextText::claim_next(run, file)?;
     let kept = names_in(alloc, lines.as_slice())?;
     let stamp = next.stamp()?;
-    let gone = match run.want_read(open_growing(run, file))? {
+    // behind the links as they were when it was claimed
+    let store = format!(in alloc; "{}", next.place().store())?;
+    let gone = match run.want_read(open_growing(run, &store))? {
         Some(opened) => {
-            let look = look_into(run, file, opened)?;
+            let look = look_into(run, &store, opened)?;
             let listing = look.listing(alloc, state)?;
             next.publish_kept(stamp, &look, &listing, kept.as_slice())?
         }

@@ -3,8 +3,10 @@
 use super::appending::{InPlace, grow_by, settle};
 use super::before::{Before, TextKind};
 use super::host::Host;
+use super::same_text::are_same;
 use crate::fault::RunFault;
 use crate::looks::FileLook;
+use crate::looks::file_at::FileAt;
 use crate::run::{Run, Subject};
 use crate::stores::files::open_text;
 use crate::streams::devices::{Noted, flushed};
@@ -157,7 +159,7 @@ impl<'a> NextText<'a> {
     }
 
     /// Publishes what refs and these names reach of a growing store file that had this stamp when it was opened. That stays as it is
-    /// where it has nothing else, and as many bytes as the next text. Answers how much goes.
+    /// where it has the bytes of the next text. Answers how much goes.
     ///
     /// Who fails leaves what [`NextText::publish_store`] does.
     pub(crate) fn publish_kept(
@@ -169,18 +171,28 @@ impl<'a> NextText<'a> {
     ) -> Result<Pruned, RunFault> {
         self.host.run.placed(self.text.begin())?;
         let gone = write_kept(self.host.run, &mut self.text, look, listing, kept)?;
-        let is_same = gone.objects == 0 && self.written()? == stamp.size;
+        let is_same = gone.objects == 0 && self.is_written(stamp.size);
         if !is_same || !settle(self.host, self.text.place(), stamp)? {
             self.put_in_place()?;
         }
         Ok(gone)
     }
 
-    /// How many bytes are written of the next text.
-    fn written(&mut self) -> Result<u64, RunFault> {
-        let found = self.host.look(self.text.place().next());
-        let found = self.host.run.want_written(Subject::NextText, found)?;
-        Ok(found.stamp.size)
+    /// Whether what is written of the next text are the bytes of the store file, so many.
+    fn is_written(&mut self, size: u64) -> bool {
+        let (run, mut host) = (self.host.run, self.host);
+        let place = self.text.place();
+        let (Ok(store), Ok(next)) = (host.open(place.store()), host.open(place.next())) else {
+            return false;
+        };
+        match host.look_at(&next) {
+            Ok(found) if found.stamp.size == size => are_same(
+                &FileAt::read_only(run, store),
+                &FileAt::read_only(run, next),
+                size,
+            ),
+            _ => false,
+        }
     }
 
     /// The stamp of the store file, where its text is the next one.

@@ -77,6 +77,12 @@ pub(crate) fn look_into<'a>(
     Ok(look?)
 }
 
+/// How many rows the live runs of a growing store file have: as many as it has objects.
+pub(crate) fn row_count(look: &FileLook<'_>) -> u64 {
+    let runs = look.ending().runs.iter();
+    runs.fold(0u64, |sum, run| sum.saturating_add(run.count))
+}
+
 fn is_damaged<T>(look: &Result<T, LookFault>) -> bool {
     matches!(look, Err(LookFault::Damaged))
 }

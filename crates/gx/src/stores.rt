@@ -3,6 +3,7 @@
 mod appending;
 mod before;
 mod changed;
+mod differing;
 mod drop_refs;
 pub(crate) mod files;
 mod gc;
@@ -12,7 +13,6 @@ pub(crate) mod next_text;
 pub(crate) mod process;
 mod push;
 mod put;
-mod same_text;
 mod set_ref;
 mod small;
 mod stamp;

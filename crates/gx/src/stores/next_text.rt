@@ -1,9 +1,9 @@
 //! The next text of a store file, which a command writes beside it, or of which it appends to the store file what is new.
 
-use super::appending::{InPlace, grow_by, settle};
+use super::appending::{InPlace, changed, grow_by, open_same, settle};
 use super::before::{Before, TextKind};
+use super::differing::Differing;
 use super::host::Host;
-use super::same_text::are_same;
 use crate::fault::RunFault;
 use crate::looks::FileLook;
 use crate::looks::file_at::FileAt;
@@ -170,29 +170,29 @@ impl<'a> NextText<'a> {
         kept: &[Name],
     ) -> Result<Pruned, RunFault> {
         self.host.run.placed(self.text.begin())?;
-        let gone = write_kept(self.host.run, &mut self.text, look, listing, kept)?;
-        let is_same = gone.objects == 0 && self.is_written(stamp.size);
-        if !is_same || !settle(self.host, self.text.place(), stamp)? {
+        let store = self.open_store(stamp)?;
+        let gone = write_kept(self.host.run, &mut self.text, store, look, listing, kept)?;
+        if self.is_written()? {
             self.put_in_place()?;
+        } else if !settle(self.host, self.text.place(), stamp)? {
+            return Err(changed(self.host.run));
         }
         Ok(gone)
     }
 
-    /// Whether what is written of the next text are the bytes of the store file, so many.
-    fn is_written(&mut self, size: u64) -> bool {
-        let (run, mut host) = (self.host.run, self.host);
-        let place = self.text.place();
-        let (Ok(store), Ok(next)) = (host.open(place.store()), host.open(place.next())) else {
-            return false;
-        };
-        match host.look_at(&next) {
-            Ok(found) if found.stamp.size == size => are_same(
-                &FileAt::read_only(run, store),
-                &FileAt::read_only(run, next),
-                size,
-            ),
-            _ => false,
+    /// The store file, to compare the next text with it, and how many bytes it has.
+    fn open_store(&mut self, stamp: Stamp) -> Result<(FileAt<'a>, u64), RunFault> {
+        match open_same(&mut self.host, self.text.place(), stamp) {
+            Some(opened) => Ok((FileAt::read_only(self.host.run, opened), stamp.size)),
+            None => Err(changed(self.host.run)),
         }
+    }
+
+    /// Whether there is something of the next text.
+    fn is_written(&mut self) -> Result<bool, RunFault> {
+        let found = self.host.look(self.text.place().next());
+        let found = self.host.run.want_written(Subject::NextText, found)?;
+        Ok(found.stamp.size > 0)
     }
 
     /// The stamp of the store file, where its text is the next one.
@@ -238,17 +238,19 @@ fn write_store(
     }
 }
 
-/// What is kept of a store goes out through a buffer.
+/// What is kept of a store goes out through a buffer, from where it isn't what the store file has.
 fn write_kept(
     run: &Run<'_>,
     text: &mut gx_place::NextText<Host<'_>>,
+    store: (FileAt<'_>, u64),
     look: &FileLook<'_>,
     listing: &Listing<Global>,
     kept: &[Name],
 ) -> Result<Pruned, RunFault> {
     let alloc = run.rt.alloc();
     let noted = Noted::new(run, Subject::NextText, text);
-    match BufWriter::with_capacity(alloc, BUFFER, noted) {
+    let differing = Differing::new(store, noted);
+    match BufWriter::with_capacity(alloc, BUFFER, differing) {
         Ok(mut out) => {
             let mut sink = IntoWrite::new(&mut out);
             let sent = gx_kept::collect(alloc, look, listing, kept, &mut sink);

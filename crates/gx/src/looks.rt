@@ -42,7 +42,7 @@ pub(crate) fn growing_file<'a>(
 
 /// Opens a file of which the first line is a growing store's. A look comes first, since to open a pipe would wait.
 pub(crate) fn open_growing<'a>(run: &'a Run<'a>, file: &'a str) -> io::Result<Option<FileAt<'a>>> {
-    let mut host = Host { run, file };
+    let mut host = Host::new(run, file);
     if host.look(file)?.kind != FileKind::File {
         return Ok(None);
     }

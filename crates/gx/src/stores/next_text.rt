@@ -39,14 +39,25 @@ pub(crate) struct NextText<'a> {
 impl<'a> NextText<'a> {
     /// That of a store file that is made. A place where there is something is refused.
     pub(crate) fn claim_new(run: &'a Run<'a>, file: &'a str) -> Result<NextText<'a>, RunFault> {
-        let host = Host { run, file };
+        let host = Host::new(run, file);
+        let claimed = gx_place::NextText::claim_new(run.rt.alloc(), host, file, run.patience());
+        NextText::of_claim(host, claimed)
+    }
+
+    /// The same, of what another file tells: it is its owner's alone, unless everybody may read that one.
+    pub(crate) fn claim_beside(
+        run: &'a Run<'a>,
+        file: &'a str,
+        other: &str,
+    ) -> Result<NextText<'a>, RunFault> {
+        let host = Host::beside(run, file, other);
         let claimed = gx_place::NextText::claim_new(run.rt.alloc(), host, file, run.patience());
         NextText::of_claim(host, claimed)
     }
 
     /// That of a store file that is replaced. One that can't be read is refused before anything is made.
     pub(crate) fn claim_next(run: &'a Run<'a>, file: &'a str) -> Result<NextText<'a>, RunFault> {
-        let host = Host { run, file };
+        let host = Host::new(run, file);
         let claimed = gx_place::NextText::claim_next(run.rt.alloc(), host, file, run.patience());
         NextText::of_claim(host, claimed)
     }
@@ -57,7 +68,7 @@ impl<'a> NextText<'a> {
         file: &'a str,
         known: Stamp,
     ) -> Result<NextText<'a>, RunFault> {
-        let (alloc, host) = (run.rt.alloc(), Host { run, file });
+        let (alloc, host) = (run.rt.alloc(), Host::new(run, file));
         let claimed = gx_place::NextText::claim_known(alloc, host, file, run.patience(), known);
         NextText::of_claim(host, claimed)
     }

@@ -1,14 +1,15 @@
 //! Repositories whose texts are appended to, and what is read of a text then.
 
-use crate::texts::version_2;
+use crate::texts::{LINES, version_2};
 use crate::told::{Told, answered};
-use gx_additions::append_objects;
+use gx_additions::{append_additions, append_objects};
 use gx_at::TextAt;
 use gx_disk::{Disk, Plan};
 use gx_growing_file::read_text;
 use gx_look::Look;
-use gx_object::Sha1Namer;
+use gx_object::{Kind, Sha1Namer};
 use gx_repo::{RefChange, Repo, Text};
+use gx_store::Store;
 use std::alloc::Global;
 use std::hash::RandomState;
 
@@ -57,6 +58,37 @@ pub(crate) fn append_grown(
 ) -> Option<Told> {
     let repo = repository(alloc, true, state)?;
     append_to(alloc, disk, &repo, 2)
+}
+
+/// Appends the objects of a store, and the refs of what the commit has grown to.
+fn append_store(
+    alloc: Global,
+    disk: &mut Disk<Global>,
+    store: &Store<Sha1Namer, Global>,
+) -> Option<Told> {
+    let text = Vec::from_slice(alloc, disk.text()).ok()?;
+    let look = Look::open(alloc, Sha1Namer, whole(text.as_slice())).ok()?;
+    let answer = append_additions(alloc, disk, look.ending(), 2, store, 2, LINES);
+    Some(answered(answer))
+}
+
+/// Puts the blobs that the commit has grown by.
+fn put_blobs(store: &mut Store<Sha1Namer, Global>) -> Option<()> {
+    for byte in 0..3u8 {
+        store.put(Kind::Blob, &[byte]).ok()?;
+    }
+    Some(())
+}
+
+/// Appends what the commit has grown by as a store of new objects.
+pub(crate) fn append_blobs(
+    alloc: Global,
+    disk: &mut Disk<Global>,
+    state: RandomState,
+) -> Option<Told> {
+    let mut store = Store::new(alloc, Sha1Namer, state);
+    put_blobs(&mut store)?;
+    append_store(alloc, disk, &store)
 }
 
 /// Adds blobs of one byte, from a number on.

@@ -1,8 +1,8 @@
 //! Objects that are appended, and what is read of the text then.
 
 use crate::growing::{
-    add_blobs, append_grown, append_to, committed, count_runs, disk_with, hold, is_read_as,
-    is_read_back, repository,
+    add_blobs, append_blobs, append_grown, append_to, committed, count_runs, disk_with, hold,
+    is_read_as, is_read_back, repository,
 };
 use crate::told::{Outcome, Told, answered};
 use gx_additions::append_objects;
@@ -139,6 +139,23 @@ fn text_is_the_one_before_or_after_where_one_call_fails(rt: HostRuntime) {
             assert!(rt; made == Some((Some(told), len, true)), "{call} {front}");
         }
     }
+}
+
+/// What is answered where a store of new objects is appended, how long the text is then, and whether it is read as what has grown.
+fn outcome_of_store(alloc: Global, state: RandomState) -> Option<Outcome> {
+    let mut disk = committed(alloc, Plan::NONE, state)?;
+    let told = append_blobs(alloc, &mut disk, state);
+    let text = disk.text();
+    Some((told, text.len(), is_read_as(alloc, text, true, state)))
+}
+
+#[test]
+fn store_of_new_objects_is_appended(rt: HostRuntime) {
+    let Ok(state) = RandomState::new(&rt) else {
+        return assert!(rt; false);
+    };
+    let made = outcome_of_store(rt.alloc(), state);
+    assert!(rt; made == Some((Some(Told::Appended), 1_220, true)));
 }
 
 /// What is answered where the text of a disk is said to have such a live run.

@@ -56,6 +56,10 @@ refs 2\n\
 09c9dfe00ddfa1db2b5ba1953e2536a5e84b21da refs/heads/next\n\
 end\n";
 
+/// The lines of its refs.
+pub(crate) const LINES: &[u8] = b"09c9dfe00ddfa1db2b5ba1953e2536a5e84b21da refs/heads/main\n\
+09c9dfe00ddfa1db2b5ba1953e2536a5e84b21da refs/heads/next\n";
+
 /// The text of version 2 of the commit, or of what it has grown to.
 pub(crate) fn version_2(has_grown: bool) -> &'static [u8] {
     if has_grown { GROWN } else { COMMITTED }

@@ -1,10 +1,11 @@
 //! What runs the command of each line.
 
 use crate::fault::RunFault;
+use crate::questions::{Batch, batch, export, print};
 use crate::run::Run;
 use crate::salvaging::salvage_into;
 use crate::stores::{collect, drop_refs, grow, import, init, push, put, set_ref};
-use crate::streams::{Trial, adapt, answer_input, batch, export, print, try_stream, verify};
+use crate::streams::{Trial, adapt, answer_input, try_stream, verify};
 use gx_cli::{Features, Line};
 use gx_versions::StoreForm;
 use std::hash::RandomState;
@@ -178,13 +179,25 @@ fn answer(run: &Run<'_>, line: &Line<'_>, state: RandomState) -> Result<(), RunF
             Ok(try_stream(run, Trial::Fault, features(done, force), state)?)
         }
         Line::Verify { file, .. } => Ok(verify(run, file, state)?),
-        Line::Batch { file, .. } => batch(run, line, file, state),
+        Line::Batch {
+            form,
+            format,
+            nul,
+            file,
+        } => {
+            let asked = Batch {
+                form: *form,
+                format: *format,
+                nul: *nul,
+            };
+            batch(run, asked, file, state)
+        }
         Line::Export { file, .. } | Line::ExportRange { file, .. } => {
             export(run, line, file, state)
         }
         _ => match file_of(line) {
             Some(file) => print(run, line, file, state),
-            None => answer_input(run, line, None, state),
+            None => Ok(answer_input(run, line, state)?),
         },
     }
 }

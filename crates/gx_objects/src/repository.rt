@@ -1,8 +1,8 @@
 //! A repository in memory.
 
-ghost use Rattle.std.specs.Prelude.{◌≡◌, ◌++◌, IfOk, IsOk, OnOk, Some};
+ghost use Rattle.std.specs.Prelude.{◌≡◌, ◌++◌, true, IfOk, OnOk, Some};
 ghost use Rattle.gx_model.specs.Stores.StoreText.{stored_ref};
-ghost use Rattle.gx_objects.specs.Answers.{AreRefLines, FindsBegun, FindsRef, Holds, IsHeldThere, IsNamed, IsNamedAs, OnlyUntold, SpellsRefs, StandsIfTold, StandsThere, Tells};
+ghost use Rattle.gx_objects.specs.Answers.{AreRefLines, FindsBegun, FindsRef, Holds, IsHeldThere, IsNamed, IsNamedAs, NeverUnread, OnlyDamaged, OnlyUntold, SpellsRefs, StandsIfTold, StandsThere, Tells};
 
 use crate::{LookFault, Object, Objects};
 use gx_object::{Name, Namer};
@@ -17,6 +17,8 @@ impl<N: Namer, B: Allocator + Copy> Objects for Repo<N, B> {
 
     ghost stands = { λ _ number. number };
 
+    ghost sure = { λ _. true };
+
     fn sound_if_told(&self) {
         self.sound();
     }
@@ -30,7 +32,7 @@ impl<N: Namer, B: Allocator + Copy> Objects for Repo<N, B> {
         ensures held { Tells (Some self.now.1) (Holds name.now.bytes) result }
         ensures named { IfOk result (IsNamed (N.name_of self.now.0) name.now.bytes) }
         ensures fault { OnlyUntold (Some self.now.1) result }
-        ensures told { IsOk result }
+        ensures sure { OnlyDamaged true result }
     {
         self.sound();
         match self.store().get(name) {
@@ -42,7 +44,7 @@ impl<N: Namer, B: Allocator + Copy> Objects for Repo<N, B> {
     fn place(&self, name: &Name) -> Result<Option<u64>, LookFault>
         ensures place { Tells (Some self.now.1) (StandsThere (λ number. number) name.now.bytes) result }
         ensures fault { OnlyUntold (Some self.now.1) result }
-        ensures told { IsOk result }
+        ensures sure { OnlyDamaged true result }
     {
         match self.store().place(name) {
             Some(place) => Ok(Some(place as u64)),
@@ -60,7 +62,7 @@ impl<N: Namer, B: Allocator + Copy> Objects for Repo<N, B> {
         ensures held { Tells (Some self.now.1) (IsHeldThere name.now.bytes) result }
         ensures named { IfOk result (IsNamedAs (N.name_of self.now.0) name.now.bytes) }
         ensures fault { OnlyUntold (Some self.now.1) result }
-        ensures told { IsOk result }
+        ensures sure { OnlyDamaged true result }
     {
         self.sound();
         match self.store().record(place as usize) {
@@ -72,7 +74,7 @@ impl<N: Namer, B: Allocator + Copy> Objects for Repo<N, B> {
     fn by_digits(&self, digits: &[u8]) -> Result<Prefix, LookFault>
         ensures name { Tells (Some self.now.1) (FindsBegun digits.now) result }
         ensures fault { OnlyUntold (Some self.now.1) result }
-        ensures told { IsOk result }
+        ensures sure { OnlyDamaged true result }
     {
         Ok(self.store().by_prefix(digits))
     }
@@ -85,6 +87,7 @@ impl<N: Namer, B: Allocator + Copy> Objects for Repo<N, B> {
         ensures lines { Tells (Some self.now.1) AreRefLines result }
         ensures spelled { IfOk result (λ lines. SpellsRefs lines.now) }
         ensures fault { OnlyUntold (Some self.now.1) result }
+        ensures sure { NeverUnread true result }
     {
         self.sound();
         room.clear();
@@ -97,7 +100,7 @@ impl<N: Namer, B: Allocator + Copy> Objects for Repo<N, B> {
     fn object_of_ref(&self, name: &[u8]) -> Result<Option<Name>, LookFault>
         ensures object { Tells (Some self.now.1) (FindsRef name.now) result }
         ensures fault { OnlyUntold (Some self.now.1) result }
-        ensures told { IsOk result }
+        ensures sure { OnlyDamaged true result }
     {
         match self.find_ref(name) {
             Ok(found) => Ok(found),

@@ -1,9 +1,11 @@
 -- Answers of the repository that is told, one step after another.
-use Rattle.std.proofs.Common.{◌≡◌, Option, None, Some, Result, Ok, Err, ap, ◌∙◌}
+use Rattle.std.proofs.Common.{◌≡◌, Bool, Option, None, Some, Result, Ok, Err, ap, ◌∙◌}
 use Rattle.std.specs.Prelude.{IfSome}
 use Rattle.gx_model.specs.Faults.{Given, ◌>>=◌}
 use Rattle.gx_model.specs.Histories.{Records}
-use Rattle.gx_questions.specs.Answers.{Answers, Refuses}
+use Rattle.gx_rev.specs.declared.fault.RevFault.{RevFault}
+use Rattle.gx_rev.specs.declared.fault.RevFault.TheVariants as rev
+use Rattle.gx_questions.specs.Answers.{Answers, NeedsNothing, NeverUnread, Refuses, of_revision}
 use Rattle.gx_questions.specs.declared.fault.AskFault.{AskFault}
 use Rattle.gx_questions.specs.declared.fault.AskFault.TheVariants.{OutOfMemory, ReadFailed, Damaged, Revision}
 
@@ -16,6 +18,27 @@ fails_first told given next ReadFailed h = tt
 fails_first told given next Damaged h = h
 fails_first None given next (Revision f) h = tt
 fails_first (Some r) given next (Revision f) h = ap (λ g. g >>= next r) h
+
+-- no fault of a revision is one of a read
+pub not_unread : (fault : RevFault) → of_revision fault ≡ ReadFailed → ⊥
+not_unread rev.OutOfMemory e = cc e
+not_unread rev.BadRevision e = cc e
+not_unread rev.BadPath e = cc e
+not_unread rev.PathTooLong e = cc e
+not_unread rev.UnknownRef e = cc e
+not_unread rev.UnknownObject e = cc e
+not_unread rev.Ambiguous e = cc e
+not_unread rev.NoParent e = cc e
+not_unread rev.WrongKind e = cc e
+not_unread rev.NoSuchPath e = cc e
+
+-- what needs no read is refused for none
+pub needs_no_read : {X : Type 0} (sure : Bool) (result : Result X AskFault) → NeedsNothing sure result → NeverUnread sure result
+needs_no_read sure (Ok x) h s = tt
+needs_no_read sure (Err OutOfMemory) h s = absurd (h s)
+needs_no_read sure (Err ReadFailed) h s = absurd (h s)
+needs_no_read sure (Err Damaged) h s = λ e. cc e
+needs_no_read sure (Err (Revision f)) h s = λ e. cc e
 
 -- ---- answers
 

@@ -126,8 +126,10 @@ pub fn commit_of<O: Objects, A: Allocator + Copy>(
     }
 }
 
-/// The nth parent of a held commit, and the commit where n is 0.
-pub(crate) fn parent_of<O: Objects, A: Allocator + Copy>(
+/// The nth parent of a held commit, and the commit where n is 0. What has fewer is NoParent.
+///
+/// Other faults, cost and memory: those of `commit_in`. Source: gitrevisions(7), on `^n`.
+pub fn parent_of<O: Objects, A: Allocator + Copy>(
     objects: &O,
     room: &mut Vec<u8, A>,
     commit: &Name,

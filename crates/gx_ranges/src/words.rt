@@ -1,14 +1,10 @@
 //! The commits from which a walk starts: those that words include with all that they reach, and those that they exclude.
 
 ghost use Rattle.std.specs.Prelude.{◌≡◌, ℕ, [], IfSome, List, map};
-ghost use Rattle.gx_model.specs.declared.objects.Kind.TheVariants as kinds;
 ghost use Rattle.gx_model.specs.Revisions as words;
-ghost use Rattle.gx_model.specs.Revisions.Denotation.{nth_parent};
 ghost use Rattle.gx_object.specs.declared.name.Name.{Name};
-ghost use Rattle.gx_questions.specs.Answers.{Answers, IfTold, IsOfTold};
 ghost use Rattle.gx_ranges.specs.Fronts.{AreTips};
 ghost use Rattle.gx_ranges.specs.Words.{AddsWord, AddsWords};
-ghost use Rattle.gx_rev.specs.Objects.{IsHeldAs, commit_at};
 ghost use Rattle.gx_rev.specs.Views.{shown_range};
 
 use crate::RangeFault;
@@ -17,8 +13,8 @@ use crate::fronts::{add, add_parents, place_of};
 use crate::meetings::add_common;
 use gx_object::Name;
 use gx_objects::Objects;
-use gx_questions::{AskFault, commit, commit_in};
-use gx_rev::{Range, RevFault, Revision};
+use gx_questions::{AskFault, commit, parent_of};
+use gx_rev::{Range, Revision};
 use std::alloc::Allocator;
 use std::collections::BTreeMap;
 
@@ -206,27 +202,4 @@ fn add_without_one<O: Objects, A: Allocator + Copy>(
     add(objects, wanted, &commit)?;
     add(objects, unwanted, &parent)?;
     Ok(())
-}
-
-/// The nth parent of a held commit, and the commit where n is 0.
-fn parent_of<O: Objects, A: Allocator + Copy>(
-    objects: &O,
-    room: &mut Vec<u8, A>,
-    commit: &Name,
-    number: u64,
-) -> Result<Name, AskFault>
-    requires held { IfTold (O.told objects.now) (IsHeldAs kinds.Commit) commit.now }
-    ensures parent { Answers (O.told objects.now) commit_at
-        (λ r. nth_parent number (commit_at r commit.now)) result }
-    ensures held { IsOfTold (O.told objects.now) (IsHeldAs kinds.Commit) result }
-{
-    objects.sound_if_told();
-    if number == 0 {
-        return Ok(*commit);
-    }
-    let (_, view) = commit_in(objects, commit, room)?;
-    match view.parent((number - 1) as usize) {
-        Some(parent) => Ok(parent),
-        None => Err(AskFault::Revision(RevFault::NoParent)),
-    }
 }

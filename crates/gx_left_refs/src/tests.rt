@@ -2,7 +2,8 @@
 
 use crate::{LeftRefs, left_refs};
 use gx_object::Name;
-use gx_ref_lines::{RefLines, put_ref};
+use gx_objects::put_ref;
+use gx_ref_lines::RefLines;
 use gx_repo::DropFault;
 use std::alloc::Global;
 use std::test::Fail;

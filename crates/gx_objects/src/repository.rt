@@ -1,14 +1,14 @@
 //! A repository in memory.
 
-ghost use Rattle.std.specs.Prelude.{◌≡◌, ◌++◌, true, IfOk, OnOk, Some};
-ghost use Rattle.gx_model.specs.Stores.StoreText.{stored_ref};
+ghost use Rattle.std.specs.Prelude.{true, IfOk, Some};
 ghost use Rattle.gx_objects.specs.Answers.{AreRefLines, FindsBegun, FindsRef, Holds, IsHeldThere, IsNamed, IsNamedAs, NeverUnread, OnlyDamaged, OnlyUntold, SpellsRefs, StandsIfTold, StandsThere, Tells};
 
+use crate::ref_line::put_ref;
 use crate::{LookFault, Object, Objects};
 use gx_object::{Name, Namer};
 use gx_repo::Repo;
 use gx_store::Prefix;
-use std::alloc::{AllocError, Allocator};
+use std::alloc::Allocator;
 
 impl<N: Namer, B: Allocator + Copy> Objects for Repo<N, B> {
     ghost name_of = { λ repo. N.name_of repo.0 };
@@ -107,19 +107,4 @@ impl<N: Namer, B: Allocator + Copy> Objects for Repo<N, B> {
             Err(_) => unreachable!(),
         }
     }
-}
-
-/// Appends the line of a ref.
-fn put_ref<A: Allocator>(
-    lines: &mut Vec<u8, A>,
-    name: &[u8],
-    object: &Name,
-) -> Result<(), AllocError>
-    ensures { OnOk result (lines.new.items ≡ lines.old.items ++ stored_ref (name.now, object.now.bytes)) }
-{
-    lines.extend_from_slice(object.hex().as_slice())?;
-    lines.push(b' ')?;
-    lines.extend_from_slice(name)?;
-    lines.push(b'\n')?;
-    Ok(())
 }

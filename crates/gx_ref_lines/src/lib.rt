@@ -7,4 +7,4 @@ mod ref_lines;
 mod tests;
 
 pub use names::ref_names;
-pub use ref_lines::{RefLines, put_ref};
+pub use ref_lines::RefLines;

@@ -1,7 +1,8 @@
 //! Refs that are written as lines, and read and found again.
 
-use crate::{RefLines, put_ref, ref_names};
+use crate::{RefLines, ref_names};
 use gx_object::Name;
+use gx_objects::put_ref;
 use std::test::Fail;
 
 const ONE: Name = Name { bytes: [31; 20] };

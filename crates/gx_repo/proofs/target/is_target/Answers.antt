@@ -4,7 +4,7 @@ use Rattle.gx_model.specs.Texts.RefNames.{tag_ref}
 use Rattle.gx_model.specs.Stores.StoreReading.{is_target_of_kind}
 use Rattle.gx_model.specs.Texts.{same_bytes}
 use Rattle.gx_model.proofs.ObjectTexts.BodiesReadBack.{tag_read}
-use Rattle.gx_salvage_refs.proofs.refs.is_target.Goals as goal
+use Rattle.gx_repo.proofs.target.is_target.Goals as goal
 
 pub returns-in-Tag : goal.returns-in-Tag
 returns-in-Tag c = λ is.

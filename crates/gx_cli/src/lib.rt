@@ -52,9 +52,9 @@ pub use gx_line::{
     BatchForm, ExportForm, Line, LineFault, LogFormat, LogOptions, RefChange, read_line,
 };
 pub use gx_model::Features;
-pub use gx_print::printed_path;
 pub use gx_push::{Pushed, RefFault};
 pub use gx_repo::{Pruned, Repo};
+pub use gx_text::printed_path;
 pub use import::{import_opened, import_store};
 pub use lines::lines_from;
 pub use next_text::send_store;

@@ -280,8 +280,10 @@ fn line_of<'a>(
 /// The line of `where`. clap makes sure that there is a number or `--fault`.
 #[tactic(auto, unfolding(crate::specs::CommandLine::Says))]
 fn where_line<'a>(alloc: Global, matches: &ArgMatches<'a>) -> Result<Line<'a>, LineFault>
-    ensures line { IfOk result (λ line. say.Says (codes "where") (rows_of (found_of matches.now)) line) }
-    ensures refused { IfErr result (say.IsRefused (codes "where") (rows_of (found_of matches.now))) }
+    ensures line { IfOk result
+        (λ line. say.Says (codes "where") (rows_of (found_of matches.now)) line) }
+    ensures refused { IfErr result
+        (say.IsRefused (codes "where") (rows_of (found_of matches.now))) }
 {
     if is_set(matches, "fault") {
         return Ok(Line::WhereFault {
@@ -372,8 +374,10 @@ fn import_line<'a>(
     file: &'a str,
 ) -> Result<Line<'a>, LineFault>
     requires { first_of (codes "file") (rows_of (found_of matches.now)) ≡ Some file.now }
-    ensures line { IfOk result (λ line. say.Says (codes "import") (rows_of (found_of matches.now)) line) }
-    ensures refused { IfErr result (say.IsRefused (codes "import") (rows_of (found_of matches.now))) }
+    ensures line { IfOk result
+        (λ line. say.Says (codes "import") (rows_of (found_of matches.now)) line) }
+    ensures refused { IfErr result
+        (say.IsRefused (codes "import") (rows_of (found_of matches.now))) }
 {
     let done = is_set(matches, "done");
     let force = is_set(matches, "force");
@@ -409,8 +413,10 @@ fn set_ref_line<'a>(
     file: &'a str,
 ) -> Result<Line<'a>, LineFault>
     requires { first_of (codes "file") (rows_of (found_of matches.now)) ≡ Some file.now }
-    ensures line { IfOk result (λ line. say.Says (codes "set-ref") (rows_of (found_of matches.now)) line) }
-    ensures refused { IfErr result (say.IsRefused (codes "set-ref") (rows_of (found_of matches.now))) }
+    ensures line { IfOk result
+        (λ line. say.Says (codes "set-ref") (rows_of (found_of matches.now)) line) }
+    ensures refused { IfErr result
+        (say.IsRefused (codes "set-ref") (rows_of (found_of matches.now))) }
 {
     Ok(Line::SetRef {
         file,
@@ -428,8 +434,10 @@ fn export_line<'a>(
     file: &'a str,
 ) -> Result<Line<'a>, LineFault>
     requires { first_of (codes "file") (rows_of (found_of matches.now)) ≡ Some file.now }
-    ensures line { IfOk result (λ line. say.Says (codes "export") (rows_of (found_of matches.now)) line) }
-    ensures refused { IfErr result (say.IsRefused (codes "export") (rows_of (found_of matches.now))) }
+    ensures line { IfOk result
+        (λ line. say.Says (codes "export") (rows_of (found_of matches.now)) line) }
+    ensures refused { IfErr result
+        (say.IsRefused (codes "export") (rows_of (found_of matches.now))) }
 {
     let Some(form) = form_of(matches) else {
         return Err(unknown(alloc));
@@ -456,7 +464,8 @@ fn list_line<'a>(
     file: &'a str,
 ) -> Result<Line<'a>, LineFault>
     requires file { first_of (codes "file") (rows_of (found_of matches.now)) ≡ Some file.now }
-    requires other { say.IsNoneOf say.stream_names name.now × say.IsNoneOf say.store_names name.now }
+    requires other { say.IsNoneOf say.stream_names name.now
+        × say.IsNoneOf say.store_names name.now }
     ensures line { IfOk result (λ line. say.Says name.now (rows_of (found_of matches.now)) line) }
     ensures refused { IfErr result (say.IsRefused name.now (rows_of (found_of matches.now))) }
 {

@@ -63,7 +63,8 @@ pub trait Objects {
     ///
     /// ReadFailed and Damaged are those of `object`. Takes no memory. Source: gitglossary(7), "object name".
     fn place(&self, name: &Name) -> Result<Option<u64>, LookFault>
-        ensures place { Tells (told self.now) (StandsThere (stands self.now) name.now.bytes) result }
+        ensures place { Tells (told self.now)
+            (StandsThere (stands self.now) name.now.bytes) result }
         ensures fault { OnlyUntold (told self.now) result }
         ensures sure { OnlyDamaged (sure self.now) result };
 

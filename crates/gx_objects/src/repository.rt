@@ -42,7 +42,8 @@ impl<N: Namer, B: Allocator + Copy> Objects for Repo<N, B> {
     }
 
     fn place(&self, name: &Name) -> Result<Option<u64>, LookFault>
-        ensures place { Tells (Some self.now.1) (StandsThere (λ number. number) name.now.bytes) result }
+        ensures place { Tells (Some self.now.1)
+            (StandsThere (λ number. number) name.now.bytes) result }
         ensures fault { OnlyUntold (Some self.now.1) result }
         ensures sure { OnlyDamaged true result }
     {

@@ -188,7 +188,8 @@ fn target_fault<N: Namer, A: Allocator + Copy>(
     name: &[u8],
     object: &Name,
 ) -> Option<RefFault>
-    ensures { result ≡ option_map ref_fault (change_fault repo.now.1.records (name.now, object.now.bytes)) }
+    ensures { result ≡ option_map ref_fault
+        (change_fault repo.now.1.records (name.now, object.now.bytes)) }
 {
     if !is_ref_name(name) {
         return Some(RefFault::BadRefName);

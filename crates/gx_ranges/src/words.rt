@@ -56,8 +56,10 @@ fn add_word<O: Objects, A: Allocator + Copy>(
     wanted: &mut BTreeMap<u64, Name, A>,
     unwanted: &mut BTreeMap<u64, Name, A>,
 ) -> Result<(), AskFault>
-    requires wanted { IfSome (O.told objects.now) (AreTips (O.stands objects.now) wanted.old.entries) }
-    requires unwanted { IfSome (O.told objects.now) (AreTips (O.stands objects.now) unwanted.old.entries) }
+    requires wanted { IfSome (O.told objects.now)
+        (AreTips (O.stands objects.now) wanted.old.entries) }
+    requires unwanted { IfSome (O.told objects.now)
+        (AreTips (O.stands objects.now) unwanted.old.entries) }
     ensures { AddsWord (O.name_of objects.now) (O.stands objects.now) (O.told objects.now)
         (shown_range word.now) (wanted.old.entries, unwanted.old.entries)
         (wanted.new.entries, unwanted.new.entries) result }
@@ -85,12 +87,16 @@ fn add_revision<O: Objects, A: Allocator + Copy>(
     front: &mut BTreeMap<u64, Name, A>,
 ) -> Result<(), AskFault>
     requires tips { IfSome (O.told objects.now) (AreTips (O.stands objects.now) front.old.entries) }
-    ensures included { (rest : List (ℕ × Name)) → IfSome (O.told objects.now) (AreTips (O.stands objects.now) rest)
+    ensures included { (rest : List (ℕ × Name))
+        → IfSome (O.told objects.now) (AreTips (O.stands objects.now) rest)
         → AddsWord (O.name_of objects.now) (O.stands objects.now) (O.told objects.now)
-        (words.WithAncestors revision.now) (front.old.entries, rest) (front.new.entries, rest) result }
-    ensures excluded { (rest : List (ℕ × Name)) → IfSome (O.told objects.now) (AreTips (O.stands objects.now) rest)
+        (words.WithAncestors revision.now) (front.old.entries, rest)
+        (front.new.entries, rest) result }
+    ensures excluded { (rest : List (ℕ × Name))
+        → IfSome (O.told objects.now) (AreTips (O.stands objects.now) rest)
         → AddsWord (O.name_of objects.now) (O.stands objects.now) (O.told objects.now)
-        (words.WithoutAncestors revision.now) (rest, front.old.entries) (rest, front.new.entries) result }
+        (words.WithoutAncestors revision.now) (rest, front.old.entries)
+        (rest, front.new.entries) result }
 {
     let commit = commit(objects, room, revision)?;
     add(objects, front, &commit)?;
@@ -106,8 +112,10 @@ fn add_between<O: Objects, A: Allocator + Copy>(
     wanted: &mut BTreeMap<u64, Name, A>,
     unwanted: &mut BTreeMap<u64, Name, A>,
 ) -> Result<(), AskFault>
-    requires wanted { IfSome (O.told objects.now) (AreTips (O.stands objects.now) wanted.old.entries) }
-    requires unwanted { IfSome (O.told objects.now) (AreTips (O.stands objects.now) unwanted.old.entries) }
+    requires wanted { IfSome (O.told objects.now)
+        (AreTips (O.stands objects.now) wanted.old.entries) }
+    requires unwanted { IfSome (O.told objects.now)
+        (AreTips (O.stands objects.now) unwanted.old.entries) }
     ensures { AddsWord (O.name_of objects.now) (O.stands objects.now) (O.told objects.now)
         (words.Between left.now right.now) (wanted.old.entries, unwanted.old.entries)
         (wanted.new.entries, unwanted.new.entries) result }
@@ -129,8 +137,10 @@ fn add_apart<O: Objects, A: Allocator + Copy>(
     wanted: &mut BTreeMap<u64, Name, A>,
     unwanted: &mut BTreeMap<u64, Name, A>,
 ) -> Result<(), AskFault>
-    requires wanted { IfSome (O.told objects.now) (AreTips (O.stands objects.now) wanted.old.entries) }
-    requires unwanted { IfSome (O.told objects.now) (AreTips (O.stands objects.now) unwanted.old.entries) }
+    requires wanted { IfSome (O.told objects.now)
+        (AreTips (O.stands objects.now) wanted.old.entries) }
+    requires unwanted { IfSome (O.told objects.now)
+        (AreTips (O.stands objects.now) unwanted.old.entries) }
     ensures { AddsWord (O.name_of objects.now) (O.stands objects.now) (O.told objects.now)
         (words.Apart left.now right.now) (wanted.old.entries, unwanted.old.entries)
         (wanted.new.entries, unwanted.new.entries) result }
@@ -150,10 +160,13 @@ fn add_all_parents<O: Objects, A: Allocator + Copy>(
     revision: &Revision<A>,
     wanted: &mut BTreeMap<u64, Name, A>,
 ) -> Result<(), AskFault>
-    requires tips { IfSome (O.told objects.now) (AreTips (O.stands objects.now) wanted.old.entries) }
-    ensures { (rest : List (ℕ × Name)) → IfSome (O.told objects.now) (AreTips (O.stands objects.now) rest)
+    requires tips { IfSome (O.told objects.now)
+        (AreTips (O.stands objects.now) wanted.old.entries) }
+    ensures { (rest : List (ℕ × Name))
+        → IfSome (O.told objects.now) (AreTips (O.stands objects.now) rest)
         → AddsWord (O.name_of objects.now) (O.stands objects.now) (O.told objects.now)
-        (words.AllParents revision.now) (wanted.old.entries, rest) (wanted.new.entries, rest) result }
+        (words.AllParents revision.now) (wanted.old.entries, rest)
+        (wanted.new.entries, rest) result }
 {
     let commit = commit(objects, room, revision)?;
     let place = place_of(objects, &commit)?;
@@ -169,8 +182,10 @@ fn add_alone<O: Objects, A: Allocator + Copy>(
     wanted: &mut BTreeMap<u64, Name, A>,
     unwanted: &mut BTreeMap<u64, Name, A>,
 ) -> Result<(), AskFault>
-    requires wanted { IfSome (O.told objects.now) (AreTips (O.stands objects.now) wanted.old.entries) }
-    requires unwanted { IfSome (O.told objects.now) (AreTips (O.stands objects.now) unwanted.old.entries) }
+    requires wanted { IfSome (O.told objects.now)
+        (AreTips (O.stands objects.now) wanted.old.entries) }
+    requires unwanted { IfSome (O.told objects.now)
+        (AreTips (O.stands objects.now) unwanted.old.entries) }
     ensures { AddsWord (O.name_of objects.now) (O.stands objects.now) (O.told objects.now)
         (words.Alone revision.now) (wanted.old.entries, unwanted.old.entries)
         (wanted.new.entries, unwanted.new.entries) result }
@@ -191,8 +206,10 @@ fn add_without_one<O: Objects, A: Allocator + Copy>(
     wanted: &mut BTreeMap<u64, Name, A>,
     unwanted: &mut BTreeMap<u64, Name, A>,
 ) -> Result<(), AskFault>
-    requires wanted { IfSome (O.told objects.now) (AreTips (O.stands objects.now) wanted.old.entries) }
-    requires unwanted { IfSome (O.told objects.now) (AreTips (O.stands objects.now) unwanted.old.entries) }
+    requires wanted { IfSome (O.told objects.now)
+        (AreTips (O.stands objects.now) wanted.old.entries) }
+    requires unwanted { IfSome (O.told objects.now)
+        (AreTips (O.stands objects.now) unwanted.old.entries) }
     ensures { AddsWord (O.name_of objects.now) (O.stands objects.now) (O.told objects.now)
         (words.WithoutOne revision.now number) (wanted.old.entries, unwanted.old.entries)
         (wanted.new.entries, unwanted.new.entries) result }

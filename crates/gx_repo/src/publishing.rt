@@ -52,7 +52,8 @@ impl<N: Namer, A: Allocator + Copy> Repo<N, A> {
 
     /// Answers why the first of these changes that is refused is.
     fn check_all(&self, changes: &[RefChange<'_>]) -> Result<(), PublishFault>
-        ensures ok { OnOk result (changes_fault self.now.1.records (map shown_update changes.now) ≡ None) }
+        ensures ok { OnOk result
+            (changes_fault self.now.1.records (map shown_update changes.now) ≡ None) }
         ensures fault { IfErr result (IsAgainstFirst self.now.1.records changes.now) }
     {
         for change in changes {
@@ -63,7 +64,8 @@ impl<N: Namer, A: Allocator + Copy> Repo<N, A> {
 
     /// Answers why a change is refused.
     fn check(&self, change: &RefChange<'_>) -> Result<(), PublishFault>
-        ensures ok { OnOk result (change_fault self.now.1.records (shown_update change.now) ≡ None) }
+        ensures ok { OnOk result
+            (change_fault self.now.1.records (shown_update change.now) ≡ None) }
         ensures fault { IfErr result (IsAgainstChange self.now.1.records change.now) }
     {
         if !is_ref_name(change.name) {
@@ -83,7 +85,8 @@ impl<N: Namer, A: Allocator + Copy> Repo<N, A> {
 impl<A: Allocator + Copy> RefList<A> {
     /// Makes the changes in turn. Where a growth is refused the refs are as they were; none is needed where all are held.
     pub(crate) fn change(&mut self, alloc: A, changes: &[RefChange<'_>]) -> Result<(), AllocError>
-        ensures set { OnOk result (self.new ≡ with_changes self.old (map shown_update changes.now)) }
+        ensures set { OnOk result
+            (self.new ≡ with_changes self.old (map shown_update changes.now)) }
         ensures unchanged { OnErr result (self.new ≡ self.old) }
         ensures missing { OnErr result (are_held self.old (map shown_update changes.now) ≡ false) }
     {
@@ -119,7 +122,8 @@ impl<A: Allocator + Copy> RefList<A> {
 
     /// Copies of these refs, with the changes made in turn.
     fn with_changes(&self, alloc: A, changes: &[RefChange<'_>]) -> Result<RefList<A>, AllocError>
-        ensures { IfOk result (λ made. made ≡ with_changes self.now (map shown_update changes.now)) }
+        ensures { IfOk result (λ made. made
+            ≡ with_changes self.now (map shown_update changes.now)) }
     {
         let mut objects = BTreeMap::new(alloc);
         self.enter_into(alloc, &mut objects)?;

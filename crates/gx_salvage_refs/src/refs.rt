@@ -70,7 +70,8 @@ pub(crate) fn part<'a, N: Namer, A: Allocator + Copy>(
     refs: &[RefChange<'a>],
 ) -> Result<Parted<'a, A>, AllocError>
     requires names { IsTrue (list_all (λ ref. is_ref_name ref.0) (map shown_update refs.now)) }
-    ensures parted { IfOk result (λ parted. ArePartedBy repo.now.1.records (map shown_update refs.now)
+    ensures parted { IfOk result
+        (λ parted. ArePartedBy repo.now.1.records (map shown_update refs.now)
         (map shown_update parted.kept.items) parted.lost.items) }
     ensures lost { IfOk result (λ parted.
         AllByRecursion (IsLossBy repo.now.1.records bad.now) parted.lost.items) }
@@ -99,7 +100,8 @@ fn loss_of<N: Namer, A: Allocator + Copy>(
 ) -> Option<Damage>
     requires name { IsTrue (is_ref_name change.now.name.now) }
     ensures kept { IfNone result (is_settable repo.now.1.records (shown_update change.now) ≡ true) }
-    ensures lost { IfSome result (λ _. is_settable repo.now.1.records (shown_update change.now) ≡ false) }
+    ensures lost { IfSome result
+        (λ _. is_settable repo.now.1.records (shown_update change.now) ≡ false) }
     ensures damage { IfSome result (IsLossOf repo.now.1.records bad.now change.now.target) }
 {
     let object = change.target;

@@ -83,7 +83,15 @@ fn batch_of<O: Objects>(
     let source = FromRead::new(Noted::input(run));
     let sink = &mut IntoWrite::new(Noted::output(run));
     let ending = ending_of(asked.nul);
-    Ok(answer_lines(run.rt.alloc(), objects, asked.form, format, ending, source, sink)?)
+    Ok(answer_lines(
+        run.rt.alloc(),
+        objects,
+        asked.form,
+        format,
+        ending,
+        source,
+        sink,
+    )?)
 }
 
 /// Exports a store, and shows how much went out.

@@ -178,12 +178,22 @@ fn answer(run: &Run<'_>, line: &Line<'_>, state: RandomState) -> Result<(), RunF
             run.explain_if(true);
             Ok(try_stream(run, Trial::Fault, features(done, force), state)?)
         }
-        Line::Verify { file, .. } => Ok(verify(run, file, state)?),
+        _ => match file_of(line) {
+            Some(file) => ask(run, line, file, state),
+            None => Ok(answer_input(run, line, state)?),
+        },
+    }
+}
+
+/// Answers what a command asks of a store file.
+fn ask(run: &Run<'_>, line: &Line<'_>, file: &str, state: RandomState) -> Result<(), RunFault> {
+    match line {
+        Line::Verify { .. } => Ok(verify(run, file, state)?),
         Line::Batch {
             form,
             format,
             nul,
-            file,
+            ..
         } => {
             let asked = Batch {
                 form: *form,
@@ -192,13 +202,8 @@ fn answer(run: &Run<'_>, line: &Line<'_>, state: RandomState) -> Result<(), RunF
             };
             batch(run, asked, file, state)
         }
-        Line::Export { file, .. } | Line::ExportRange { file, .. } => {
-            export(run, line, file, state)
-        }
-        _ => match file_of(line) {
-            Some(file) => print(run, line, file, state),
-            None => Ok(answer_input(run, line, state)?),
-        },
+        Line::Export { .. } | Line::ExportRange { .. } => export(run, line, file, state),
+        _ => print(run, line, file, state),
     }
 }
 

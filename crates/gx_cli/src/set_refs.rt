@@ -10,7 +10,7 @@ ghost use Rattle.gx_cli.specs.Setting.{IsSet, SetsFrom, SetsStored, change_line,
 use crate::CliFault;
 use crate::lines::lines_from;
 use crate::opening::open;
-use gx_line::RefChange;
+use gx_asks::RefChange;
 use gx_object::Namer;
 use gx_push::{RefFault, set_refs};
 use gx_repo::Repo;

@@ -5,9 +5,9 @@ ghost use Rattle.clap.specs.Words.{all_of, first_of, found_of, rows_of};
 ghost use Rattle.gx_line.specs.CommandLine as say;
 ghost use Rattle.gx_line.specs.declared.fault.LineFault.TheVariants.{OutOfMemory};
 
-use super::{BatchForm, ExportForm, LogFormat, RefChange};
 use crate::LineFault;
 use clap::ArgMatches;
+use gx_asks::{BatchForm, ExportForm, LogFormat, RefChange};
 use std::alloc::Global;
 
 /// What is said of a format that there isn't, in the manner of clap.

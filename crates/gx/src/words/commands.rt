@@ -12,21 +12,9 @@ use gx_versions::StoreForm;
 use std::hash::RandomState;
 use std::process::ExitCode;
 
-/// Runs a command, and prints why it is refused.
-pub(crate) fn run_line(run: &Run<'_>, line: &Line<'_>) -> ExitCode {
-    match run_seeded(run, line) {
-        Ok(status) => ExitCode::from(status),
-        Err(fault) => {
-            let (file, written) = files_of(line);
-            run.tell(&fault, file, written);
-            ExitCode::from(1)
-        }
-    }
-}
-
 /// Runs a command with random keys for the tables of names, which a stream could choose to be slow. Answers the status of one that
 /// isn't refused.
-fn run_seeded(run: &Run<'_>, line: &Line<'_>) -> Result<u8, RunFault> {
+pub(crate) fn run_line(run: &Run<'_>, line: &Line<'_>) -> Result<u8, RunFault> {
     let Ok(state) = RandomState::new(run.rt) else {
         return Err(RunFault::RandomFailed);
     };
@@ -47,6 +35,13 @@ fn run_seeded(run: &Run<'_>, line: &Line<'_>) -> Result<u8, RunFault> {
         } => verify(run, file, state)?,
     }
     Ok(0)
+}
+
+/// Prints why a command is refused. Answers the status.
+pub(crate) fn tell_refusal(run: &Run<'_>, line: &Line<'_>, fault: &RunFault) -> ExitCode {
+    let (file, written) = files_of(line);
+    run.tell(fault, file, written);
+    ExitCode::from(1)
 }
 
 /// The store file that a command names, and the one that it writes, if it writes one.

@@ -1,6 +1,6 @@
 //! Texts, printed: as they stand, or quoted. Source: git-ls-files(1), "core.quotePath".
 
-ghost use Rattle.std.specs.Prelude.{ℕ, ◌≡◌, length, take, IfOk};
+ghost use Rattle.std.specs.Prelude.{ℕ, ◌≡◌, length, take};
 ghost use Rattle.std.specs.List.{list_all};
 ghost use Rattle.gx_model.specs.Texts.Paths.{path_of, is_printed_bare, letter_of, printed_byte, printed};
 ghost use Rattle.gx_model.specs.Streams.Lines.{last_path};
@@ -9,21 +9,10 @@ ghost use Rattle.gx_text.specs.Quoting.{printed_quoted};
 
 use std::alloc::{AllocError, Allocator};
 
-/// A text as a path is printed.
-///
-/// Cost: its length, at most four bytes for each of the text's. Source: git-ls-files(1), "core.quotePath".
-pub fn printed_path<A: Allocator + Copy>(alloc: A, text: &[u8]) -> Result<Vec<u8, A>, AllocError>
-    ensures { IfOk result (λ shown. shown.items ≡ printed text.now) }
-{
-    let mut shown = Vec::new(alloc);
-    put_printed(&mut shown, text)?;
-    Ok(shown)
-}
-
 /// Appends a text as a path is printed: quoted where a byte is below 0x20, DEL, `"`, `\` or at least 0x80. An error leaves the
 /// old bytes at the front. At the end of a line, what was printed is read as the path that the text writes.
 ///
-/// Cost: as of `printed_path`. Source: git-ls-files(1), "core.quotePath".
+/// Cost: its length, at most four bytes for each of the text's. Source: git-ls-files(1), "core.quotePath".
 pub fn put_printed<A: Allocator + Copy>(out: &mut Vec<u8, A>, text: &[u8]) -> Result<(), AllocError>
     ensures ok { GrowsBy out.old out.new (printed text.now) result }
     ensures front { take (length out.old.items) out.new.items ≡ out.old.items }

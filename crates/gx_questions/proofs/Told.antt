@@ -5,7 +5,7 @@ use Rattle.gx_model.specs.Faults.{Given, ◌>>=◌}
 use Rattle.gx_model.specs.Histories.{Records}
 use Rattle.gx_rev.specs.declared.fault.RevFault.{RevFault}
 use Rattle.gx_rev.specs.declared.fault.RevFault.TheVariants as rev
-use Rattle.gx_questions.specs.Answers.{Answers, NeedsNothing, NeverUnread, Refuses, of_revision}
+use Rattle.gx_questions.specs.Answers.{Answers, IsOfNoRead, NeedsNothing, NeverUnread, Refuses, of_revision}
 use Rattle.gx_questions.specs.declared.fault.AskFault.{AskFault}
 use Rattle.gx_questions.specs.declared.fault.AskFault.TheVariants.{OutOfMemory, ReadFailed, Damaged, Revision}
 
@@ -20,25 +20,15 @@ fails_first None given next (Revision f) h = tt
 fails_first (Some r) given next (Revision f) h = ap (λ g. g >>= next r) h
 
 -- no fault of a revision is one of a read
-pub not_unread : (fault : RevFault) → of_revision fault ≡ ReadFailed → ⊥
-not_unread rev.OutOfMemory e = cc e
-not_unread rev.BadRevision e = cc e
-not_unread rev.BadPath e = cc e
-not_unread rev.PathTooLong e = cc e
-not_unread rev.UnknownRef e = cc e
-not_unread rev.UnknownObject e = cc e
-not_unread rev.Ambiguous e = cc e
-not_unread rev.NoParent e = cc e
-not_unread rev.WrongKind e = cc e
-not_unread rev.NoSuchPath e = cc e
+pub reads_nothing : (fault : RevFault) → IsOfNoRead (of_revision fault)
+reads_nothing rev.OutOfMemory = tt
+reads_nothing fault = tt
 
--- what needs no read is refused for none
+-- what needs neither memory nor a read is refused for no read
 pub needs_no_read : {X : Type 0} (sure : Bool) (result : Result X AskFault) → NeedsNothing sure result → NeverUnread sure result
 needs_no_read sure (Ok x) h s = tt
-needs_no_read sure (Err OutOfMemory) h s = absurd (h s)
-needs_no_read sure (Err ReadFailed) h s = absurd (h s)
-needs_no_read sure (Err Damaged) h s = λ e. cc e
-needs_no_read sure (Err (Revision f)) h s = λ e. cc e
+needs_no_read sure (Err ReadFailed) h s = h s
+needs_no_read sure (Err fault) h s = tt
 
 -- ---- answers
 

@@ -64,9 +64,14 @@ IsOfAsked fault = ⊤
 abbrev pub NeedsNothing : {X : Type 0} → Bool → Result X AskFault → Type 0
 NeedsNothing sure result = IsTrue sure → IfErr result IsOfAsked
 
+-- a fault that needs no read
+abbrev pub IsOfNoRead : AskFault → Type 0
+IsOfNoRead ReadFailed = ⊥
+IsOfNoRead fault = ⊤
+
 -- of what is sure of its answers no read fails
 abbrev pub NeverUnread : {X : Type 0} → Bool → Result X AskFault → Type 0
-NeverUnread sure result = IsTrue sure → IfErr result (λ fault. fault ≡ ReadFailed → ⊥)
+NeverUnread sure result = IsTrue sure → IfErr result IsOfNoRead
 
 -- this fault is the one of a text
 abbrev pub IsOfText : {X : Type 0} → Result X AskFault → Fault → Type 0

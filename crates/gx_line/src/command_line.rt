@@ -64,7 +64,7 @@ pub fn read_line<'a>(alloc: Global, words: &'a [&'a str]) -> Result<Line<'a>, Li
 }
 
 /// The line that a command and what clap found for it give.
-#[tactic(auto, unfolding(crate::specs::CommandLine::Says, crate::specs::CommandLine::Tries))]
+#[tactic(auto, unfolding(crate::specs::CommandLine::Says, crate::specs::CommandLine::Asks, crate::specs::CommandLine::Alters, crate::specs::CommandLine::Tries))]
 fn line_of<'a>(
     alloc: Global,
     name: &'a str,
@@ -95,7 +95,7 @@ fn line_of<'a>(
 }
 
 /// The line of `where`. clap makes sure that there is a number or `--fault`.
-#[tactic(auto, unfolding(crate::specs::CommandLine::Says, crate::specs::CommandLine::Tries))]
+#[tactic(auto, unfolding(crate::specs::CommandLine::Says, crate::specs::CommandLine::Asks, crate::specs::CommandLine::Alters, crate::specs::CommandLine::Tries))]
 fn where_line<'a>(alloc: Global, matches: &ArgMatches<'a>) -> Result<Line<'a>, LineFault>
     ensures line { IfOk result
         (λ line. say.Says (codes "where") (rows_of (found_of matches.now)) line) }
@@ -127,12 +127,29 @@ fn file_line<'a>(
     ensures line { IfOk result (λ line. say.Says name.now (rows_of (found_of matches.now)) line) }
     ensures refused { IfErr result (say.IsRefused name.now (rows_of (found_of matches.now))) }
 {
-    if name == "verify" {
-        return Ok(Line::Verify {
+    match name {
+        "verify" => Ok(Line::Verify {
             file,
             salvage: option_of(matches, "salvage"),
-        });
+        }),
+        _ => ask_or_change(alloc, name, matches, file),
     }
+}
+
+/// The line of a command that changes a store file or asks a question of it.
+#[tactic(auto, unfolding(crate::specs::CommandLine::Says))]
+fn ask_or_change<'a>(
+    alloc: Global,
+    name: &'a str,
+    matches: &ArgMatches<'a>,
+    file: &'a str,
+) -> Result<Line<'a>, LineFault>
+    requires file { first_of (codes "file") (rows_of (found_of matches.now)) ≡ Some file.now }
+    requires other { say.IsNoneOf say.stream_names name.now }
+    requires unverified { name.now ≡ codes "verify" → ⊥ }
+    ensures line { IfOk result (λ line. say.Says name.now (rows_of (found_of matches.now)) line) }
+    ensures refused { IfErr result (say.IsRefused name.now (rows_of (found_of matches.now))) }
+{
     match change_of(alloc, name, matches)? {
         Some(change) => Ok(Line::Change {
             file,

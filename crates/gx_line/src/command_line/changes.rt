@@ -13,7 +13,7 @@ use gx_asks::Change;
 use std::alloc::Global;
 
 /// The change that a command makes, where it makes one.
-#[tactic(auto, unfolding(crate::specs::CommandLine::Says, crate::specs::CommandLine::Alters))]
+#[tactic(auto, unfolding(crate::specs::CommandLine::Says, crate::specs::CommandLine::Asks, crate::specs::CommandLine::Alters, crate::specs::CommandLine::Tries))]
 pub(super) fn change_of<'a>(
     alloc: Global,
     name: &'a str,
@@ -51,7 +51,7 @@ pub(super) fn change_of<'a>(
 }
 
 /// An import. Where each ref has what may become of it, no branch may lose commits by `--force`.
-#[tactic(auto, unfolding(crate::specs::CommandLine::Says, crate::specs::CommandLine::Alters))]
+#[tactic(auto, unfolding(crate::specs::CommandLine::Says, crate::specs::CommandLine::Asks, crate::specs::CommandLine::Alters, crate::specs::CommandLine::Tries))]
 fn import_of<'a>(alloc: Global, matches: &ArgMatches<'a>) -> Result<Change<'a>, LineFault>
     ensures change { IfOk result (say.Alters (codes "import") (rows_of (found_of matches.now))) }
     ensures refused { IfErr result

@@ -1,6 +1,6 @@
 //! The question to a store that a command and what clap found for it give.
 
-ghost use Rattle.std.specs.Prelude.{IfErr, IfOk, codes};
+ghost use Rattle.std.specs.Prelude.{◌≡◌, IfErr, IfOk, codes};
 ghost use Rattle.clap.specs.Words.{first_of, found_of, rows_of};
 ghost use Rattle.gx_line.specs.CommandLine as say;
 
@@ -14,7 +14,7 @@ use gx_asks::{ExportForm, LogOptions, Question};
 use std::alloc::Global;
 
 /// The question that a command asks, which makes no change.
-#[tactic(auto, unfolding(crate::specs::CommandLine::Says, crate::specs::CommandLine::Asks))]
+#[tactic(auto, unfolding(crate::specs::CommandLine::Says, crate::specs::CommandLine::Asks, crate::specs::CommandLine::Alters, crate::specs::CommandLine::Tries))]
 pub(super) fn question_of<'a>(
     alloc: Global,
     name: &'a str,
@@ -76,7 +76,7 @@ fn log_options_of(alloc: Global, matches: &ArgMatches<'_>) -> Result<LogOptions,
 }
 
 /// An export. clap makes sure that `--no-done` and range words stand beside `--changes`.
-#[tactic(auto, unfolding(crate::specs::CommandLine::Says, crate::specs::CommandLine::Asks))]
+#[tactic(auto, unfolding(crate::specs::CommandLine::Says, crate::specs::CommandLine::Asks, crate::specs::CommandLine::Alters, crate::specs::CommandLine::Tries))]
 fn export_of<'a>(alloc: Global, matches: &ArgMatches<'a>) -> Result<Question<'a>, LineFault>
     ensures question { IfOk result (say.Asks (codes "export") (rows_of (found_of matches.now))) }
     ensures refused { IfErr result

@@ -22,7 +22,7 @@ use std::io;
 const MOST_LOOKS: u32 = 8;
 
 /// A growing store file that is open.
-type FileLook<'a> = Look<FileAt<'a>, Sha1Namer, Global>;
+pub(crate) type FileLook<'a> = Look<FileAt<'a>, Sha1Namer, Global>;
 
 /// The file of a growing store, where that is one.
 pub(crate) fn growing_file<'a>(

@@ -3,7 +3,7 @@
 use super::next_text::NextText;
 use super::told_lines;
 use crate::fault::RunFault;
-use crate::looks::{look_into, open_growing};
+use crate::looks::{growing_file, look_into};
 use crate::run::Run;
 use crate::streams::reports::tell_pruned;
 use gx_cli::{Pruned, collect_opened, names_in};
@@ -28,7 +28,7 @@ pub(crate) fn collect(
     let mut next = NextText::claim_next(run, file)?;
     let kept = names_in(alloc, lines.as_slice())?;
     let stamp = next.stamp()?;
-    let gone = match run.want_read(open_growing(run, file))? {
+    let gone = match growing_file(run, file)? {
         Some(opened) => {
             let look = look_into(run, file, opened)?;
             let listing = look.listing(alloc, state)?;

@@ -1,11 +1,9 @@
 -- Answers of the repository that is told, one step after another.
-use Rattle.std.proofs.Common.{◌≡◌, Bool, Option, None, Some, Result, Ok, Err, ap, ◌∙◌}
+use Rattle.std.proofs.Common.{◌≡◌, Option, None, Some, Result, Ok, Err, ap, ◌∙◌}
 use Rattle.std.specs.Prelude.{IfSome}
 use Rattle.gx_model.specs.Faults.{Given, ◌>>=◌}
 use Rattle.gx_model.specs.Histories.{Records}
-use Rattle.gx_rev.specs.declared.fault.RevFault.{RevFault}
-use Rattle.gx_rev.specs.declared.fault.RevFault.TheVariants as rev
-use Rattle.gx_questions.specs.Answers.{Answers, IsOfNoRead, NeedsNothing, NeverUnread, Refuses, of_revision}
+use Rattle.gx_questions.specs.Answers.{Answers, Refuses}
 use Rattle.gx_questions.specs.declared.fault.AskFault.{AskFault}
 use Rattle.gx_questions.specs.declared.fault.AskFault.TheVariants.{OutOfMemory, ReadFailed, Damaged, Revision}
 
@@ -18,17 +16,6 @@ fails_first told given next ReadFailed h = tt
 fails_first told given next Damaged h = h
 fails_first None given next (Revision f) h = tt
 fails_first (Some r) given next (Revision f) h = ap (λ g. g >>= next r) h
-
--- no fault of a revision is one of a read
-pub reads_nothing : (fault : RevFault) → IsOfNoRead (of_revision fault)
-reads_nothing rev.OutOfMemory = tt
-reads_nothing fault = tt
-
--- what needs neither memory nor a read is refused for no read
-pub needs_no_read : {X : Type 0} (sure : Bool) (result : Result X AskFault) → NeedsNothing sure result → NeverUnread sure result
-needs_no_read sure (Ok x) h s = tt
-needs_no_read sure (Err ReadFailed) h s = h s
-needs_no_read sure (Err fault) h s = tt
 
 -- ---- answers
 

@@ -16,9 +16,9 @@ const BYTES_OF_ROW: u64 = 28;
 /// Leaves out of a store file what neither refs reach nor the objects that the lines of the file `keep` name; where that is
 /// refused, it stays as it was. Of a growing one no more is held than what its objects are called and where they stand, and what goes
 /// isn't read. The lines are read before the store file is claimed. How much went is told once that is free.
-pub(crate) fn collect(
-    run: &Run<'_>,
-    file: &str,
+pub(crate) fn collect<'a>(
+    run: &'a Run<'a>,
+    file: &'a str,
     keep: Option<&str>,
     report: bool,
     state: RandomState,

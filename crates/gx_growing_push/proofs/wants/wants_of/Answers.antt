@@ -1,6 +1,6 @@
 use Rattle.std.proofs.Common.{subst, sym}
 use Rattle.std.specs.List.{AllByRecursion}
-use Rattle.gx_push.proofs.ReadLines.{read_all, read_next}
+use Rattle.gx_push.proofs.ReadLines.{read_next}
 use Rattle.gx_push.specs.Wants.{ref_of, refs_of, shown_want, shown_wants, want_of}
 use Rattle.gx_ref_lines.specs.Refs.{shown_refs}
 use Rattle.gx_growing_push.specs.Wanting.{IsFree}

@@ -104,8 +104,9 @@ def test_git(
 # ---- what lines tell
 
 
-def commit(ref: bytes, start: bytes = b"") -> bytes:
-    return b"commit %s\n%s%s%s\n" % (ref, WHO, block(b"m"), b"from %s\n" % start if start else b"")
+def commit(ref: bytes, start: bytes = b"", message: bytes = b"m") -> bytes:
+    first = b"from %s\n" % start if start else b""
+    return b"commit %s\n%s%s%s\n" % (ref, WHO, block(message), first)
 
 
 @pytest.fixture
@@ -119,6 +120,7 @@ def pushes(gx: Program, tmp_path: Path) -> Pushes:
 
 
 ON_A = commit(b"refs/heads/a", b"refs/heads/a^0")
+ANEW = commit(b"refs/heads/a", message=b"anew")
 NEW = commit(b"refs/heads/n", b"refs/heads/a")
 TAG = b"tag t\nfrom refs/heads/a\ntagger A <a@x> 1 +0000\n" + block(b"x")
 SMALL = [
@@ -146,8 +148,8 @@ REFUSED = [
     (["+b", "-new a"], b"", "push 2: RefMoved"),
     (["-b", "+b"], b"", "push 2: BadLine"),
     (["+a", "+c", "x"], ON_A, "push 3: BadLine"),
-    (["a"], commit(b"refs/heads/a"), "push 1: NotFastForward"),
-    (["+a", "new n", "b"], ON_A + commit(b"refs/heads/b") + NEW, "push 3: NotFastForward"),
+    (["a"], ANEW, "push 1: NotFastForward"),
+    (["+b", "new n", "a"], ANEW + NEW, "push 3: NotFastForward"),
     (["+a"], ON_A + b"checkpoint\n\nnonsense\n", "command 3: UnknownCommand"),
     (["+a"], ON_A + b"progress x\nnonsense\n", "command 3: UnknownCommand"),
 ]

@@ -1,5 +1,5 @@
 -- What a push leaves, where each ref may become of what it was whatever it is then.
-use Rattle.std.proofs.Common.{◌≡◌, ℕ, ◌+◌, true, List, [], ◌∷◌, ◌++◌, length, map, None, Some, Ok, Err, refl, ap, ◌∙◌}
+use Rattle.std.proofs.Common.{◌≡◌, ℕ, ◌+◌, true, List, [], ◌∷◌, length, None, Some, Ok, Err, refl, ap, ◌∙◌}
 use Rattle.std.specs.Prelude.{if◌then◌else◌}
 use Rattle.std.specs.List.{AllByRecursion}
 use Rattle.gx_model.specs.Histories.{Records}
@@ -11,11 +11,6 @@ use Rattle.gx_push.specs.Wants.{Wanted, refs_of}
 use Rattle.gx_repo.specs.Dropping.{without}
 use Rattle.gx_repo.specs.Refs.{object_named}
 use Rattle.gx_growing_push.specs.Wanting.{IsFree}
-
--- one more
-pub all_more : {X V : Type 0} (P : X → Type 0) (shown : V → X) (list : List V) (v : V) → AllByRecursion P (map shown list) → P (shown v) → AllByRecursion P (map shown (list ++ v ∷ []))
-all_more P shown [] v h p = (p, tt)
-all_more P shown (x ∷ xs) v h p = (h.0, all_more P shown xs v h.1 p)
 
 -- none loses commits
 none_lost : (r : Records) (number : ℕ) (wants : List Wanted) → AllByRecursion IsFree wants → first_lost r number wants ≡ None

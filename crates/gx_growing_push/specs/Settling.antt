@@ -1,5 +1,5 @@
 -- Refs that have none of some names, from a place on. Source: gitglossary(7), "ref".
-use Rattle.std.specs.Prelude.{◌≡◌, ℕ, ◌+◌, ◌<◌, Bool, List, [], ◌∷◌, drop, get_or, length, Option, None, Some}
+use Rattle.std.specs.Prelude.{◌≡◌, ℕ, ◌+◌, Bool, List, [], ◌∷◌, drop, get_or, Option, None, Some}
 use Rattle.std.specs.Borrow.{Bor}
 use Rattle.gx_model.specs.Records.Publishing.{Ref}
 use Rattle.gx_model.specs.Texts.{Bytes}
@@ -15,10 +15,10 @@ same_lent ref other = same_ref (shown_lent_ref ref) (shown_lent_ref other)
 
 -- the refs from a place on that have none of these names
 abbrev pub others_from : List Bytes → List (Bor Bytes × Name) → ℕ → List Ref
-others_from others refs i = without others (shown_refs (drop i refs))
+others_from names refs i = without names (shown_refs (drop i refs))
 
--- the place of the first of these, and those behind it; or there is none
+-- the first of these is at this place, and the others behind it; or there is none
 abbrev pub TellsOther : List Bytes → List (Bor Bytes × Name) → ℕ → Option ℕ → Type 0
-TellsOther others refs i None = others_from others refs i ≡ []
-TellsOther others refs i (Some place) = (place < length refs)
-    × ((d : Bor Bytes × Name) → others_from others refs i ≡ shown_lent_ref (get_or refs place d) ∷ others_from others refs (place + 1))
+TellsOther names refs i None = others_from names refs i ≡ []
+TellsOther names refs i (Some place) =
+    (past : Bor Bytes × Name) → others_from names refs i ≡ shown_lent_ref (get_or refs place past) ∷ others_from names refs (place + 1)

@@ -5,12 +5,10 @@ use Rattle.gx_model.specs.Histories.{Records}
 use Rattle.gx_model.specs.Records.Publishing.{Ref}
 use Rattle.gx_model.specs.Stores.StoreText.{stored_ref}
 use Rattle.gx_model.specs.Texts.{Bytes}
-use Rattle.gx_repo.specs.Dropping.{AreIn}
 use Rattle.gx_push.specs.declared.want.Fate.{Fate}
 use Rattle.gx_push.specs.Forward.{may_be}
 use Rattle.gx_push.specs.Pushes.{pushed}
-use Rattle.gx_push.specs.Wants.{Wanted, refs_of, shown_wants, wants_in}
-use Rattle.gx_growing_push.specs.declared.wants.Wants.{Wants}
+use Rattle.gx_push.specs.Wants.{Wanted, wants_in}
 
 -- a ref with this fate may become of what it was whatever it is then, in each repository
 abbrev pub MayBeAny : Fate → Option Bytes → Type 0
@@ -25,12 +23,6 @@ pub record HoldLines (refs : List Ref) (lines : List Bytes) : Type 0 where
   pub wants : List Wanted
   pub wanted : wants_in refs lines ≡ Ok wants
   pub free : AllByRecursion IsFree wants
-
--- these are the wants of such lines, and their refs' names alone are held in the set
-pub record AreWants {A : Type 0} (refs : List Ref) (lines : List Bytes) (wants : Wants A) : Type 0 where
-  pub wanted : wants_in refs lines ≡ Ok (shown_wants wants.list.items)
-  pub free : AllByRecursion IsFree (shown_wants wants.list.items)
-  pub names : AreIn wants.names (refs_of (shown_wants wants.list.items))
 
 -- where an import makes refs of others, a push leaves the refs of these lines, so many
 pub record Leaves (before made : List Ref) (wants : List Wanted) (lines : Bytes) (count : ℕ) : Type 0 where

@@ -1,7 +1,8 @@
 //! The refs that a push leaves of those that an import makes. Source: git-push(1), "--delete" and "--atomic".
 
-ghost use Rattle.std.specs.Prelude.{◌≡◌, true, IfOk, IsTrue, List};
+ghost use Rattle.std.specs.Prelude.{◌≡◌, ◌<◌, IfOk, IfSome, IsTrue, List, length};
 ghost use Rattle.std.specs.FinMap.Entries.{is_sorted};
+ghost use Rattle.std.specs.List.{AllByRecursion};
 ghost use Rattle.gx_growing_push.specs.Settling.{TellsOther, same_lent};
 ghost use Rattle.gx_growing_push.specs.Wanting.{IsFree, Leaves};
 ghost use Rattle.gx_model.specs.Texts.{Bytes, byte_cmp};
@@ -9,7 +10,6 @@ ghost use Rattle.gx_push.specs.Pushes.{are_kept};
 ghost use Rattle.gx_push.specs.Wants.{refs_of, shown_wants};
 ghost use Rattle.gx_ref_lines.specs.Refs.{shown_refs};
 ghost use Rattle.gx_repo.specs.Dropping.{AreIn};
-ghost use Rattle.std.specs.List.{AllByRecursion};
 
 use crate::WholePush;
 use crate::wants::{Wants, vanishing};
@@ -51,8 +51,8 @@ fn are_others_kept<A: Allocator + Copy>(
     after: &[(&[u8], Name)],
     names: &BTreeSet<&[u8], A>,
 ) -> bool
-    ensures { result ≡ true → (others : List Bytes) → AreIn names.now others
-        → are_kept others (shown_refs before.now) (shown_refs after.now) ≡ true }
+    ensures { (others : List Bytes) → AreIn names.now others
+        → result ≡ are_kept others (shown_refs before.now) (shown_refs after.now) }
 {
     let mut place = 0;
     for held in after {
@@ -76,7 +76,8 @@ fn next_other<A: Allocator + Copy>(
     from: usize,
     names: &BTreeSet<&[u8], A>,
 ) -> Option<usize>
-    ensures { (others : List Bytes) → AreIn names.now others
+    ensures bound { IfSome result (λ place. place < length refs.now) }
+    ensures other { (others : List Bytes) → AreIn names.now others
         → TellsOther others refs.now from result }
 {
     for place in from..refs.len() {

@@ -2,13 +2,15 @@
 
 ghost use Rattle.std.specs.Prelude.{◌≡◌, false, IfOk, IfSome, IsTrue, Ok};
 ghost use Rattle.std.specs.FinMap.Entries.{is_sorted};
-ghost use Rattle.gx_growing_push.specs.Wanting.{AreWants, IsFree, MayBeAny};
+ghost use Rattle.std.specs.List.{AllByRecursion};
+ghost use Rattle.gx_growing_push.specs.Wanting.{IsFree, MayBeAny};
 ghost use Rattle.gx_model.specs.Texts.{byte_cmp};
 ghost use Rattle.gx_object.specs.Parts.{bytes_if};
 ghost use Rattle.gx_push.specs.Calls.{HoldsLine, texts};
 ghost use Rattle.gx_push.specs.Pushes.{is_vanishing, vanishing};
-ghost use Rattle.gx_push.specs.Wants.{shown_want, shown_wants};
+ghost use Rattle.gx_push.specs.Wants.{refs_of, shown_want, shown_wants, wants_in};
 ghost use Rattle.gx_ref_lines.specs.Refs.{shown_refs};
+ghost use Rattle.gx_repo.specs.Dropping.{AreIn};
 ghost use Rattle.gx_text.specs.Lent.{lent_texts};
 
 use crate::WholePush;
@@ -34,7 +36,12 @@ pub(crate) fn wants_of<'a, A: Allocator + Copy>(
     lines: &'a [Vec<u8, A>],
 ) -> Result<Wants<'a, A>, WholePush>
     requires sorted { IsTrue (is_sorted byte_cmp (shown_refs held.now.refs.items)) }
-    ensures { IfOk result (AreWants (shown_refs held.now.refs.items) (texts lines.now)) }
+    ensures wanted { IfOk result (λ wants.
+        wants_in (shown_refs held.now.refs.items) (texts lines.now)
+        ≡ Ok (shown_wants wants.list.items)) }
+    ensures free { IfOk result (λ wants. AllByRecursion IsFree (shown_wants wants.list.items)) }
+    ensures names { IfOk result (λ wants.
+        AreIn wants.names (refs_of (shown_wants wants.list.items))) }
 {
     let mut list = Vec::new(alloc);
     let mut names = BTreeSet::new(alloc);

@@ -6,7 +6,7 @@ use Rattle.gx_growing_push.proofs.WholePushes.{lines_hold}
 use Rattle.gx_growing_push.proofs.pushing.look_at_lines.Goals as goal
 
 pub wants_of-requires : goal.wants_of-requires
-wants_of-requires g c = sorted_lines c.in_ok-ref_lines.field-0.now (shown_refs c.in_ok-held.held.refs.items) c.in_ok-held.ensures.all c.in_ok-ref_lines.ensures.spelled
+wants_of-requires g c = record { sorted = sorted_lines c.in_ok-ref_lines.field-0.now (shown_refs c.in_ok-held.held.refs.items) c.in_ok-held.ensures.all c.in_ok-ref_lines.ensures.spelled }
 
 pub returns : goal.returns
 returns g c =

@@ -1,3 +1,4 @@
+use Rattle.std.proofs.Common.{◌∙◌}
 use Rattle.gx_push.specs.Calls.{texts}
 use Rattle.gx_push.specs.Wants.{shown_wants}
 use Rattle.gx_ref_lines.specs.Refs.{shown_refs}
@@ -6,7 +7,7 @@ use Rattle.gx_growing_push.proofs.WholePushes.{pushes_told}
 use Rattle.gx_growing_push.proofs.pushing.push_over.Goals as goal
 
 pub wants_of-requires : goal.wants_of-requires
-wants_of-requires g c = sorted_lines c.in_ok-ref_lines.field-0.now (shown_refs c.in_ok-before.before.refs.items) c.in_ok-before.ensures.all c.in_ok-ref_lines.ensures.spelled
+wants_of-requires g c = record { sorted = sorted_lines c.in_ok-ref_lines.field-0.now (shown_refs c.in_ok-before.before.refs.items) c.in_ok-before.ensures.all c.in_ok-ref_lines.ensures.spelled }
 
 pub returns-clause-pushed : goal.returns-clause-pushed
 returns-clause-pushed g c =
@@ -20,4 +21,4 @@ returns-clause-pushed g c =
     c.in_ok-ref_lines.field-0.now refs c.in_ok-before.ensures.all c.in_ok-ref_lines.ensures.lines in
     pushes_told name namer c.args.done (texts c.args.lines.now) told c.args.stream.now c.args.fails refs same wants c.in_ok-wants.ensures.wanted
     made.objects.1 made.refs.items made.ref_count made.progress.items made.report c.in_ok-made.ensures.whole
-    c.in_ok-left.left.lines.items c.in_ok-left.left.count c.in_ok-left.ensures
+    c.in_ok-left.left.lines.items c.in_ok-left.left.count (λ refs lines. c.in_ok-left.ensures refs (c.deref.ensures.value ∙ lines))

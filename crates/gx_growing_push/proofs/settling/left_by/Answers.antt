@@ -15,7 +15,7 @@ returns-in-Ok g c sorted =
     let made = shown_refs c.args.after.now.refs.items in
     let wants = shown_wants c.args.wants.now.list.items in
     let kept = ap₂ (λ was now. are_kept (refs_of wants) (shown_refs was) (shown_refs now)) (sym c.as_slice.ensures.value) (sym c.as_slice-2.ensures.value)
-    ∙ c.are_others_kept.ensures c.if-not-are_others_kept.false (refs_of wants) c.requires.names in
+    ∙ sym (c.are_others_kept.ensures (refs_of wants) c.requires.names) ∙ c.if-not-are_others_kept.false in
     let names = ap lent_texts c.as_slice-4.ensures.value ∙ c.in_ok-names.ensures sorted ∙ ap (λ ws. vanishing made (shown_wants ws)) c.as_slice-3.ensures.value in
     record {
       named = without (vanishing made wants) made;

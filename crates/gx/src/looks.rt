@@ -42,7 +42,7 @@ pub(crate) fn growing_file<'a>(
 
 /// Opens a file of which the first line is a growing store's. A look comes first, since to open a pipe would wait.
 pub(crate) fn open_growing<'a>(run: &'a Run<'a>, file: &'a str) -> io::Result<Option<FileAt<'a>>> {
-    let mut host = Host { run, file };
+    let mut host = Host::new(run, file);
     if host.look(file)?.kind != FileKind::File {
         return Ok(None);
     }
@@ -75,6 +75,12 @@ pub(crate) fn look_into<'a>(
         }
     }
     Ok(look?)
+}
+
+/// How many rows the live runs of a growing store file have: as many as it has objects.
+pub(crate) fn row_count(look: &FileLook<'_>) -> u64 {
+    let runs = look.ending().runs.iter();
+    runs.fold(0u64, |sum, run| sum.saturating_add(run.count))
 }
 
 fn is_damaged<T>(look: &Result<T, LookFault>) -> bool {

@@ -10,7 +10,7 @@ use crate::streams::kept::Kept;
 use crate::streams::progress::Beside;
 use crate::streams::reports::{tell_changes, tell_import, tell_nameless};
 use crate::streams::traced::Traced;
-use gx_cli::{CliFault, Explanation, Features, push_opened, refused_text};
+use gx_cli::{CliFault, Explanation, Features, Pushed, push_opened, refused_text};
 use gx_text::{FromRead, IntoWrite};
 use std::hash::RandomState;
 
@@ -35,7 +35,9 @@ pub(crate) fn push(
     };
     let told = import_told(run, &mut next, asks)?;
     drop(next);
-    tell_changes(run, &told.changes);
+    if report {
+        tell_changes(run, &told.changes);
+    }
     tell_import(run, &told.answer?, report);
     if report {
         tell_nameless(run, told.nameless);
@@ -55,7 +57,7 @@ pub(super) fn push_whole(
     let alloc = run.rt.alloc();
     let repo = next.read_repo(asks.state)?;
     stream.tell_typed(run);
-    let mut input = Traced::new(run, stream, asks.report);
+    let mut input = Traced::new(run, &mut *stream, asks.report);
     let mut told = Explanation::none();
     let (source, mut sink) = (FromRead::new(&mut input), IntoWrite::new(output));
     let done = asks.features.done;
@@ -64,16 +66,15 @@ pub(super) fn push_whole(
     if let Err(CliFault::Push { number, .. }) = &pushed {
         explain_line(run, next, lines, *number, asks.state);
     }
-    let pushed = pushed?;
-    next.publish_added(&pushed.repo)?;
-    let changes = if asks.report {
-        pushed.changes
-    } else {
-        Vec::new(alloc)
-    };
+    let Pushed {
+        repo,
+        changes,
+        report,
+    } = pushed?;
+    next.publish_added(&repo)?;
     Ok(Told {
         changes,
-        answer: Ok(pushed.report),
+        answer: Ok(report),
         nameless: input.trail().map_or(0, |trail| trail.nameless()),
     })
 }

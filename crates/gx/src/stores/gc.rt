@@ -3,7 +3,7 @@
 use super::next_text::NextText;
 use super::told_lines;
 use crate::fault::RunFault;
-use crate::looks::{FileLook, look_into, open_growing, row_count};
+use crate::looks::{FileLook, growing_file, look_into, row_count};
 use crate::run::Run;
 use crate::streams::reports::tell_pruned;
 use gx_cli::{Pruned, collect_opened, names_in};
@@ -16,9 +16,9 @@ const BYTES_OF_ROW: u64 = 28;
 /// Leaves out of a store file what neither refs reach nor the objects that the lines of the file `keep` name; where that is
 /// refused, it stays as it was. Of a growing one no more is held than what its objects are called and where they stand, and what goes
 /// isn't read. The lines are read before the store file is claimed. How much went is told once that is free.
-pub(crate) fn collect(
-    run: &Run<'_>,
-    file: &str,
+pub(crate) fn collect<'a>(
+    run: &'a Run<'a>,
+    file: &'a str,
     keep: Option<&str>,
     report: bool,
     state: RandomState,
@@ -48,7 +48,7 @@ pub(crate) fn collect(
 /// A growing store file, where that is one. One that has no room for the rows that it tells is damaged: what is read of it as a whole
 /// tells where.
 fn look_of<'a>(run: &'a Run<'a>, store: &'a str) -> Result<Option<FileLook<'a>>, RunFault> {
-    let Some(opened) = run.want_read(open_growing(run, store))? else {
+    let Some(opened) = growing_file(run, store)? else {
         return Ok(None);
     };
     let look = look_into(run, store, opened)?;

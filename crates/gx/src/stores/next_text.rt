@@ -260,7 +260,7 @@ fn write_kept(
 ) -> Result<Pruned, RunFault> {
     let alloc = run.rt.alloc();
     let noted = Noted::new(run, Subject::NextText, text);
-    let differing = Differing::new(store, noted);
+    let differing = Differing::new(alloc, store, noted)?;
     match BufWriter::with_capacity(alloc, BUFFER, differing) {
         Ok(mut out) => {
             let mut sink = IntoWrite::new(&mut out);

@@ -29,20 +29,20 @@ pub(crate) fn growing_file<'a>(
     run: &'a Run<'a>,
     file: &'a str,
 ) -> Result<Option<FileAt<'a>>, CliFault> {
-    run.want_read(open_growing(run, file))
+    run.want_read(growing_at(Host::new(run, file), file))
 }
 
-/// Opens a file of which the first line is a growing store's. A look comes first, since to open a pipe would wait.
-fn open_growing<'a>(run: &'a Run<'a>, file: &'a str) -> io::Result<Option<FileAt<'a>>> {
-    let mut host = Host::new(run, file);
-    if host.look(file)?.kind != FileKind::File {
+/// Opens a file at a path of which the first line is a growing store's. A look comes first, since to open a pipe would wait.
+pub(crate) fn growing_at<'a>(host: Host<'a>, path: &str) -> io::Result<Option<FileAt<'a>>> {
+    let mut host = host;
+    if host.look(path)?.kind != FileKind::File {
         return Ok(None);
     }
-    let opened = host.open(file)?;
+    let opened = host.open(path)?;
     if host.look_at(&opened)?.kind != FileKind::File {
         return Ok(None);
     }
-    let source = FileAt::read_only(run, opened);
+    let source = FileAt::read_only(host.run, opened);
     let mut front = [0; 10];
     match source.read_at(0, &mut front) {
         Ok(count) if form_of(&front[..count]) == StoreForm::Growing => Ok(Some(source)),

@@ -7,7 +7,6 @@ from __future__ import annotations
 import contextlib
 import errno
 import fcntl
-import os
 import random
 import re
 import resource
@@ -20,7 +19,7 @@ import pytest
 
 from failing import needs_faults
 from growing_reading import read
-from growing_texts import HEAD, GrowingText, Record, head, picked_slot, sha256, slot, tail
+from growing_texts import GrowingText, Record, with_runs
 from programs import Done, Program, counted
 from stops import Ender, ended_at
 from store_files import NEW, OLD, named
@@ -158,10 +157,7 @@ def test_rows_of_many_runs(gx: Program, tmp_path: Path) -> None:
     blobs = [b"%d" % number for number in range(2000)]
     whole, store = GrowingText(), tmp_path / "store"
     whole.append([Record(b"blob", bytes.fromhex(named("blob", body)), body) for body in blobs], {})
-    ends, start = picked_slot(whole.text())
-    last = tail(whole.runs * 4000, {})
-    front = head(b"a", slot(start + len(last), start, sha256(last)), bytes(106))
-    text = front + whole.text()[HEAD:start] + last
+    text = with_runs(whole.text(), whole.runs * 4000)
     store.write_bytes(text)
     room = (64 << 20, 64 << 20)
     done = gx("gc", store, preexec_fn=lambda: resource.setrlimit(resource.RLIMIT_AS, room))

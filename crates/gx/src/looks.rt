@@ -6,46 +6,36 @@ pub(crate) mod file_at;
 use crate::fault::RunFault;
 use crate::run::Run;
 use crate::stores::host::Host;
-use crate::streams::devices::{Noted, flushed};
 pub(crate) use changes::export_looked;
 use file_at::FileAt;
 use gx_at::ReadAt;
-use gx_cli::{BatchForm, CliFault, Line, ending_of, read_format};
+use gx_cli::CliFault;
 use gx_look::Look;
 use gx_object::Sha1Namer;
 use gx_objects::LookFault;
 use gx_place::{FileKind, System};
-use gx_text::{FromRead, IntoWrite};
-use gx_told::{answer, answers, batch};
 use gx_versions::{StoreForm, form_of};
 use std::alloc::Global;
-use std::io::{self, BufWriter};
+use std::io;
 
 /// So often is a store opened again whose head another run may have been writing.
 const MOST_LOOKS: u32 = 8;
 
+/// So many bytes a row of a run has.
+const BYTES_OF_ROW: u64 = 28;
+
 /// A growing store file that is open.
 pub(crate) type FileLook<'a> = Look<FileAt<'a>, Sha1Namer, Global>;
 
-/// The file of a growing store, where a command is a question to one and its file is one.
+/// The file of a growing store, where that is one.
 pub(crate) fn growing_file<'a>(
     run: &'a Run<'a>,
-    line: &Line<'_>,
     file: &'a str,
 ) -> Result<Option<FileAt<'a>>, CliFault> {
-    if answers(line) || matches!(line, Line::Batch { .. }) {
-        run.want_read(open_growing(run, file))
-    } else {
-        Ok(None)
-    }
+    run.want_read(growing_at(Host::new(run, file), file))
 }
 
-/// Opens a file of which the first line is a growing store's.
-pub(crate) fn open_growing<'a>(run: &'a Run<'a>, file: &'a str) -> io::Result<Option<FileAt<'a>>> {
-    growing_at(Host::new(run, file), file)
-}
-
-/// Does so at a path. A look comes first, since to open a pipe would wait.
+/// Opens a file at a path of which the first line is a growing store's. A look comes first, since to open a pipe would wait.
 pub(crate) fn growing_at<'a>(host: Host<'a>, path: &str) -> io::Result<Option<FileAt<'a>>> {
     let mut host = host;
     if host.look(path)?.kind != FileKind::File {
@@ -75,7 +65,7 @@ pub(crate) fn look_into<'a>(
         if !is_damaged(&look) {
             break;
         }
-        if let Some(again) = run.want_read(open_growing(run, file))? {
+        if let Some(again) = growing_file(run, file)? {
             look = Look::open(run.rt.alloc(), Sha1Namer, again);
         }
     }
@@ -88,60 +78,11 @@ pub(crate) fn row_count(look: &FileLook<'_>) -> u64 {
     runs.fold(0u64, |sum, run| sum.saturating_add(run.count))
 }
 
+/// Whether a growing store file has room for the rows that it tells. One that hasn't is damaged.
+pub(crate) fn has_room_for_rows(look: &FileLook<'_>) -> bool {
+    row_count(look) <= look.ending().ends / BYTES_OF_ROW
+}
+
 fn is_damaged<T>(look: &Result<T, LookFault>) -> bool {
     matches!(look, Err(LookFault::Damaged))
-}
-
-/// Answers a question to a growing store file that is open.
-pub(crate) fn answer_looked<'a>(
-    run: &'a Run<'a>,
-    line: &Line<'_>,
-    file: &'a str,
-    opened: FileAt<'a>,
-) -> Result<(), RunFault> {
-    match line {
-        Line::Batch {
-            form,
-            format,
-            nul,
-            file: _,
-        } => batch_looked(run, *form, *format, *nul, file, opened),
-        _ => print_looked(run, line, file, opened),
-    }
-}
-
-/// Answers each line of standard input. The format is read first, and each answer goes out before the next line is read.
-fn batch_looked<'a>(
-    run: &'a Run<'a>,
-    form: BatchForm,
-    format: Option<&str>,
-    nul: bool,
-    file: &'a str,
-    opened: FileAt<'a>,
-) -> Result<(), RunFault> {
-    let alloc = run.rt.alloc();
-    let format = read_format(alloc, format)?;
-    let look = look_into(run, file, opened)?;
-    let source = FromRead::new(Noted::input(run));
-    let sink = &mut IntoWrite::new(Noted::output(run));
-    Ok(batch(alloc, &look, form, &format, ending_of(nul), source, sink)?)
-}
-
-/// Prints what a question tells of a growing store file that is open. It goes out through a buffer.
-fn print_looked<'a>(
-    run: &'a Run<'a>,
-    line: &Line<'_>,
-    file: &'a str,
-    opened: FileAt<'a>,
-) -> Result<(), RunFault> {
-    let alloc = run.rt.alloc();
-    let look = look_into(run, file, opened)?;
-    match BufWriter::new(alloc, Noted::output(run)) {
-        Ok(mut out) => {
-            let source = FromRead::new(Noted::input(run));
-            let answered = answer(alloc, &look, line, source, &mut IntoWrite::new(&mut out));
-            flushed(&mut out, answered.map_err(RunFault::from))
-        }
-        Err(_) => Err(RunFault::Command(CliFault::OutOfMemory)),
-    }
 }

@@ -38,14 +38,21 @@ commit_is_wide parts body h =
     let idents = and_parts (is_ident t.author && is_ident t.committer) (is_optional_encoding t.encoding) h.3 in
     let each = and_parts (is_ident t.author) (is_ident t.committer) idents.0 in
     let form : HasWideForm (widened_commit parts).text = record {
-      author = ident_is_line t.author each.0; committer = ident_is_line t.committer each.1; encoding = idents.1; further = refl; apart = apart t.encoding;
+      author = ident_is_line t.author each.0;
+      committer = ident_is_line t.committer each.1;
+      encoding = idents.1;
+      further = refl;
+      apart = apart t.encoding;
     } in
     (h.0, h.1, h.2, form)
 
 tag_is_wide : (parts : TagParts) (body : Bytes) → IsTagText parts body → IsWideTagText (widened_tag parts) body
 tag_is_wide parts body h =
     let form : HasWideTagForm (widened_tag parts) = record {
-      name = tag_is_line parts.name h.2; tagger = optional_is_line parts.tagger h.3; further = refl; apart = tagger_apart parts.tagger;
+      name = tag_is_line parts.name h.2;
+      tagger = optional_is_line parts.tagger h.3;
+      further = refl;
+      apart = tagger_apart parts.tagger;
     } in
     (h.0, h.1, form)
 

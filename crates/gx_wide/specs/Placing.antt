@@ -78,8 +78,8 @@ unfoldable pub placed_within : ℕ → List Record → List Record → Record �
 placed_within zero given held new = Err (Dangling new.name new.name)
 placed_within (suc n) given held new = elim (record_named held new.name) [
   | None ↦
-    if is_wide_body new.kind new.body then (links_placed (placed_within n given) given new.name (wide_links new.kind new.body) held >>= put_last new)
-    else Err (BadObject new.name)
+      if is_wide_body new.kind new.body then (links_placed (placed_within n given) given new.name (wide_links new.kind new.body) held >>= put_last new)
+      else Err (BadObject new.name)
   | Some known ↦ if same_object known new then Ok held else Err (NameHeld new.name)
 ]
 

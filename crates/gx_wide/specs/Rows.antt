@@ -69,8 +69,19 @@ pub record CommitRows : Type 0 where
 pub commit_rows : CommitRows
 unfolding cut_at is_ident
 commit_rows = record {
-  signature_is_kept = refl; signed_is_one = refl; no_message = refl; no_message_is_one = refl; empty_message = refl; encoding_first = refl;
-  encoding_behind = refl; encoding_behind_is_one = refl; empty_encoding = refl; empty_encoding_is_one = refl; no_end = refl; no_author = refl; upper_case = refl;
+  signature_is_kept = refl;
+  signed_is_one = refl;
+  no_message = refl;
+  no_message_is_one = refl;
+  empty_message = refl;
+  encoding_first = refl;
+  encoding_behind = refl;
+  encoding_behind_is_one = refl;
+  empty_encoding = refl;
+  empty_encoding_is_one = refl;
+  no_end = refl;
+  no_author = refl;
+  upper_case = refl;
 }
 
 -- ---- tags
@@ -166,18 +177,18 @@ blob = printed (codes "blob") kind.Blob (codes "x")
 
 pub record OfferRows : Type 0 where
   pub placed : taken_text false empty offered
-    ≡ Some (Ok (record {
-      records = record_for kind.Tree no_files ∷ record_for kind.Commit first ∷ record_for kind.Commit second ∷ record_for kind.Tag tag_of_tree ∷ [];
-      refs = (codes "refs/heads/main", name kind.Commit second) ∷ (codes "refs/tags/t", name kind.Tag tag_of_tree) ∷ [];
-    }))
+      ≡ Some (Ok (record {
+        records = record_for kind.Tree no_files ∷ record_for kind.Commit first ∷ record_for kind.Commit second ∷ record_for kind.Tag tag_of_tree ∷ [];
+        refs = (codes "refs/heads/main", name kind.Commit second) ∷ (codes "refs/tags/t", name kind.Tag tag_of_tree) ∷ [];
+      }))
   -- what is held is not added again, a ref goes forward, and a ref is dropped
   pub held : taken_text false (main_of first) (ref_line (digits kind.Commit second) (codes "refs/heads/main") ++ printed (codes "commit") kind.Commit second) ≡ Some (Ok (main_of second))
   pub dropped : taken_text false (main_of first) (ref_line zeros (codes "refs/heads/main")) ≡ Some (Ok (record { records = (main_of first).records; refs = [] }))
   pub back : taken_text false (main_of second) (ref_line (digits kind.Commit first) (codes "refs/heads/main"))
-    ≡ Some (Err (NotFastForward (codes "refs/heads/main") (name kind.Commit second) (name kind.Commit first)))
+      ≡ Some (Err (NotFastForward (codes "refs/heads/main") (name kind.Commit second) (name kind.Commit first)))
   pub forced : taken_text true (main_of second) (ref_line (digits kind.Commit first) (codes "refs/heads/main")) ≡ Some (Ok (main_of first))
   pub no_parent : taken_text false empty (printed (codes "commit") kind.Commit second ++ printed (codes "tree") kind.Tree no_files)
-    ≡ Some (Err (Dangling (name kind.Commit second) (name kind.Commit first)))
+      ≡ Some (Err (Dangling (name kind.Commit second) (name kind.Commit first)))
   pub no_object : taken_text false empty (ref_line zeros (codes "refs/tags/x") ++ ref_line (digits kind.Blob []) (codes "refs/tags/x")) ≡ Some (Err (Dangling (codes "refs/tags/x") (name kind.Blob [])))
   pub branch_of_blob : taken_text false empty (ref_line (digits kind.Blob (codes "x")) (codes "refs/heads/x") ++ blob) ≡ Some (Err (WrongKind (codes "refs/heads/x")))
   pub no_tree : taken_text false empty (printed (codes "tree") kind.Tree (codes "x")) ≡ Some (Err (BadObject (name kind.Tree (codes "x"))))
@@ -195,6 +206,22 @@ pub record OfferRows : Type 0 where
 pub offer_rows : OfferRows
 unfolding cut_at item_at items_within placed_within taken number_text
 offer_rows = record {
-  placed = refl; held = refl; dropped = refl; back = refl; forced = refl; no_parent = refl; no_object = refl; branch_of_blob = refl; no_tree = refl; peeled_to_tree = refl;
-  cut_in_line = refl; cut_in_body = refl; longer = refl; other_kind = refl; leading_zero = refl; lacking = refl; no_ref = refl; other_name = refl;
+  placed = refl;
+  held = refl;
+  dropped = refl;
+  back = refl;
+  forced = refl;
+  no_parent = refl;
+  no_object = refl;
+  branch_of_blob = refl;
+  no_tree = refl;
+  peeled_to_tree = refl;
+  cut_in_line = refl;
+  cut_in_body = refl;
+  longer = refl;
+  other_kind = refl;
+  leading_zero = refl;
+  lacking = refl;
+  no_ref = refl;
+  other_name = refl;
 }

@@ -168,8 +168,12 @@ wide_tag_parts_in body =
     let tagger = optional_field (has_word (codes "tagger") name.1) 7 name.1 in
     let tail = tail_in tagger.1 in
     record {
-      object = unhex object.0; of_kind = unwrap_or (kind_of_word type_line.0) kinds.Commit; name = name.0;
-      tagger = tagger.0; further = tail.0; message = tail.1;
+      object = unhex object.0;
+      of_kind = unwrap_or (kind_of_word type_line.0) kinds.Commit;
+      name = name.0;
+      tagger = tagger.0;
+      further = tail.0;
+      message = tail.1;
     }
 
 -- whether no line of an encoding stands first where none is told, and none of a tagger
@@ -213,5 +217,10 @@ widened_commit parts = record { tree = parts.tree; parents = parts.parents; text
 -- the parts of a tag of a commit without further headers
 abbrev pub widened_tag : TagParts → WideTagParts
 widened_tag parts = record {
-  object = parts.object; of_kind = kinds.Commit; name = parts.name; tagger = parts.tagger; further = []; message = Some parts.message;
+  object = parts.object;
+  of_kind = kinds.Commit;
+  name = parts.name;
+  tagger = parts.tagger;
+  further = [];
+  message = Some parts.message;
 }

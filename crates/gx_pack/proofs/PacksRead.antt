@@ -21,10 +21,10 @@ pub entry_read : (object : Object) (rest : Bytes) → entry_at (entry_text objec
 unfolding entry_at entry_text
 entry_read object rest =
     let head = entry_head object.0 (length object.1) in
-    let data = stored_text object.1 in
+    let stored = stored_text object.1 in
     let fits : nat_eq (length object.1) (length object.1) ≡ true = eq-eqb _ _ refl in
-    ap entry_at (append_assoc head data rest)
-    ∙ rw (head_read object.0 (length object.1) (data ++ rest), data_read object.1 rest, fits) refl
+    ap entry_at (append_assoc head stored rest)
+    ∙ rw (head_read object.0 (length object.1) (stored ++ rest), data_read object.1 rest, fits) refl
 
 -- entries one behind the other
 entries_read : (objects : List Object) (rest : Bytes) → entries_at (length objects) (flat_map entry_text objects ++ rest) ≡ Some (objects, rest)

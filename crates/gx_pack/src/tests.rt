@@ -37,7 +37,8 @@ fn body_of(alloc: Global, count: usize) -> Result<Vec<u8>, AllocError> {
 #[test]
 fn pack_without_objects(rt: HostRuntime) -> Result<(), Fail> {
     let pack = packed(rt.alloc(), &[]);
-    let told = b"PACK\0\0\0\x02\0\0\0\0\x02\x9d\x08\x82\x3b\xd8\xa8\xea\xb5\x10\xad\x6a\xc7\x5c\x82\x3c\xfd\x3e\xd3\x1e";
+    let told =
+        b"PACK\0\0\0\x02\0\0\0\0\x02\x9d\x08\x82\x3b\xd8\xa8\xea\xb5\x10\xad\x6a\xc7\x5c\x82\x3c\xfd\x3e\xd3\x1e";
     assert!(rt; pack.as_slice() == told.as_slice());
     Ok(())
 }
@@ -45,7 +46,8 @@ fn pack_without_objects(rt: HostRuntime) -> Result<(), Fail> {
 #[test]
 fn pack_of_two_objects(rt: HostRuntime) -> Result<(), Fail> {
     let pack = packed(rt.alloc(), &[(Kind::Blob, b"hello\n"), (Kind::Tree, b"")]);
-    let told = b"PACK\0\0\0\x02\0\0\0\x02\x36\x78\x01\x01\x06\0\xf9\xffhello\n\x08\x4b\x02\x1f\x20\x78\x01\x01\0\0\xff\xff\0\0\0\x01";
+    let told =
+        b"PACK\0\0\0\x02\0\0\0\x02\x36\x78\x01\x01\x06\0\xf9\xffhello\n\x08\x4b\x02\x1f\x20\x78\x01\x01\0\0\xff\xff\0\0\0\x01";
     assert!(rt; pack.len() == told.len() + 20);
     assert!(rt; pack.starts_with(told));
     Ok(())

@@ -44,6 +44,7 @@ QUESTIONS = {
     "batch --check FILE": b"main\nmain:test.txt\nnone\n",
     "batch --command FILE": b"refs\narchive main\nlog main\nls -r main\n",
     "drop FILE refs/heads/main": b"",
+    "gc FILE": b"",
 }
 
 

@@ -5,6 +5,8 @@ use Rattle.gx_changes.specs.declared.fault.ChangesFault.TheVariants as changes
 use Rattle.gx_cli.specs.FaultLines as command
 use Rattle.gx_cli.specs.declared.fault.CliFault.TheVariants as cli
 use Rattle.gx_export.specs.declared.fault.ExportFault.TheVariants as export
+use Rattle.gx_kept.specs.declared.fault.KeptFault.{KeptFault}
+use Rattle.gx_kept.specs.declared.fault.KeptFault.TheVariants as kept
 use Rattle.gx_objects.specs.declared.fault.LookFault.{LookFault}
 use Rattle.gx_objects.specs.declared.fault.LookFault.TheVariants as look
 use Rattle.gx_told.specs.declared.fault.ToldFault.{ToldFault}
@@ -28,6 +30,13 @@ abbrev pub of_look : LookFault → RunFault
 of_look look.OutOfMemory = Command cli.OutOfMemory
 of_look look.ReadFailed = Command cli.ReadFailed
 of_look look.Damaged = Damaged
+
+-- why a run is refused that keeps a part of its store
+abbrev pub of_kept : KeptFault → RunFault
+of_kept kept.OutOfMemory = Command cli.OutOfMemory
+of_kept kept.ReadFailed = Command cli.ReadFailed
+of_kept kept.Damaged = Damaged
+of_kept kept.WriteFailed = Command cli.WriteFailed
 
 -- why a run is refused whose question is
 abbrev pub of_told : ToldFault → RunFault

@@ -1,12 +1,13 @@
 //! Why a run of the program is refused.
 
 ghost use Rattle.std.specs.Prelude.{◌≡◌, Some};
-ghost use Rattle.gx.specs.RunFaults.{line_of, of_changes, of_look, of_told};
+ghost use Rattle.gx.specs.RunFaults.{line_of, of_changes, of_kept, of_look, of_told};
 
 use gx_adapt::AdaptFault;
 use gx_changes::ChangesFault;
 use gx_cli::{BlobsKind, CliFault};
 use gx_export::ExportFault;
+use gx_kept::KeptFault;
 use gx_objects::LookFault;
 use gx_told::ToldFault;
 use std::alloc::AllocError;
@@ -86,6 +87,19 @@ impl From<LookFault> for RunFault {
             LookFault::OutOfMemory => RunFault::Command(CliFault::OutOfMemory),
             LookFault::ReadFailed => RunFault::Command(CliFault::ReadFailed),
             LookFault::Damaged => RunFault::Damaged,
+        }
+    }
+}
+
+impl From<KeptFault> for RunFault {
+    ghost from_gives = { λ kept fault. fault ≡ of_kept kept };
+
+    fn from(fault: KeptFault) -> RunFault {
+        match fault {
+            KeptFault::OutOfMemory => RunFault::Command(CliFault::OutOfMemory),
+            KeptFault::ReadFailed => RunFault::Command(CliFault::ReadFailed),
+            KeptFault::Damaged => RunFault::Damaged,
+            KeptFault::WriteFailed => RunFault::Command(CliFault::WriteFailed),
         }
     }
 }

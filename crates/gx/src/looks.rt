@@ -25,7 +25,7 @@ use std::io::{self, BufWriter};
 const MOST_LOOKS: u32 = 8;
 
 /// A growing store file that is open.
-type FileLook<'a> = Look<FileAt<'a>, Sha1Namer, Global>;
+pub(crate) type FileLook<'a> = Look<FileAt<'a>, Sha1Namer, Global>;
 
 /// The file of a growing store, where a command is a question to one and its file is one.
 pub(crate) fn growing_file<'a>(

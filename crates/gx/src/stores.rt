@@ -5,6 +5,7 @@ mod before;
 mod changed;
 mod drop_refs;
 pub(crate) mod files;
+mod gc;
 pub(crate) mod host;
 mod import;
 pub(crate) mod next_text;
@@ -18,9 +19,9 @@ mod stamp;
 use crate::fault::RunFault;
 use crate::run::{Run, Subject};
 use crate::streams::devices::Noted;
-use crate::streams::reports::tell_pruned;
 pub(crate) use drop_refs::drop_refs;
-use gx_cli::{CliFault, Repo, collect_opened, lines_from, names_in};
+pub(crate) use gc::collect;
+use gx_cli::{CliFault, Repo, lines_from};
 use gx_object::Sha1Namer;
 use gx_text::FromRead;
 use gx_versions::StoreForm;
@@ -53,30 +54,6 @@ pub(crate) fn grow(run: &Run<'_>, file: &str, state: RandomState) -> Result<(), 
         next.shape(StoreForm::Growing);
         next.publish_store(&repo)?;
     }
-    Ok(())
-}
-
-/// Leaves out of a store file what neither refs reach nor the objects that the lines of the file `keep` name; where that is
-/// refused, it stays as it was. The lines are read before the store file is claimed. How much went is told once that is free.
-pub(crate) fn collect(
-    run: &Run<'_>,
-    file: &str,
-    keep: Option<&str>,
-    report: bool,
-    state: RandomState,
-) -> Result<(), RunFault> {
-    let alloc = run.rt.alloc();
-    let lines = match keep {
-        Some(told) => told_lines(run, told)?,
-        None => Vec::new(alloc),
-    };
-    let mut next = NextText::claim_next(run, file)?;
-    let kept = names_in(alloc, lines.as_slice())?;
-    let repo = next.read_repo(state)?;
-    let (left, gone) = collect_opened(repo, kept.as_slice())?;
-    next.publish_store(&left)?;
-    drop(next);
-    tell_pruned(run, &gone, report);
     Ok(())
 }
 

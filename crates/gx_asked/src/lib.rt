@@ -4,7 +4,6 @@
 mod asked;
 mod entering;
 mod fault;
-mod tests;
 
 pub use asked::Asked;
 pub use fault::AskedFault;

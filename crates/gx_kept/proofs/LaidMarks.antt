@@ -1,8 +1,7 @@
 -- The rows of objects that are marked, laid out before a body is read: whatever the bodies are, they are those of the records.
-use Rattle.std.proofs.Common.{◌≡◌, ℕ, zero, suc, ◌+◌, ◌<◌, ◌≤◌, Bool, true, false, codes, List, [], ◌∷◌, ◌++◌, append_assoc, append-nil, drop, get_or, length, length-append, map, Option, Some, None, refl, sym, ap, ◌∙◌, subst, arith}
+use Rattle.std.proofs.Common.{◌≡◌, ℕ, zero, suc, ◌+◌, ◌<◌, ◌≤◌, Bool, true, false, codes, List, [], ◌∷◌, ◌++◌, append_assoc, append-nil, drop, get_or, length, length-append, map, Some, refl, sym, ap, ◌∙◌, subst, arith}
 use Rattle.std.specs.List.{filter, flat_map, slice_get}
 use Rattle.std.proofs.lemmas.List.{drop_all}
-use Rattle.gx_model.specs.declared.objects.Kind.{Kind}
 use Rattle.gx_model.specs.declared.store_versions.Version.TheVariants.{Two}
 use Rattle.gx_model.specs.Histories.{Record}
 use Rattle.gx_model.specs.Objects.{line}

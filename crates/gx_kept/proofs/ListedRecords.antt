@@ -1,8 +1,8 @@
 -- Objects that are listed, as the records that they are: their numbers are the places of records, and what a record names has a lower
 -- one.
-use Rattle.std.proofs.Common.{◌≡◌, ◌⊎◌, inl, inr, ℕ, zero, suc, ◌+◌, ◌<◌, Bool, true, false, cond, List, [], ◌∷◌, length, map, take, get_or, Option, Some, None, refl, sym, ap, ◌∙◌, subst, arith}
+use Rattle.std.proofs.Common.{◌≡◌, inl, inr, ℕ, zero, suc, ◌+◌, ◌<◌, Bool, true, false, cond, List, [], ◌∷◌, length, map, take, Option, Some, None, refl, sym, ap, ◌∙◌, subst, arith}
 use Rattle.std.specs.Prelude.{◌||◌, nat_lt, not}
-use Rattle.std.specs.List.{AllByRecursion, filter_map, list_any, position, position_or_len, slice_get}
+use Rattle.std.specs.List.{AllByRecursion, filter_map, list_any, position_or_len, slice_get}
 use Rattle.std.specs.Bool.{passes}
 use Rattle.std.specs.Option.{option_map}
 use Rattle.std.proofs.lemmas.Bool.{false≢true, false_from_ne_true}
@@ -28,7 +28,7 @@ use Rattle.gx_repo.proofs.Places.{found_before, held_by_all, held_nowhere, is_pl
 use Rattle.gx_repo.proofs.PrunedRecords.{entry_links, gitlink_links, store_sound}
 use Rattle.gx_repo.proofs.RecordRooms.{linked_at}
 use Rattle.gx_listed.proofs.Numbers.{position_step}
-use Rattle.gx_listed.specs.Listings.{HaveHeads, Head, Listed, head_of, number_named, shown_head}
+use Rattle.gx_listed.specs.Listings.{HaveHeads, Listed, head_of, number_named, shown_head}
 use Rattle.gx_kept.specs.Marking.{IsBelow}
 
 -- ---- numbers
@@ -144,7 +144,7 @@ module _ (rs : List Record) (k : ℕ) where
       by File q a rest = more (kind_before kinds.Blob e.name a) rest (λ g. absurd (let clash = sym q ∙ g in cc clash))
       by Exec q a rest = more (kind_before kinds.Blob e.name a) rest (λ g. absurd (let clash = sym q ∙ g in cc clash))
       by Link q a rest = more (kind_before kinds.Blob e.name a) rest (λ g. absurd (let clash = sym q ∙ g in cc clash))
-      by Dir q a rest = more (before_of _ e.name (λ r p. p.1.0) a) rest (λ g. absurd (let clash = sym q ∙ g in cc clash))
+      by Dir q a rest = more (before_of _ e.name (λ r p. p.1) a) rest (λ g. absurd (let clash = sym q ∙ g in cc clash))
       by Gitlink q a rest = subst (AllByRecursion StandsBefore) (sym (gitlink_links e es q)) rest
 
   parents_before : (ns : List Bytes) → AllByRecursion (Holds (take k rs) kinds.Commit) ns → AllByRecursion StandsBefore ns
@@ -183,7 +183,7 @@ tips_below name r s listed h = by r.refs s.held
 
     one : (ref called : Bytes) → IsTarget r.records ref called → IsBelow listed (length listed) called
     one ref called (inl a) = there _ called (λ held p. p.1) a
-    one ref called (inr a) = there _ called (λ held p. p.1.0) a
+    one ref called (inr a) = there _ called (λ held p. p.1) a
 
     by : (refs : List Ref) → AllByRecursion (λ ref. IsTarget r.records ref.0 ref.1) refs → AllByRecursion (IsBelow listed (length listed)) (objects_held refs)
     by [] a = tt

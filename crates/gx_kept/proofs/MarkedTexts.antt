@@ -1,11 +1,11 @@
 -- The growing text of the objects that are marked, as far as it went out.
-use Rattle.std.proofs.Common.{◌≡◌, ℕ, ◌<◌, ◌^◌, Bool, List, codes, length, Option, Some, None, Ok, Err, sym, subst}
+use Rattle.std.proofs.Common.{◌≡◌, ℕ, ◌<◌, ◌^◌, Bool, List, codes, length, Option, Some, None, Ok, Err, subst}
 use Rattle.std.specs.Prelude.{IfSome}
 use Rattle.std.specs.List.{filter, flat_map}
 use Rattle.sha2.specs.Sha256.{sha256}
 use Rattle.gx_model.specs.declared.objects.Kind.{Kind}
 use Rattle.gx_model.specs.declared.store_versions.Version.TheVariants.{Two}
-use Rattle.gx_model.specs.Histories.{Record, Records}
+use Rattle.gx_model.specs.Histories.{Records}
 use Rattle.gx_model.specs.Objects.{IsNamer, line}
 use Rattle.gx_model.specs.Records.Sound.{IsSound}
 use Rattle.gx_model.specs.Stores.StoreText.{stored_record, stored_ref}
@@ -13,7 +13,7 @@ use Rattle.gx_model.specs.Texts.{Bytes}
 use Rattle.gx_model.specs.Texts.Numbers.{number_text}
 use Rattle.gx_model.specs.Texts.Sinks.{FailedWithin, Taken, Took}
 use Rattle.gx_model.proofs.Texts.SentTexts.{less_left}
-use Rattle.gx_objects.proofs.Named.{refs_are}
+use Rattle.gx_kept.proofs.MarkedTips.{refs_are}
 use Rattle.gx_objects.specs.Answers.{SpellsRefs}
 use Rattle.gx_store.specs.Marked.{marked}
 use Rattle.gx_growing.specs.GrowingText.{growing_text}
@@ -77,16 +77,16 @@ module _ {A : Type 0} (name : Kind → Bytes → Bytes) (namer : IsNamer name) (
         pub table_stops : FailedWithin third fourth (laid_table layout count tail) → IfSome told (λ r. Stops (text r) was fourth WriteFailed)
         table_stops failed = both_told told IsLaid (λ r. Took second third (records_part (left_of marks r))) (λ r. Stops (text r) was fourth WriteFailed)
             (λ r l t.
-                let many = as_many listed marks (marked marks r.records) count long l.1 counted in
-                let left = less_left (text r) was second third (records_part (left_of marks r)) (table (left_of marks r)) (count_went (left_of marks r) layout l.0 was first second count many head line_went) t in
-                table_fails (left_of marks r) layout l.0 was third fourth count tail many tail_is left failed) laid_told went_told
+            let many = as_many listed marks (marked marks r.records) count long l.1 counted in
+            let left = less_left (text r) was second third (records_part (left_of marks r)) (table (left_of marks r)) (count_went (left_of marks r) layout l.0 was first second count many head line_went) t in
+            table_fails (left_of marks r) layout l.0 was third fourth count tail many tail_is left failed) laid_told went_told
 
         pub all_went : Took third fourth (laid_table layout count tail) → IfSome told (λ r. Took was fourth (text r))
         all_went last = both_told told IsLaid (λ r. Took second third (records_part (left_of marks r))) (λ r. Took was fourth (text r))
             (λ r l t.
-                let many = as_many listed marks (marked marks r.records) count long l.1 counted in
-                let left = less_left (text r) was second third (records_part (left_of marks r)) (table (left_of marks r)) (count_went (left_of marks r) layout l.0 was first second count many head line_went) t in
-                table_went (left_of marks r) layout l.0 was third fourth count tail many tail_is left last) laid_told went_told
+            let many = as_many listed marks (marked marks r.records) count long l.1 counted in
+            let left = less_left (text r) was second third (records_part (left_of marks r)) (table (left_of marks r)) (count_went (left_of marks r) layout l.0 was first second count many head line_went) t in
+            table_went (left_of marks r) layout l.0 was third fourth count tail many tail_is left last) laid_told went_told
 
         -- whatever is told, it is the text of records that have their names
         pub named_went : SpellsRefs lines → Took third fourth (laid_table layout count tail) → (kept : Records) × AreNamed name kept.records × Took was fourth (growing_text sha256 kept)

@@ -1,6 +1,6 @@
 -- What refs hold is marked, line by line, and with it what names are asked for and what all these reach.
 use Rattle.std.proofs.Common.{◌≡◌, ℕ, ◌<◌, Bool, false, List, [], ◌∷◌, ◌++◌, length, length-append, replicate, Option, Some, None, Ok, Err, Result, refl, sym, ap, ◌∙◌, subst, arith}
-use Rattle.std.specs.Prelude.{◌≢◌, IfSome, IsTrue}
+use Rattle.std.specs.Prelude.{◌≢◌, IfSome, IsTrue, OnOk, ⊤}
 use Rattle.std.specs.Bool.{passes}
 use Rattle.std.specs.List.{AllByRecursion, flat_map, list_all}
 use Rattle.std.specs.Option.{ok_or}
@@ -27,14 +27,27 @@ use Rattle.gx_lines.specs.Reads.{IsFaultOf}
 use Rattle.gx_file.specs.Gathering.{first_ref, ref_of_line, with_rest}
 use Rattle.gx_file.proofs.SetRefs.{line_read}
 use Rattle.gx_objects.specs.Answers.{AreRefs}
-use Rattle.gx_objects.proofs.Named.{refs_are}
+use Rattle.gx_model.proofs.Stores.StoredRefs.{targets_name}
+use Rattle.std.specs.Prelude.{T}
 use Rattle.gx_repo.specs.Pruning.{Spreads, is_kept_beside, marks_by, objects_held, tips_of}
 use Rattle.gx_repo.proofs.PrunedRecords.{names_marked, none_marked, tips_marked}
 use Rattle.gx_listed.specs.Listings.{Listed, ListsIfTold}
-use Rattle.gx_kept.specs.Marking.{IsBelow, MarksHeld, MarksTips, RefusesTips}
+use Rattle.gx_kept.specs.Marking.{IsBelow, MarksHeld}
 use Rattle.gx_kept.proofs.ListedRecords.{same_length, tips_below}
 use Rattle.gx_kept.proofs.SetMarks.{MarksListedSoFar, listed_all, listed_next, listed_none, next_has}
-use Rattle.gx_kept.proofs.Spreading.{both_told, untold}
+
+-- ---- refs
+
+pub refs_are : (name : Kind → Bytes → Bytes) → IsNamer name → (r : Records) → IsSound name r → AreRefs r.refs
+refs_are name namer r sound = record {
+  sorted = sound.sorted;
+  names = sound.ref_names;
+  objects = named r.refs (targets_name name namer r.records sound.distinct sound.named r.refs sound.held);
+}
+  where
+    named : (refs : List (Bytes × Bytes)) → AllByRecursion (λ ref. T (is_name ref.1)) refs → AllByRecursion (λ ref. IsTrue (is_name ref.1)) refs
+    named [] h = tt
+    named (x ∷ xs) h = (is_true _ h.0, named xs h.1)
 
 -- ---- one line
 
@@ -146,9 +159,14 @@ module _ (listed : List Listed) (refs : List Ref) (old : List Bool) where
 module _ (name : Kind → Bytes → Bytes) (namer : IsNamer name) (stands : ℕ → ℕ) (listed : List Listed) (lines : Bytes) (told : Option Records)
     (sound : IfSome told (IsSound name)) (lists : ListsIfTold told stands listed) (are_lines : IfSome told (λ r. lines ≡ flat_map stored_ref r.refs)) where
   -- what refs and these names reach is marked
-  pub marks_are : {E : Type 0} (names : List Bytes) (none tips kept marks : List Bool) → none ≡ replicate (length listed) false → MarksTips {E = E} listed lines none tips (Ok tt) → MarksHeld listed names tips kept
-      → IfSome told (λ r. Spreads r.records kept marks) → IfSome told (λ r. marks ≡ marks_by (is_kept_beside names r) r.records)
-  marks_are names none tips kept marks fresh held beside spreads = by told sound lists are_lines spreads
+  pub marks_are : {E : Type 0} (names : List Bytes) (none tips kept marks : List Bool) → none ≡ replicate (length listed) false → ((refs : List Ref) → AreRefs refs → lines ≡ flat_map stored_ref refs → MarksHeld listed (objects_held refs) none tips)
+      → MarksHeld listed names tips kept → (result : Result (Unit {0}) E) → IfSome told (λ r. OnOk result (Spreads r.records kept marks)) → IfSome told (λ r. OnOk result (marks ≡ marks_by (is_kept_beside names r) r.records))
+  marks_are names none tips kept marks fresh held beside (Err fault) spreads = nothing told
+    where
+      nothing : (o : Option Records) → IfSome o (λ r. ⊤)
+      nothing None = tt
+      nothing (Some r) = tt
+  marks_are names none tips kept marks fresh held beside (Ok done) spreads = by told sound lists are_lines spreads
     where
       by : (o : Option Records) → IfSome o (IsSound name) → ListsIfTold o stands listed → IfSome o (λ r. lines ≡ flat_map stored_ref r.refs) → IfSome o (λ r. Spreads r.records kept marks)
           → IfSome o (λ r. marks ≡ marks_by (is_kept_beside names r) r.records)
@@ -159,8 +177,8 @@ module _ (name : Kind → Bytes → Bytes) (namer : IsNamer name) (stands : ℕ 
           m (r.refs ++ tips_of names) (names_marked r.refs names r.records tips kept by_refs (beside r.records l.heads s.distinct))
 
   -- a ref of a repository holds an object that is listed
-  pub tips_untold : {X E : Type 0} (fault : E) → RefusesTips {X = X} {E = E} listed lines (Err fault) → told ≡ None
-  tips_untold fault refused = by told sound lists are_lines
+  pub tips_untold : ((refs : List Ref) → AreRefs refs → lines ≡ flat_map stored_ref refs → AllByRecursion (IsBelow listed (length listed)) (objects_held refs) → ⊥) → told ≡ None
+  tips_untold refused = by told sound lists are_lines
     where
       by : (o : Option Records) → IfSome o (IsSound name) → ListsIfTold o stands listed → IfSome o (λ r. lines ≡ flat_map stored_ref r.refs) → o ≡ None
       by None s l e = refl

@@ -1,5 +1,5 @@
 -- A growing text that goes out part by part, of which what stands around the records was laid out before.
-use Rattle.std.proofs.Common.{◌≡◌, ℕ, ◌<◌, ◌^◌, List, [], ◌∷◌, ◌++◌, codes, length, append_assoc, append-nil, Option, sym, ap, ◌∙◌, subst}
+use Rattle.std.proofs.Common.{◌≡◌, ℕ, ◌<◌, ◌^◌, List, [], ◌++◌, codes, length, append_assoc, append-nil, Option, sym, ◌∙◌, subst}
 use Rattle.std.specs.Prelude.{Bool}
 use Rattle.std.specs.List.{filter, flat_map}
 use Rattle.sha2.specs.Sha256.{sha256}

@@ -1,5 +1,5 @@
 -- An object that goes out: it is the record of the repository that is told.
-use Rattle.std.proofs.Common.{◌≡◌, ℕ, Bool, true, false, length, Option, Some, None, Err, sym, ap, ◌∙◌, subst}
+use Rattle.std.proofs.Common.{◌≡◌, ℕ, Bool, true, false, length, Option, Some, None, refl, sym, ap, ◌∙◌, subst}
 use Rattle.std.specs.Prelude.{IfSome, IsTrue, ◌↔◌, List}
 use Rattle.std.specs.List.{slice_get}
 use Rattle.std.specs.Option.{option_map}
@@ -57,14 +57,14 @@ module _ (called : Name) (object : Object) where
 
     -- it is of the kind and the length that are known of it
     pub known_so : (standing : Standing) → IfSome told (IsKnown called standing) → (answer : Bool) → (IsTrue answer ↔ (object.kind ≡ standing.kind) × (length object.body.now ≡ standing.length)) → answer ≡ false → told ≡ None
-    known_so standing known answer means no = untold told (both_told told (λ r. record_named r.records called.bytes ≡ Some its_record) (IsKnown called standing) (λ r. ⊥)
+    known_so standing known answer means other = untold told (both_told told (λ r. record_named r.records called.bytes ≡ Some its_record) (IsKnown called standing) (λ r. ⊥)
         (λ r is k.
-            let head : head_of its_record ≡ shown_head (called, standing) = k its_record is in
-            false≢true (sym no ∙ means.1 (ap (λ (x : Head). x.kind) head, ap (λ (x : Head). x.size) head))) is_told known)
-
+        let head : head_of its_record ≡ shown_head (called, standing) = k its_record is in
+        false≢true (sym other ∙ means.1 (ap (λ (x : Head). x.kind) head, ap (λ (x : Head). x.size) head))) is_told known)
     -- and so it is listed
+
   pub listed_so : (standing : Standing) (answer : Bool) → (IsTrue answer ↔ (object.kind ≡ standing.kind) × (length object.body.now ≡ standing.length)) → answer ≡ true → head_of its_record ≡ shown_head (called, standing)
-  listed_so standing answer means yes = let p = means.0 yes in λ i. record { name = called.bytes; kind = p.0 i; size = p.1 i }
+  listed_so standing answer means same = let p = means.0 same in λ i. record { name = called.bytes; kind = p.0 i; size = p.1 i }
 
 -- ---- the object of a number
 

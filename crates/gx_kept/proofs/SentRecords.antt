@@ -1,19 +1,18 @@
 -- The records of objects that are marked, as they go out one after the other.
-use Rattle.std.proofs.Common.{◌≡◌, ℕ, ◌+◌, ◌≤◌, Bool, true, false, List, [], ◌∷◌, ◌++◌, append_assoc, append-nil, drop, get_or, length, map, Option, Some, None, Result, Ok, Err, refl, sym, ap, ◌∙◌, subst, arith}
+use Rattle.std.proofs.Common.{◌≡◌, ℕ, ◌+◌, ◌≤◌, Bool, true, false, List, [], ◌∷◌, ◌++◌, append_assoc, append-nil, drop, get_or, length, map, Option, Some, None, refl, sym, ap, ◌∙◌, subst}
 use Rattle.std.specs.Prelude.{IfSome}
-use Rattle.std.specs.List.{AllByRecursion, flat_map, slice_get}
+use Rattle.std.specs.List.{flat_map, slice_get}
 use Rattle.std.proofs.lemmas.List.{drop_all, map-append}
 use Rattle.gx_model.specs.declared.objects.Kind.{Kind}
 use Rattle.gx_model.specs.declared.store_versions.Version.TheVariants.{Two}
 use Rattle.gx_model.specs.Histories.{Record, Records}
-use Rattle.gx_model.specs.Records.Growth.{record_named}
 use Rattle.gx_model.specs.Stores.StoreText.{stored_record}
 use Rattle.gx_model.specs.Texts.{Bytes}
-use Rattle.gx_model.specs.Texts.Sinks.{FailedWithin, Taken, Took, TookFront}
+use Rattle.gx_model.specs.Texts.Sinks.{Taken, Took, TookFront}
 use Rattle.gx_model.proofs.Texts.SentTexts.{IsLeft, left_fails, took_both, took_nothing}
 use Rattle.gx_store.specs.Marked.{marked}
 use Rattle.gx_listed.specs.Listings.{HaveHeads, Listed, head_of, shown_head}
-use Rattle.gx_kept.specs.Faults.{Sends, Stops}
+use Rattle.gx_kept.specs.Faults.{Stops}
 use Rattle.gx_kept.specs.Sending.{AreNamed}
 use Rattle.gx_kept.specs.declared.fault.KeptFault.{KeptFault}
 use Rattle.gx_kept.specs.declared.fault.KeptFault.TheVariants.{OutOfMemory, ReadFailed, Damaged, WriteFailed}

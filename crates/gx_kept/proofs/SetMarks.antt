@@ -1,12 +1,13 @@
 -- Marks that are set at the numbers of names.
-use Rattle.std.proofs.Common.{◌≡◌, ℕ, ◌∙◌, Bool, true, List, [], ◌∷◌, ◌++◌, append_assoc, append-nil, map, set, Some, None, refl, sym, subst}
+use Rattle.std.proofs.Common.{◌≡◌, ℕ, ◌∙◌, Bool, true, List, [], ◌∷◌, ◌++◌, append_assoc, append-nil, set, Some, None, Result, Ok, Err, refl, sym, subst}
+use Rattle.std.specs.Prelude.{IfErr}
 use Rattle.std.specs.List.{AllByRecursion}
+use Rattle.gx_model.specs.declared.objects.Kind.{Kind}
+use Rattle.gx_model.specs.Pruning.{links_of}
 use Rattle.gx_model.specs.Texts.{Bytes}
-use Rattle.gx_model.specs.Histories.{AreDistinct, Record}
-use Rattle.gx_repo.specs.Pruning.{MarksNames}
 use Rattle.gx_repo.proofs.PrunedRecords.{mark_nowhere, mark_there, marks_both, marks_none}
-use Rattle.gx_listed.specs.Listings.{HaveHeads, Listed, number_named}
-use Rattle.gx_kept.specs.Marking.{MarksHeld}
+use Rattle.gx_listed.specs.Listings.{Listed, number_named}
+use Rattle.gx_kept.specs.Marking.{IsBelow, MarksHeld, RefusesOthers}
 use Rattle.gx_kept.proofs.ListedRecords.{number_is}
 
 -- the object of a name is marked
@@ -45,3 +46,8 @@ next_has P listed names left n old new h a = among h.done (subst (AllByRecursion
     among : (done : List Bytes) → AllByRecursion P (done ++ n ∷ left) → P n
     among [] b = b.0
     among (d ∷ done) b = among done b.1
+
+-- where the object of the one name that a body has is refused the body is
+pub one_refuses : {X E : Type 0} (listed : List Listed) (limit : ℕ) (kind : Kind) (body n : Bytes) (result : Result X E) → links_of kind body ≡ n ∷ [] → IfErr result (λ fault. IsBelow listed limit n → ⊥) → RefusesOthers listed limit kind body result
+one_refuses listed limit kind body n (Ok x) e h = tt
+one_refuses listed limit kind body n (Err fault) e h = λ canonical below. h (subst (AllByRecursion (IsBelow listed limit)) e below).0

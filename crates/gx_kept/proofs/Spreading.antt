@@ -1,5 +1,5 @@
 -- What is told of the object of a number: where it stands, what it names, and that nothing is refused.
-use Rattle.std.proofs.Common.{◌≡◌, ℕ, ◌+◌, ◌<◌, ◌≤◌, Bool, true, false, List, [], ◌∷◌, drop, get_or, length, Option, Some, None, Result, Ok, Err, refl, sym, ap, ◌∙◌, subst, arith}
+use Rattle.std.proofs.Common.{◌≡◌, ℕ, ◌+◌, ◌<◌, Bool, true, false, List, [], drop, get_or, length, Option, Some, None, Result, Ok, Err, refl, sym, ap, ◌∙◌, subst, arith}
 use Rattle.std.specs.Prelude.{IfSome, OnOk, ⊤}
 use Rattle.std.specs.List.{AllByRecursion, slice_get}
 use Rattle.std.specs.Option.{option_map}
@@ -76,11 +76,11 @@ module _ (name : Kind → Bytes → Bytes) (stands : ℕ → ℕ) (told : Option
     pub names_marked_of : (old new : List Bool) → MarksHeld listed (links_of object.kind object.body.now) old new → IfSome told (λ r. SpreadsAt r.records number old new)
     names_marked_of old new m =
         both_told told (λ r. IsRecordOf r × IsHeldThere one.0.bytes r object) (λ r. ListsAll stands r listed) (λ r. SpreadsAt r.records number old new) (λ r p l held here.
-            let h = p.0 in
-            let same : held ≡ h.held = let e = sym here ∙ h.here in cc in
-            let o = object_is r h object p.1 in
-            let links : links_of object.kind object.body.now ≡ links_of held.kind held.body = (λ i. links_of (o.0 i) (o.1 i)) ∙ ap (λ (x : Record). links_of x.kind x.body) (sym same) in
-            subst (λ ns. MarksNames r.records ns old new) links (m r.records l.heads h.sound_is.distinct))
+        let h = p.0 in
+        let same : held ≡ h.held = let e = sym here ∙ h.here in cc in
+        let o = object_is r h object p.1 in
+        let links : links_of object.kind object.body.now ≡ links_of held.kind held.body = (λ i. links_of (o.0 i) (o.1 i)) ∙ ap (λ (x : Record). links_of x.kind x.body) (sym same) in
+        subst (λ ns. MarksNames r.records ns old new) links (m r.records l.heads h.sound_is.distinct))
         (both_told told IsRecordOf (λ r. IsHeldThere one.0.bytes r object) (λ r. IsRecordOf r × IsHeldThere one.0.bytes r object) (λ r a b. (a, b)) record_told there) lists
 
     -- and nothing of it is refused
@@ -114,7 +114,7 @@ module _ (name : Kind → Bytes → Bytes) (stands : ℕ → ℕ) (told : Option
     where
       by : (o : Option Records) → IfSome o IsRecordOf → IfSome o (λ r. SpreadsAt r.records number marks marks)
       by None h = tt
-      by (Some r) h held here =
+      by (Some r) h = λ held here.
           let same : held ≡ h.held = let e = sym here ∙ h.here in cc in
           let kind : held.kind ≡ kinds.Blob = ap (λ (x : Record). x.kind) same ∙ sym (ap (λ (x : Head). x.kind) h.head) ∙ blob in
           let none : links_of held.kind held.body ≡ [] = ap (λ k. links_of k held.body) kind in
@@ -132,7 +132,7 @@ module _ (told : Option Records) (first : List Bool) (k : ℕ) (old : List Bool)
     where
       by : (o : Option Records) → IfSome o (SpreadFrom first (k + 1) old) → IfSome o (λ r. k < length r.records) → IfSome o (λ r. SpreadsAt r.records k old new) → IfSome o (SpreadFrom first k new)
       by None h l m = tt
-      by (Some r) h l m refs e =
+      by (Some r) h l m = λ refs e.
           let at = slice_get-get_or r.records k no_record l in
           spread_on refs r.records k old (h refs e) (get_or r.records k no_record) new at mark (m (get_or r.records k no_record) at)
 
@@ -141,16 +141,16 @@ module _ (told : Option Records) (first : List Bool) (k : ℕ) (old : List Bool)
     where
       by : (o : Option Records) → IfSome o (SpreadFrom first (k + 1) old) → IfSome o (λ r. k < length r.records) → IfSome o (SpreadFrom first k old)
       by None h l = tt
-      by (Some r) h l refs e = spread_past refs r.records k old (h refs e) l mark
+      by (Some r) h l = λ refs e. spread_past refs r.records k old (h refs e) l mark
 
 -- before the first nothing has been, and behind the last one all
 pub spread_begun : (told : Option Records) (k : ℕ) (marks : List Bool) → IfSome told (λ r. k ≡ length r.records) → IfSome told (SpreadFrom marks k marks)
 spread_begun None k marks l = tt
-spread_begun (Some r) k marks l refs e = spread_none refs r.records k marks (omega (arith, l)) e
+spread_begun (Some r) k marks l = λ refs e. spread_none refs r.records k marks (omega (arith, l)) e
 
 pub spread_done : (told : Option Records) (first marks : List Bool) → IfSome told (SpreadFrom first 0 marks) → IfSome told (λ r. Spreads r.records first marks)
 spread_done None first marks h = tt
-spread_done (Some r) first marks h refs e = h refs e
+spread_done (Some r) first marks h = λ refs e. h refs e
 
 -- as many are listed as the repository has
 pub all_listed : (stands : ℕ → ℕ) (told : Option Records) (listed : List Listed) → ListsIfTold told stands listed → IfSome told (λ r. length listed ≡ length r.records)

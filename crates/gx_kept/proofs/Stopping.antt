@@ -8,6 +8,8 @@ use Rattle.gx_model.proofs.Texts.SentTexts.{took_nothing}
 use Rattle.gx_objects.specs.declared.fault.LookFault.{LookFault}
 use Rattle.gx_objects.specs.declared.fault.LookFault.TheVariants as look
 use Rattle.gx_kept.specs.Faults.{IsOnTheWay, Stops, of_look}
+use Rattle.gx_kept.specs.declared.fault.KeptFault.{KeptFault}
+use Rattle.gx_kept.specs.declared.fault.KeptFault.TheVariants.{Damaged, OutOfMemory, ReadFailed, WriteFailed}
 
 -- an empty front of a text went out
 pub none_went : (was : Option Taken) (text : Bytes) → TookFront was was text
@@ -19,10 +21,17 @@ look_stops was look.ReadFailed text = none_went was text
 look_stops was look.Damaged text = none_went was text
 
 -- only of what tells no repository it is answered that it is damaged
-pub look_told : {X : Type 0} (told : Option Records) (fault : LookFault) → (fault ≡ look.Damaged → told ≡ None) → IsOnTheWay {X = X} told (Err (of_look fault))
-look_told told look.OutOfMemory h = tt
-look_told told look.ReadFailed h = tt
-look_told told look.Damaged h = h refl
+pub look_told : (X : Type 0) (told : Option Records) (fault : LookFault) → (fault ≡ look.Damaged → told ≡ None) → IsOnTheWay {X = X} told (Err (of_look fault))
+look_told X told look.OutOfMemory h = tt
+look_told X told look.ReadFailed h = tt
+look_told X told look.Damaged h = h refl
+
+-- so it is whatever comes of what goes well
+pub same_fault : (X Y : Type 0) (told : Option Records) (fault : KeptFault) → IsOnTheWay {X = X} told (Err fault) → IsOnTheWay {X = Y} told (Err fault)
+same_fault X Y told OutOfMemory h = tt
+same_fault X Y told ReadFailed h = tt
+same_fault X Y told WriteFailed h = tt
+same_fault X Y told Damaged h = h
 
 -- what holds of each repository holds of the one that is told
 pub of_told : (told : Option Records) (P : Records → Type 0) → ((r : Records) → P r) → IfSome told P

@@ -1,10 +1,9 @@
 -- How many objects are marked, and how many bytes the bodies of the others have.
-use Rattle.std.proofs.Common.{◌≡◌, ℕ, zero, suc, ◌+◌, Bool, true, false, cond, List, [], ◌∷◌, length, map, drop, get_or, Some, refl, sym, ap, ◌∙◌, arith}
+use Rattle.std.proofs.Common.{◌≡◌, ℕ, zero, suc, ◌+◌, Bool, true, false, cond, List, [], ◌∷◌, length, map, drop, get_or, Some, refl, ap, ◌∙◌, arith}
 use Rattle.std.specs.List.{filter, slice_get}
 use Rattle.std.proofs.lemmas.List.{drop_more}
 use Rattle.std.proofs.lemmas.Option.{get_or_from_slice_get, slice_get_within}
 use Rattle.gx_model.specs.Histories.{Record}
-use Rattle.gx_repo.specs.Pruning.{weight}
 use Rattle.gx_store.specs.Marked.{first_mark, marked}
 use Rattle.gx_listed.specs.Listings.{HaveHeads, Listed, head_of, shown_head}
 

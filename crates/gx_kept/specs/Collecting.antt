@@ -1,5 +1,5 @@
 -- The next text of a store that lets objects go. Source: git-gc(1) and git-prune(1).
-use Rattle.std.specs.Prelude.{◌≡◌, ℕ, ◌+◌, List, length, IfOk, Option, Result, Ok}
+use Rattle.std.specs.Prelude.{◌≡◌, ◌+◌, List, length, IfOk, Option, Result, Ok}
 use Rattle.sha2.specs.Sha256.{sha256}
 use Rattle.gx_model.specs.declared.objects.Kind.{Kind}
 use Rattle.gx_model.specs.Histories.{Records}

@@ -1,5 +1,5 @@
 -- Records that go out one after the other, each read as it does. Source: this project's own format.
-use Rattle.std.specs.Prelude.{◌≡◌, ◌&&◌, Bool, nat_eq, List, length, IfSome, Option, Some, Result, Ok, Err, ⊤}
+use Rattle.std.specs.Prelude.{◌≡◌, Bool, List, IfSome, Option, Some, Result, Ok, Err, ⊤}
 use Rattle.std.specs.List.{AllByRecursion, flat_map}
 use Rattle.sha2.specs.Sha256.{sha256}
 use Rattle.gx_model.specs.declared.objects.Kind.{Kind}

@@ -1,7 +1,7 @@
 //! Marks of the objects that refs reach, by their numbers: what an object names stands before it, so one pass from the newest object
 //! on spreads them. Source: git-prune(1), and gitglossary(7), "reachable".
 
-ghost use Rattle.std.specs.Prelude.{◌≡◌, ◌<◌, ◌≤◌, length, IfErr, IfOk, IfSome, OnOk};
+ghost use Rattle.std.specs.Prelude.{◌≡◌, ◌<◌, ◌≤◌, false, length, replicate, IfErr, IfOk, IfSome, OnOk};
 ghost use Rattle.gx_object.specs.Commits.{bytes_of_names};
 ghost use Rattle.gx_objects.specs.Answers.{OnlyUntold, SpellsRefs, Tells};
 ghost use Rattle.gx_objects.specs.declared.fault.LookFault.TheVariants.{Damaged};
@@ -34,14 +34,32 @@ pub(crate) fn marks_of<O: Objects, A: Allocator + Copy>(
         ≡ marks_by (is_kept_beside (bytes_of_names kept.now) r) r.records) result }
     ensures fault { OnlyUntold (O.told objects.now) result }
 {
-    objects.sound_if_told();
     let count = listing.len();
     let mut marks = vec![in alloc; false; count]?;
-    let mut room = Vec::new(alloc);
-    mark_tips(listing, &mut marks, objects.ref_lines(&mut room)?)?;
-    mark_names(listing, &mut marks, kept);
-    spread(objects, listing, &mut marks, &mut room)?;
+    mark_kept(alloc, objects, listing, &mut marks, kept)?;
     Ok(marks)
+}
+
+/// Marks what refs and the objects of these names reach, where nothing is marked.
+fn mark_kept<O: Objects, A: Allocator + Copy>(
+    alloc: A,
+    objects: &O,
+    listing: &Listing<A>,
+    marks: &mut [bool],
+    kept: &[Name],
+) -> Result<(), LookFault>
+    requires listed { ListsIfTold (O.told objects.now) (O.stands objects.now) listing.now }
+    requires none { marks.old ≡ replicate (length listing.now) false }
+    ensures same_room { length marks.new ≡ length marks.old }
+    ensures marks { IfSome (O.told objects.now) (λ r. OnOk result
+        (marks.new ≡ marks_by (is_kept_beside (bytes_of_names kept.now) r) r.records)) }
+    ensures fault { OnlyUntold (O.told objects.now) result }
+{
+    objects.sound_if_told();
+    let mut room = Vec::new(alloc);
+    mark_tips(listing, marks, objects.ref_lines(&mut room)?)?;
+    mark_names(listing, marks, kept);
+    spread(objects, listing, marks, &mut room)
 }
 
 /// Marks the objects that refs hold, of which these are the lines. `Damaged` where one isn't listed.
@@ -57,10 +75,9 @@ fn mark_tips<A: Allocator + Copy>(
     ensures refused { RefusesTips listing.now lines.now result }
     ensures fault { IfErr result (λ fault. fault ≡ Damaged) }
 {
-    let count = marks.len();
     let mut rest = lines;
     while let Ok((change, behind)) = read_ref(rest) {
-        mark_below(listing, marks, count, &change.target)?;
+        mark_below(listing, marks, listing.len(), &change.target)?;
         rest = behind;
     }
     Ok(())

@@ -29,8 +29,8 @@ fn are_named(alloc: Global, text: &[u8], state: RandomState) -> Option<bool> {
     let listing = look.listing(alloc, state).ok()?;
     let mut room = Vec::new(alloc);
     for number in 0..listing.len() {
-        let (name, standing) = listing.get(number)?;
-        let object = look.object_at(standing.place, &name, &mut room).ok()?;
+        let (name, _standing) = listing.get(number)?;
+        let object = look.object(&name, &mut room).ok()??;
         if Sha1Namer.name(object.kind, object.body) != name {
             return Some(false);
         }

@@ -2,7 +2,5 @@
 #![tactic(auto)]
 
 mod refs;
-#[cfg(test)]
-mod tests;
 
 pub use refs::{LeftRefs, left_refs};

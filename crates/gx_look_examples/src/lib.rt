@@ -10,6 +10,8 @@ mod damaged;
 #[cfg(test)]
 mod endings;
 #[cfg(test)]
+mod listed;
+#[cfg(test)]
 mod looks;
 #[cfg(test)]
 mod written;

@@ -3,8 +3,6 @@
 
 mod names;
 mod ref_lines;
-#[cfg(test)]
-mod tests;
 
 pub use names::ref_names;
 pub use ref_lines::{RefLines, put_ref};

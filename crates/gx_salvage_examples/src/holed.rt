@@ -6,16 +6,36 @@ ghost use Rattle.gx_model.specs.Objects.Naming.{record_text};
 
 use gx_object::{Name, Sha1Namer};
 use gx_objects::{LookFault, Object, Objects};
+use gx_reached::Cause;
 use gx_repo::Repo;
 use gx_store::Prefix;
 use std::alloc::{Allocator, Global};
 
-/// A repository that answers of one object what is asked for: that it is missing, or a fault.
+/// What is answered of an object that can't be read: that it is missing, or a fault; and why it isn't saved then.
+pub(crate) const ANSWERS: [(Option<LookFault>, Cause); 3] = [
+    (None, Cause::Missing),
+    (Some(LookFault::Damaged), Cause::Damaged),
+    (Some(LookFault::ReadFailed), Cause::ReadFailed),
+];
+
+/// A repository that answers so of one object.
 #[derive(Drop)]
 pub(crate) struct Holed<'a> {
     pub(crate) repo: &'a Repo<Sha1Namer, Global>,
     pub(crate) hole: Name,
     pub(crate) fault: Option<LookFault>,
+}
+
+impl<'a> Holed<'a> {
+    /// A repository that answers so of its object at a place.
+    pub(crate) fn at(
+        repo: &'a Repo<Sha1Namer, Global>,
+        place: usize,
+        fault: Option<LookFault>,
+    ) -> Option<Holed<'a>> {
+        let (hole, _kind, _body) = repo.store().record(place)?;
+        Some(Holed { repo, hole, fault })
+    }
 }
 
 impl<'a> Objects for Holed<'a> {

@@ -6,8 +6,6 @@ mod commits;
 mod fault;
 mod putting;
 mod small;
-#[cfg(test)]
-mod tests;
 mod wanted;
 
 pub use base::base_given;

@@ -4,11 +4,13 @@ use super::appending::{InPlace, grow_by, settle};
 use super::before::{Before, TextKind};
 use super::host::Host;
 use crate::fault::RunFault;
+use crate::looks::FileLook;
 use crate::run::{Run, Subject};
 use crate::stores::files::open_text;
 use crate::streams::devices::{Noted, flushed};
-use gx_cli::{CliFault, Repo};
-use gx_object::Sha1Namer;
+use gx_cli::{CliFault, Pruned, Repo};
+use gx_listed::Listing;
+use gx_object::{Name, Sha1Namer};
 use gx_place::{Place, PlaceFault, Stamp, System};
 use gx_text::IntoWrite;
 use gx_versions::{StoreForm, WriteFault, send_store};
@@ -78,9 +80,7 @@ impl<'a> NextText<'a> {
         state: RandomState,
     ) -> Result<Repo<Sha1Namer, Global>, RunFault> {
         let (run, alloc) = (self.host.run, self.host.run.rt.alloc());
-        let stamp = run
-            .want_read(self.host.look(self.text.place().store()))?
-            .stamp;
+        let stamp = self.stamp()?;
         let read = self.text.read_store(alloc);
         let store = run.placed(read)?;
         let kind = TextKind::of_text(&store);
@@ -89,6 +89,12 @@ impl<'a> NextText<'a> {
         let repo = open_text(run, store, state)?;
         self.before = Some(Before::of_repo(alloc, stamp, kind, &repo)?);
         Ok(repo)
+    }
+
+    /// What the store file has that is to be read.
+    pub(crate) fn stamp(&mut self) -> Result<Stamp, RunFault> {
+        let found = self.host.look(self.text.place().store());
+        Ok(self.host.run.want_read(found)?.stamp)
     }
 
     /// The store file, where that is a growing one that can be appended to as it stands.
@@ -150,6 +156,33 @@ impl<'a> NextText<'a> {
         self.put_in_place()
     }
 
+    /// Publishes what refs and these names reach of a growing store file that had this stamp when it was opened. That stays as it is
+    /// where it has nothing else, and as many bytes as the next text. Answers how much goes.
+    ///
+    /// Who fails leaves what [`NextText::publish_store`] does.
+    pub(crate) fn publish_kept(
+        &mut self,
+        stamp: Stamp,
+        look: &FileLook<'_>,
+        listing: &Listing<Global>,
+        kept: &[Name],
+    ) -> Result<Pruned, RunFault> {
+        self.host.run.placed(self.text.begin())?;
+        let gone = write_kept(self.host.run, &mut self.text, look, listing, kept)?;
+        let is_same = gone.objects == 0 && self.written()? == stamp.size;
+        if !is_same || !settle(self.host, self.text.place(), stamp)? {
+            self.put_in_place()?;
+        }
+        Ok(gone)
+    }
+
+    /// How many bytes are written of the next text.
+    fn written(&mut self) -> Result<u64, RunFault> {
+        let found = self.host.look(self.text.place().next());
+        let found = self.host.run.want_written(Subject::NextText, found)?;
+        Ok(found.stamp.size)
+    }
+
     /// The stamp of the store file, where its text is the next one.
     fn stamp_of(&self, repo: &Repo<Sha1Namer, Global>) -> Option<Stamp> {
         match &self.before {
@@ -190,5 +223,25 @@ fn write_store(
             flushed(&mut out, sent)
         }
         Err(_) => Err(CliFault::OutOfMemory),
+    }
+}
+
+/// What is kept of a store goes out through a buffer.
+fn write_kept(
+    run: &Run<'_>,
+    text: &mut gx_place::NextText<Host<'_>>,
+    look: &FileLook<'_>,
+    listing: &Listing<Global>,
+    kept: &[Name],
+) -> Result<Pruned, RunFault> {
+    let alloc = run.rt.alloc();
+    let noted = Noted::new(run, Subject::NextText, text);
+    match BufWriter::with_capacity(alloc, BUFFER, noted) {
+        Ok(mut out) => {
+            let mut sink = IntoWrite::new(&mut out);
+            let sent = gx_kept::collect(alloc, look, listing, kept, &mut sink);
+            flushed(&mut out, sent.map_err(RunFault::from))
+        }
+        Err(_) => Err(RunFault::Command(CliFault::OutOfMemory)),
     }
 }

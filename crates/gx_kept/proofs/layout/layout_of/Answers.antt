@@ -1,4 +1,4 @@
-use Rattle.std.proofs.Common.{◌≡◌, ◌∙◌, ◌+◌, List, ap, codes, length}
+use Rattle.std.proofs.Common.{◌∙◌, ◌+◌, List, ap, codes, length}
 use Rattle.std.specs.List.{flat_map}
 use Rattle.sha2.specs.Sha256.{sha256}
 use Rattle.gx_model.specs.Histories.{Records}
@@ -17,7 +17,7 @@ returns g c = λ records heads refs are spelled.
     let rows = c.in_ok-table.ensures.rows ∙ ap (λ (rows : List Row). flat_map row_text (sorted_rows rows)) laid.rows_are in
     let digests = c.in_ok-table.ensures.digests ∙ ap (page_digests sha256) rows in
     let long = ap length laid.rows_are ∙ placed_long (first_place head_length records) records in
-    let count = c.len-count.ensures ∙ long in
+    let count = c.len-count.ensures ∙ c.in_ok-rows.rows.ok.0 ∙ long in
     let place = c.in_ok-table.ensures.place ∙ (λ i. laid.ends i + length (line (codes "rows") (number_text (long i)))) in
     let runs = c.run_of.ensures ∙ (λ i. runs_from (place i) (count i) (digests i)) ∙ first_runs_are records in
     let tail = c.in_ok-tail.ensures refs are spelled ∙ ap (λ runs. tail_text runs refs) runs in

@@ -28,10 +28,10 @@ returns-in_err-send_count g c =
     let first = g.W.Sink.taken c.send_runs.new.sink in
     let second = g.W.Sink.taken c.send_count.new.sink in
     rw p.1 (λ refs are spelled.
-        let begun = less_left (tail_text runs refs) was was first (runs_part runs) (count_part refs ++ refs_part refs) (tail_begun runs refs was) c.in_ok-send_runs.ensures in
-        let count = c.count_lines.ensures ∙ ap line_count spelled ∙ refs_counted refs are.names in
-        left_fails (tail_text runs refs) was first second (count_part refs) (refs_part refs) begun
-        (subst (λ n. FailedWithin first second (line (codes "refs") (number_text n))) count c.in_err-send_count.ensures))
+    let begun = less_left (tail_text runs refs) was was first (runs_part runs) (count_part refs ++ refs_part refs) (tail_begun runs refs was) c.in_ok-send_runs.ensures in
+    let count = c.count_lines.ensures ∙ ap line_count spelled ∙ refs_counted refs are.names in
+    left_fails (tail_text runs refs) was first second (count_part refs) (refs_part refs) begun
+    (subst (λ n. FailedWithin first second (line (codes "refs") (number_text n))) count c.in_err-send_count.ensures))
 
 pub returns-in_err-send_text : goal.returns-in_err-send_text
 returns-in_err-send_text g c =
@@ -42,12 +42,12 @@ returns-in_err-send_text g c =
     let second = g.W.Sink.taken c.send_count.new.sink in
     let third = g.W.Sink.taken c.send_text.new.sink in
     rw p.1 (λ refs are spelled.
-        let begun = less_left (tail_text runs refs) was was first (runs_part runs) (count_part refs ++ refs_part refs) (tail_begun runs refs was) c.in_ok-send_runs.ensures in
-        let count = c.count_lines.ensures ∙ ap line_count spelled ∙ refs_counted refs are.names in
-        let counted = less_left (tail_text runs refs) was first second (count_part refs) (refs_part refs) begun
-        (subst (λ n. Took first second (line (codes "refs") (number_text n))) count c.in_ok-send_count.ensures) in
-        left_fails (tail_text runs refs) was second third (flat_map stored_ref refs) (codes "end" ++ 10 ∷ []) counted
-        (subst (FailedWithin second third) spelled c.in_err-send_text.ensures))
+    let begun = less_left (tail_text runs refs) was was first (runs_part runs) (count_part refs ++ refs_part refs) (tail_begun runs refs was) c.in_ok-send_runs.ensures in
+    let count = c.count_lines.ensures ∙ ap line_count spelled ∙ refs_counted refs are.names in
+    let counted = less_left (tail_text runs refs) was first second (count_part refs) (refs_part refs) begun
+    (subst (λ n. Took first second (line (codes "refs") (number_text n))) count c.in_ok-send_count.ensures) in
+    left_fails (tail_text runs refs) was second third (flat_map stored_ref refs) (codes "end" ++ 10 ∷ []) counted
+    (subst (FailedWithin second third) spelled c.in_err-send_text.ensures))
 
 pub returns : goal.returns
 returns g c = λ refs are spelled.

@@ -1,5 +1,4 @@
-use Rattle.std.proofs.Common.{◌≡◌, ◌∙◌, None, Some, sym, arith}
-use Rattle.gx_listed.specs.Listings.{number_named}
+use Rattle.std.proofs.Common.{◌≡◌, ◌∙◌, None, Some, arith}
 use Rattle.gx_kept.proofs.SetMarks.{listed_there}
 use Rattle.gx_kept.proofs.links.mark_below.Goals as goal
 

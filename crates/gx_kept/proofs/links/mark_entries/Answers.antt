@@ -1,5 +1,6 @@
 use Rattle.std.proofs.Common.{◌≡◌, ◌∙◌, ap, refl, sym, subst, arith, rules}
 use Rattle.std.specs.List.{filter_map}
+use Rattle.std.proofs.lemmas.Result.{err_from_is_err_and}
 use Rattle.gx_model.specs.declared.objects.Kind.TheVariants as kinds
 use Rattle.gx_model.specs.Pruning.{link_of, links_of}
 use Rattle.gx_model.proofs.ObjectTexts.BodiesReadBack.{entries_read}
@@ -23,17 +24,23 @@ loop-entry-init g c =
       subst (λ left. MarksListedSoFar listed names left c.args.marks.now c.args.marks.now) (ap (filter_map link_of) (entries_read es body c.in-Ok.ensures.found ∙ sym same)) (listed_none listed names c.args.marks.now),
     )
 
+pub returns-in_err-mark_below-clause-marks : goal.returns-in_err-mark_below-clause-marks
+returns-in_err-mark_below-clause-marks g c =
+    let p = err_from_is_err_and c.from_residual.result c.from_residual.ensures.1 in
+    rw p.1 tt
+
 pub returns-in_err-mark_below-clause-refused : goal.returns-in_err-mark_below-clause-refused
-returns-in_err-mark_below-clause-refused g c = λ body below.
+returns-in_err-mark_below-clause-refused g c =
+    let p = err_from_is_err_and c.from_residual.result c.from_residual.ensures.1 in
     let listed = c.args.listing.now in
     let names = links_of kinds.Tree c.args.body.now in
     let e = shown c.in-Some.entry in
     let step = ap (filter_map link_of) c.in-Some.ensures.steps ∙ entry_links e c.next.new.self (λ q. absurd (search (rules, c.if-ne.true, c.ne.ensures, q))) in
     let ahead = subst (λ left. MarksListedSoFar listed names left c.args.marks.now c.loop-entry.marks) step c.loop-entry.invariant.1 in
-    c.in_err-mark_below.ensures.refused (next_has (IsBelow listed c.args.limit) listed names (filter_map link_of c.next.new.self) e.name c.args.marks.now c.loop-entry.marks ahead below)
+    rw p.1 (λ body below. c.in_err-mark_below.ensures.refused (next_has (IsBelow listed c.args.limit) listed names (filter_map link_of c.next.new.self) e.name c.args.marks.now c.loop-entry.marks ahead below))
 
-pub loop-entry-preserved-in_ok-mark_below : goal.loop-entry-preserved-in_ok-mark_below
-loop-entry-preserved-in_ok-mark_below g c =
+pub loop-entry-preserved-in-Continue-1 : goal.loop-entry-preserved-in-Continue-1
+loop-entry-preserved-in-Continue-1 g c =
     let listed = c.args.listing.now in
     let names = links_of kinds.Tree c.args.body.now in
     let e = shown c.in-Some.entry in

@@ -1,4 +1,4 @@
-use Rattle.std.proofs.Common.{◌≡◌, arith, rules}
+use Rattle.std.proofs.Common.{◌≡◌, rules}
 use Rattle.gx_model.specs.declared.objects.Kind.TheVariants as kinds
 use Rattle.gx_kept.proofs.ListedRecords.{some_listed}
 use Rattle.gx_kept.proofs.Spreading.{blob_spreads, links_spread, links_untold, stands_listed}
@@ -16,7 +16,7 @@ returns-then-eq-clause-marks g c =
 pub object_at-requires : goal.object_at-requires
 object_at-requires g c =
     let o = c.args.objects.now in
-    stands_listed (g.O.Objects.name_of o) (g.O.Objects.stands o) (g.O.Objects.told o) c.args.listing.now c.sound_if_told.ensures.sound c.requires.listed c.args.number (c.in-Some.name, c.in-Some.standing) c.in-Some.ensures
+    record { there = stands_listed (g.O.Objects.name_of o) (g.O.Objects.stands o) (g.O.Objects.told o) c.args.listing.now c.sound_if_told.ensures.sound c.requires.listed c.args.number (c.in-Some.name, c.in-Some.standing) c.in-Some.ensures }
 
 pub returns-clause-marks : goal.returns-clause-marks
 returns-clause-marks g c =

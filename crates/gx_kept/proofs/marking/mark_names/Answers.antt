@@ -19,11 +19,10 @@ loop-name-preserved g c =
     let listed = c.args.listing.now in
     let names = c.args.names.now in
     let i = c.loop-name.name-index in
-    let so_far = subst (λ left. MarksListedSoFar listed (bytes_of_names names) left c.args.marks.now c.loop-name.marks) (next_name names i _ c.loop-name-test.true) c.loop-name.invariant.1 in
-    (
+    let so_far = subst (λ left. MarksListedSoFar listed (bytes_of_names names) left c.args.marks.now c.loop-name.marks) (next_name names i _ c.loop-name-test.true) c.loop-name.invariant.1 in (
       omega (arith, c.loop-name.invariant.0, c.match-number.auto.marks),
       elim c.match-number.branch [
-        in-Some w ↦ rw w.marks-is (listed_next listed (bytes_of_names names) (bytes_of_names (drop (i + 1) names)) _ c.args.marks.now c.loop-name.marks _ so_far (listed_there listed _ w.in-Some.number c.loop-name.marks w.in-Some.ensures))
+        | in-Some w ↦ rw w.marks-is (listed_next listed (bytes_of_names names) (bytes_of_names (drop (i + 1) names)) _ c.args.marks.now c.loop-name.marks _ so_far (listed_there listed _ w.in-Some.number c.loop-name.marks w.in-Some.ensures))
         | in_default w ↦ rw w.marks-is (listed_next listed (bytes_of_names names) (bytes_of_names (drop (i + 1) names)) _ c.args.marks.now c.loop-name.marks _ so_far (listed_nowhere listed _ c.loop-name.marks w.in_default.ensures))
       ],
     )

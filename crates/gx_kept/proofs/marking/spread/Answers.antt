@@ -1,4 +1,4 @@
-use Rattle.std.proofs.Common.{◌≡◌, ◌+◌, ◌-◌, ◌∙◌, length, refl, sym, subst, arith}
+use Rattle.std.proofs.Common.{◌≡◌, ◌+◌, ◌-◌, length, refl, sym, subst, arith}
 use Rattle.std.specs.Prelude.{IfSome}
 use Rattle.gx_kept.proofs.Spreading.{SpreadFrom, all_listed, spread_begun, spread_done, spread_more, spread_same, within_told}
 use Rattle.gx_kept.proofs.marking.spread.Goals as goal
@@ -9,8 +9,8 @@ loop-left-init g c =
     let same = all_listed (g.O.Objects.stands c.args.objects.now) told c.args.listing.now c.requires.listed in
     (refl, omega arith, spread_begun told (length c.args.marks.now) c.args.marks.now (subst (λ n. IfSome told (λ r. n ≡ length r.records)) (sym c.requires.long) same))
 
-pub loop-left-preserved-in_ok-mark_named_by : goal.loop-left-preserved-in_ok-mark_named_by
-loop-left-preserved-in_ok-mark_named_by g c =
+pub loop-left-preserved-in-Continue-1 : goal.loop-left-preserved-in-Continue-1
+loop-left-preserved-in-Continue-1 g c =
     let told = g.O.Objects.told c.args.objects.now in
     let same = all_listed (g.O.Objects.stands c.args.objects.now) told c.args.listing.now c.requires.listed in
     let k = c.loop-left.left - 1 in

@@ -15,13 +15,13 @@ returns-in_err-object-clause-record g c =
     let p = err_from_is_err_and c.from_residual.result c.from_residual.ensures.1 in
     let was = g.W.Sink.taken c.args.sink.now in
     rw (p.1, p.2) (of_told (g.O.Objects.told c.args.objects.now)
-    (λ r. (held : Record) → record_named r.records c.args.name.now.bytes ≡ Some held → Stops (stored_record Two held) was was (of_look c.in_err-object.field-0))
-    (λ r held e. look_stops was c.in_err-object.field-0 (stored_record Two held)))
+    (λ r. (held : Record) → record_named r.records c.args.name.now.bytes ≡ Some held → Stops (stored_record Two held) was was (of_look c.in_err-object.field-0.0))
+    (λ r held e. look_stops was c.in_err-object.field-0.0 (stored_record Two held)))
 
 pub returns-in_err-object-clause-fault : goal.returns-in_err-object-clause-fault
 returns-in_err-object-clause-fault g c =
     let p = err_from_is_err_and c.from_residual.result c.from_residual.ensures.1 in
-    rw (p.1, p.2) (look_told (g.O.Objects.told c.args.objects.now) c.in_err-object.field-0 c.in_err-object.ensures.fault)
+    rw (p.1, p.2) (look_told (Unit {0}) (g.O.Objects.told c.args.objects.now) c.in_err-object.field-0.0 c.in_err-object.ensures.fault)
 
 pub returns-then-not-is_as_listed-clause-record : goal.returns-then-not-is_as_listed-clause-record
 returns-then-not-is_as_listed-clause-record g c =

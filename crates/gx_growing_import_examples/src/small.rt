@@ -1,15 +1,16 @@
 //! A small repository of what a stream asks for, beside the whole one.
 
-use crate::{base_given, small_repository};
 use gx_asked::Asked;
-use gx_model::Features;
+use gx_command::Features;
 use gx_object::{Kind, Name, Sha1Namer};
 use gx_objects::Objects;
 use gx_ref_lines::RefLines;
 use gx_repo::{RefChange, Repo};
+use gx_small_repo::{base_given, small_repository};
 use gx_stand_ins::StandIn;
 use std::alloc::Global;
 use std::hash::RandomState;
+use std::test::Fail;
 
 /// Four commits, of which the last two have a directory and a submodule more, and a tag of the third.
 const RECORDS: [(Kind, &[u8]); 10] = [
@@ -115,15 +116,13 @@ fn is_same_base(
 }
 
 #[test]
-fn small_repository_has_what_is_asked_for(rt: HostRuntime) {
-    let Ok(state) = RandomState::new(&rt) else {
-        return assert!(rt; false);
-    };
+fn small_repository_has_what_is_asked_for(rt: HostRuntime) -> Result<(), Fail> {
+    let state = RandomState::new(&rt)?;
     let Some(repo) = whole(rt.alloc(), state) else {
-        return assert!(rt; false, "whole");
+        panic!(rt; "whole");
     };
     let Some(small) = small(rt.alloc(), &repo, state) else {
-        return assert!(rt; false, "small");
+        panic!(rt; "small");
     };
     for place in 0..10 {
         if let Some((name, _kind, body)) = repo.store().record(place) {
@@ -141,4 +140,5 @@ fn small_repository_has_what_is_asked_for(rt: HostRuntime) {
         small.store().len() == 9 && small.refs().count() == 2,
         "no more"
     );
+    Ok(())
 }

@@ -1,0 +1,123 @@
+"""What `gx gc` makes of growing stores, of which it reads what it keeps: the text that it makes of the
+same store read as a whole, also of several segments and runs, and of what is damaged elsewhere.
+"""
+
+from __future__ import annotations
+
+import random
+import re
+from pathlib import Path
+
+import pytest
+
+from growing_reading import read
+from programs import Done, Program, counted
+from store_files import NEW, named
+from test_damaged_looks import draws
+from test_growing import grown
+from test_salvage import branches, torn
+
+RECORD = re.compile(rb"(blob|tree|commit|tag) (\d+) ([0-9a-f]{40})\n")
+
+
+def plain_of(text: bytes) -> bytes:
+    """The store of version 2 of what a growing text tells."""
+    held = read(text)
+    refs = b"".join(line + b"\n" for line in held.refs)
+    front = b"gxstore 2\nobjects %d\n" % len(held.records)
+    return front + b"".join(held.records) + b"refs %d\n" % len(held.refs) + refs + b"end\n"
+
+
+def gone(gx: Program, store: Path, text: bytes, keep: Path) -> tuple[Done, bytes]:
+    """What comes of gc, and the text of the store then. Nothing is left beside it."""
+    store.write_bytes(text)
+    done = gx("gc", "--report", "--keep", keep, store)
+    assert not store.with_name(f"{store.name}.new").exists()
+    return done, store.read_bytes()
+
+
+def try_whole(gx: Program, folder: Path, randoms: random.Random) -> None:
+    """A text of several segments: the same is left, and goes, as where it is read as a whole."""
+    store, plain, keep = folder / "store", folder / "plain", folder / "keep"
+    whole = branches(randoms)
+    names = randoms.sample(sorted(whole.reach), randoms.randint(0, 2))
+    keep.write_bytes(b"".join(name + b"\n" for name in [*names, b"0" * 40]))
+    done, text = gone(gx, store, whole.text, keep)
+    assert gone(gx, plain, plain_of(whole.text), keep)[0] == done
+    gx.prints("grow", plain)
+    assert text == plain.read_bytes()
+    before = store.stat()
+    nothing = Done(0, b"", b"gx: pruned objects: 0, bytes: 0\n")
+    assert gx("gc", "--report", "--keep", keep, store) == nothing
+    after = store.stat()
+    assert (after.st_ino, after.st_mtime_ns) == (before.st_ino, before.st_mtime_ns)
+    counted["growing stores that lose objects"] += text != whole.text
+
+
+def try_torn(gx: Program, folder: Path, randoms: random.Random) -> None:
+    """A torn text: where all that refs reach can be read, that is left; else FILE is as it was."""
+    store, new, keep = folder / "store", folder / "new", folder / "keep"
+    keep.write_bytes(b"")
+    text = torn(branches(randoms).text, randoms)
+    done, left = gone(gx, store, text, keep)
+    if done.status:
+        assert (done.err, left) == (b"gx: store: Damaged\n", text)
+        counted["torn stores that gc refuses"] += 1
+        return
+    gx.prints("verify", store)
+    store.write_bytes(text)
+    assert gx.prints("verify", "--salvage", new, store) == b""
+    assert new.read_bytes() == left
+    new.unlink()
+    counted["torn stores that gc mends"] += 1
+
+
+def try_damaged(gx: Program, store: Path, keep: Path, text: bytes) -> None:
+    """A text that is no repository's, as another writer may make: gc ends, and what it leaves has the
+    names of its bodies."""
+    done, left = gone(gx, store, text, keep)
+    assert done.status in (0, 1)
+    if done.status:
+        assert left == text
+        return
+    for line in RECORD.finditer(left):
+        body = left[line.end() : line.end() + int(line[2])]
+        if not left[: line.start()].endswith(b"\n"):
+            continue
+        assert named(line[1].decode(), body).encode() == line[3]
+    counted["damaged stores that gc takes"] += 1
+
+
+@pytest.fixture
+def times(request: pytest.FixtureRequest) -> int:
+    return 50 if request.config.getoption("long") else 1
+
+
+def test_whole(gx: Program, tmp_path: Path, randoms: random.Random, times: int) -> None:
+    for _ in range(8 * times):
+        try_whole(gx, tmp_path, randoms)
+
+
+def test_torn(gx: Program, tmp_path: Path, randoms: random.Random, times: int) -> None:
+    for _ in range(20 * times):
+        try_torn(gx, tmp_path, randoms)
+
+
+def test_damaged(gx: Program, tmp_path: Path, randoms: random.Random, times: int) -> None:
+    keep = tmp_path / "keep"
+    keep.write_bytes(b"")
+    for _, text in zip(range(30 * times), draws(randoms)):
+        try_damaged(gx, tmp_path / "store", keep, text[1])
+
+
+def test_unread(gx: Program, tmp_path: Path) -> None:
+    """A blob that nothing reaches goes, damaged or not. One that is reached is missed."""
+    store = grown(gx, tmp_path, NEW)
+    text = store.read_bytes()
+    store.write_bytes(text.replace(b"test content", b"test content"[::-1]))
+    assert gx("verify", store).err == b"gx: store: NameMismatch\n"
+    assert gx.prints("gc", store) == b""
+    assert gx.prints("verify", store).startswith(b"version 3\nobjects 3\nrefs 1\n")
+    store.write_bytes(text.replace(b"version 1\n", b"version 2\n"))
+    assert gx("gc", store) == Done(1, b"", b"gx: store: Damaged\n")
+    assert store.read_bytes() == text.replace(b"version 1\n", b"version 2\n")

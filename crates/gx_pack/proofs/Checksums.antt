@@ -1,6 +1,6 @@
 -- The sums of a checksum, piece by piece.
-use Rattle.std.proofs.Common.{◌≡◌, ℕ, zero, suc, ◌+◌, ◌*◌, ◌/◌, ◌%◌, ◌<◌, [], ◌∷◌, ◌++◌, length, get_or, sum, take, refl, sym, ap, ◌∙◌, arith, zero-add}
-use Rattle.std.proofs.lemmas.List.Sums.{sum_by-append}
+use Rattle.std.proofs.Common.{◌≡◌, ℕ, suc, ◌+◌, ◌*◌, ◌/◌, ◌%◌, ◌<◌, [], ◌∷◌, ◌++◌, length, get_or, sum, take, refl, ap, subst, ◌∙◌, arith, zero-add}
+use Rattle.std.proofs.lemmas.List.Sums.{sum_by-append, sum_by-cons}
 use Rattle.std.proofs.Math.Seq.{take-suc}
 use Rattle.gx_model.specs.Texts.{Bytes}
 use Rattle.gx_pack.specs.Zlib.{sum_of_sums}
@@ -11,9 +11,9 @@ unfolding sum_of_sums
 sums_append s [] ys = let same : s + 0 ≡ s = omega arith in let begun = ap (λ n. sum_of_sums n ys) same in omega (arith, begun)
 sums_append s (x ∷ xs) ys =
     let rest = sums_append (s + x) xs ys in
-    let same : s + x + sum xs ≡ s + (x + sum xs) = omega arith in
-    let more = ap (λ n. sum_of_sums n ys) same in
-    omega (arith, rest, more)
+    let next = sum_by-cons (λ y. y) x xs in
+    let same : s + x + sum xs ≡ s + sum (x ∷ xs) = omega (arith, next) in
+    subst (λ n. s + x + sum_of_sums (s + x) (xs ++ ys) ≡ s + x + sum_of_sums (s + x) xs + sum_of_sums n ys) same (omega (arith, rest))
 
 -- the sums of one byte more
 pub sums_next : (s : ℕ) (xs : Bytes) (i : ℕ) → i < length xs

@@ -9,7 +9,8 @@ use std::test::Fail;
 /// Writes a pack of so many objects.
 fn write<W: gx_text::Sink>(sink: &mut W, objects: &[(Kind, &[u8])]) -> Result<(), Failed> {
     let mut pack = Pack::new(sink);
-    pack.write_head(objects.len() as u32)?;
+    let count = u32::try_from(objects.len()).map_err(|_| Failed)?;
+    pack.write_head(count)?;
     for (kind, body) in objects {
         pack.write_object(*kind, body)?;
     }

@@ -1,7 +1,11 @@
-use Rattle.std.proofs.Common.{◌+◌, ◌≤◌, arith, length, take}
-use Rattle.std.proofs.Math.Seq.{take-length}
+use Rattle.std.proofs.Common.{arith}
 use Rattle.gx_pack.proofs.Checksums.{sum_next, sums_next}
+use Rattle.gx_pack.specs.Zlib.{sum_of_sums}
 use Rattle.gx_pack.proofs.adler.with_piece.Goals as goal
+
+pub loop-byte-init : goal.loop-byte-init
+unfolding sum_of_sums
+loop-byte-init c = (omega arith, omega arith, omega (arith, c.requires.first), omega (arith, c.requires.second))
 
 pub loop-byte-preserved : goal.loop-byte-preserved
 loop-byte-preserved c =

@@ -8,9 +8,9 @@ use Rattle.gx_pack.proofs.entry.write_entry.Goals as goal
 pub returns-in_err-write_head : goal.returns-in_err-write_head
 unfolding entry_text
 returns-in_err-write_head g c =
-    let p = err_from_is_err_and c.from_residual.result c.from_residual.ensures.1 in
     let head = entry_head c.args.kind (length c.args.body.now) in
-    rw (p.1, p.2) (writes_sooner head (stored_text c.args.body.now) c.args.output.now c.write_head.new.output c.in_err-write_head.field-0.0 c.in_err-write_head.ensures)
+    let p = err_from_is_err_and c.from_residual.result c.from_residual.ensures.1 in
+    rw p.1 (writes_sooner head (stored_text c.args.body.now) c.args.output.now c.write_head.new.output c.in_err-write_head.field-0.0 c.in_err-write_head.ensures)
 
 pub returns : goal.returns
 unfolding entry_text

@@ -1,20 +1,20 @@
 -- What has no further headers is wide.
-use Rattle.std.proofs.Common.{◌≡◌, Bool, true, false, List, [], ◌∷◌, ◌++◌, Option, None, Some, refl, inl, inr, ◌⊎◌}
-use Rattle.std.specs.Prelude.{IsTrue, codes, nat_eq, ⊤}
+use Rattle.std.proofs.Common.{◌≡◌, true, false, List, [], ◌∷◌, ◌++◌, Option, None, Some, refl, inl, inr}
+use Rattle.std.specs.Prelude.{◌&&◌, codes, nat_eq}
 use Rattle.std.specs.List.{AllByRecursion, starts_with}
 use Rattle.std.proofs.lemmas.Bool.{and_parts}
 use Rattle.gx_model.specs.declared.objects.Kind.{Kind}
 use Rattle.gx_model.specs.declared.objects.Kind.TheVariants as kind
 use Rattle.gx_model.specs.Texts.{Bytes}
 use Rattle.gx_model.specs.Texts.Idents.{is_ident}
-use Rattle.gx_model.specs.Texts.RefNames.{is_tag_name, tag_ref}
-use Rattle.gx_model.specs.Histories.{Record, Records}
+use Rattle.gx_model.specs.Texts.RefNames.{tag_ref}
+use Rattle.gx_model.specs.Histories.{Record}
 use Rattle.gx_model.specs.Histories.Values.{is_optional_ident, is_optional_encoding, is_optional_line}
 use Rattle.gx_model.specs.Objects.{CommitParts, IsCommitText, IsNamer, IsTagText, TagParts}
-use Rattle.gx_model.specs.Records.Sound.{AnyByRecursion, Holds, IsLinked, IsLinkedAfter, IsSound, IsTarget}
+use Rattle.gx_model.specs.Records.Sound.{AnyByRecursion, IsLinked, IsLinkedAfter, IsTarget}
 use Rattle.gx_model.proofs.Texts.LineTexts.{ident_is_line, tag_is_line}
 use Rattle.gx_wide.specs.WideLaws.{BodiesAreWide, SoundIsWide}
-use Rattle.gx_wide.specs.WideSound.{AreWideLinkedAfter, IsWide, IsWideLinked, IsWideTarget}
+use Rattle.gx_wide.specs.WideSound.{AreWideLinkedAfter, IsWideLinked, IsWideTarget}
 use Rattle.gx_wide.specs.WideTexts.{HasWideForm, HasWideTagForm, IsEncodingApart, IsTaggerApart, IsWideCommitText, IsWideTagText, widened_commit, widened_tag}
 
 -- ---- bodies

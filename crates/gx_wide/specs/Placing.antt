@@ -1,6 +1,6 @@
 -- How given objects are added to a repository: in the order of their text, each behind what it lacks; and then refs are set.
 -- Source: gitglossary(7), "reachable", and git-fetch(1), on refs that aren't fast-forward.
-use Rattle.std.specs.Prelude.{◌≡◌, ℕ, zero, suc, Bool, true, false, not, ◌&&◌, ◌||◌, nat_eq, if◌then◌else◌, List, [], ◌∷◌, ◌++◌, map, length, replicate, codes, Option, None, Some, is_some, Result, Ok, Err}
+use Rattle.std.specs.Prelude.{ℕ, zero, suc, ◌+◌, Bool, true, false, not, ◌&&◌, ◌||◌, nat_eq, if◌then◌else◌, List, [], ◌∷◌, ◌++◌, map, length, replicate, codes, Option, None, Some, is_some, Result, Ok, Err}
 use Rattle.std.specs.List.{filter, filter_map, starts_with}
 use Rattle.std.specs.Map.{lookup}
 use Rattle.std.specs.FinMap.Entries.{put}
@@ -10,7 +10,6 @@ use Rattle.gx_model.specs.declared.objects.Mode.{Mode}
 use Rattle.gx_model.specs.declared.objects.Mode.TheVariants.{Gitlink, Dir}
 use Rattle.gx_model.specs.Texts.{Bytes, byte_cmp, same_bytes}
 use Rattle.gx_model.specs.Faults.{◌>>=◌}
-use Rattle.gx_model.specs.Objects.{Entry}
 use Rattle.gx_model.specs.Histories.{Record, Records}
 use Rattle.gx_model.specs.Laws.ShownRecords.{leads_to}
 use Rattle.gx_model.specs.Records.Growth.{record_named, same_kind, same_object}

@@ -12,7 +12,7 @@ use Rattle.gx_model.specs.Histories.{Record, Records}
 use Rattle.gx_model.specs.Rows.RowTexts.{last_byte_name}
 use Rattle.gx_wide.specs.WideTexts.{WideTagParts, WideText, is_wide_commit_body, is_wide_tag_body, wide_commit_parts_in, wide_tag_parts_in}
 use Rattle.gx_wide.specs.WideSound.{peeled}
-use Rattle.gx_wide.specs.ObjectsTexts.{Item, ItemFault, BadLine, BadNumber, BadRefName, Missing, NameMismatch, TruncatedData, item_at, items_of, items_within, object_item, ref_item}
+use Rattle.gx_wide.specs.ObjectsTexts.{Item, ItemFault, BadLine, BadNumber, BadRefName, Missing, NameMismatch, TruncatedData, item_at, items_of, items_within}
 use Rattle.gx_wide.specs.Placing.{BadObject, Dangling, NotFastForward, TakeFault, WrongKind, placed_within, taken}
 
 -- ---- bodies

@@ -1,5 +1,4 @@
 -- The laws of wide bodies and repositories. Source: gitglossary(7), "commit object" and "tag object".
-use Rattle.std.specs.Prelude.{◌≡◌, true}
 use Rattle.gx_model.specs.declared.objects.Kind.{Kind}
 use Rattle.gx_model.specs.Texts.{Bytes}
 use Rattle.gx_model.specs.Histories.{Records}

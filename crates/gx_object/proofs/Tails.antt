@@ -238,7 +238,7 @@ unended true [] e p = absurd (let some = p refl in omega (arith, some))
 unended false [] e p = refl
 unended s (b ∷ x) e p = by (nat_eq b 10) refl e (λ f. unended false x f (λ q. absurd (false≢true q)))
   where
-    by : (t : Bool) → nat_eq b 10 ≡ t → cond t (Some ([], x)) (option_map (λ p. (b ∷ p.0, p.1)) (cut_at 10 x)) ≡ None → (cut_at 10 x ≡ None → tail_from false x ≡ None) → tail_from s (b ∷ x) ≡ None
+    by : (t : Bool) → nat_eq b 10 ≡ t → cond {A = Option (Bytes × Bytes)} t (Some ([], x)) (option_map (λ p. (b ∷ p.0, p.1)) (cut_at 10 x)) ≡ None → (cut_at 10 x ≡ None → tail_from false x ≡ None) → tail_from s (b ∷ x) ≡ None
     by true h f again = absurd cc
     by false h f again = rw (h, no s, again (none_of (cut_at 10 x) f)) refl
       where
@@ -246,7 +246,7 @@ unended s (b ∷ x) e p = by (nat_eq b 10) refl e (λ f. unended false x f (λ q
         no true = refl
         no false = refl
 
-        none_of : (o : Option (Bytes × Bytes)) → option_map (λ p. (b ∷ p.0, p.1)) o ≡ None → o ≡ None
+        none_of : (o : Option (Bytes × Bytes)) → option_map {U = Bytes × Bytes} (λ p. (b ∷ p.0, p.1)) o ≡ None → o ≡ None
         none_of None g = refl
         none_of (Some p) g = absurd cc
 

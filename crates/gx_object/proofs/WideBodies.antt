@@ -104,7 +104,7 @@ kind_spelled : (word : Bytes) (k : Kind) → kind_of_word word ≡ Some k → wo
 kind_spelled word k e = commit (same_bytes word (codes "commit")) refl e
   where
     told : (j : Kind) (t : Bool) → same_bytes word (kind_word j) ≡ t → t ≡ true → Some j ≡ Some k → word ≡ kind_word k
-    told j t s yes f = let same : j ≡ k = cc in (bytes_decides word (kind_word j)).0 (s ∙ yes) ∙ ap kind_word same
+    told j t s is f = let same : j ≡ k = cc in (bytes_decides word (kind_word j)).0 (s ∙ is) ∙ ap kind_word same
 
     tag : (t : Bool) → same_bytes word (codes "tag") ≡ t → cond t (Some kinds.Tag) None ≡ Some k → word ≡ kind_word k
     tag true s f = told kinds.Tag true s refl f

@@ -1,6 +1,6 @@
 -- The bodies of all commits and tags that Git has, read from the left.
-use Rattle.std.specs.Prelude.{◌≡◌, if◌then◌else◌, List, [], ◌∷◌, codes, Option, None, Some, Result, IsOkAnd}
-use Rattle.std.specs.Option.{option_copied, option_map}
+use Rattle.std.specs.Prelude.{◌≡◌, codes, Option, Some, Result, IsOkAnd}
+use Rattle.std.specs.Option.{option_copied}
 use Rattle.gx_model.specs.declared.objects.Kind.{Kind}
 use Rattle.gx_model.specs.Texts.{Bytes}
 use Rattle.gx_wide.specs.WideTexts.{WideCommitParts, WideTagParts, kind_of_word, tail_of}

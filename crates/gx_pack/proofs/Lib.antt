@@ -4,3 +4,4 @@ pub mod Blocks
 pub mod Numbers
 pub mod DataRead
 pub mod PacksRead
+pub mod BundlesRead

@@ -7,7 +7,5 @@ mod output;
 mod pack;
 pub mod pack_laws;
 mod stored;
-#[cfg(test)]
-mod tests;
 
 pub use pack::Pack;

@@ -40,17 +40,22 @@ pub(crate) fn growing_file<'a>(
     }
 }
 
-/// Opens a file of which the first line is a growing store's. A look comes first, since to open a pipe would wait.
+/// Opens a file of which the first line is a growing store's.
 pub(crate) fn open_growing<'a>(run: &'a Run<'a>, file: &'a str) -> io::Result<Option<FileAt<'a>>> {
-    let mut host = Host { run, file };
-    if host.look(file)?.kind != FileKind::File {
+    growing_at(Host::new(run, file), file)
+}
+
+/// Does so at a path. A look comes first, since to open a pipe would wait.
+pub(crate) fn growing_at<'a>(host: Host<'a>, path: &str) -> io::Result<Option<FileAt<'a>>> {
+    let mut host = host;
+    if host.look(path)?.kind != FileKind::File {
         return Ok(None);
     }
-    let opened = host.open(file)?;
+    let opened = host.open(path)?;
     if host.look_at(&opened)?.kind != FileKind::File {
         return Ok(None);
     }
-    let source = FileAt::read_only(run, opened);
+    let source = FileAt::read_only(host.run, opened);
     let mut front = [0; 10];
     match source.read_at(0, &mut front) {
         Ok(count) if form_of(&front[..count]) == StoreForm::Growing => Ok(Some(source)),
@@ -75,6 +80,12 @@ pub(crate) fn look_into<'a>(
         }
     }
     Ok(look?)
+}
+
+/// How many rows the live runs of a growing store file have: as many as it has objects.
+pub(crate) fn row_count(look: &FileLook<'_>) -> u64 {
+    let runs = look.ending().runs.iter();
+    runs.fold(0u64, |sum, run| sum.saturating_add(run.count))
 }
 
 fn is_damaged<T>(look: &Result<T, LookFault>) -> bool {

@@ -3,7 +3,6 @@
 use super::next_text::NextText;
 use super::told_lines;
 use crate::fault::RunFault;
-use crate::looks::{look_into, open_growing};
 use crate::run::Run;
 use crate::streams::reports::tell_pruned;
 use gx_cli::{Pruned, collect_opened, names_in};
@@ -27,13 +26,8 @@ pub(crate) fn collect(
     };
     let mut next = NextText::claim_next(run, file)?;
     let kept = names_in(alloc, lines.as_slice())?;
-    let stamp = next.stamp()?;
-    let gone = match run.want_read(open_growing(run, file))? {
-        Some(opened) => {
-            let look = look_into(run, file, opened)?;
-            let listing = look.listing(alloc, state)?;
-            next.publish_kept(stamp, &look, &listing, kept.as_slice())?
-        }
+    let gone = match next.open_look()? {
+        Some(look) => next.publish_kept(&look, kept.as_slice(), state)?,
         None => collect_whole(&mut next, kept.as_slice(), state)?,
     };
     drop(next);
@@ -41,7 +35,7 @@ pub(crate) fn collect(
     Ok(())
 }
 
-/// Does so in a store file without tables, which is read as a whole.
+/// Does so in a store file that is read as a whole.
 fn collect_whole(
     next: &mut NextText<'_>,
     kept: &[Name],

@@ -1,15 +1,17 @@
 //! The next text of a store file, which a command writes beside it, or of which it appends to the store file what is new.
 
-use super::appending::{InPlace, grow_by, settle};
+use super::appending::{InPlace, changed, grow_by, open_same, settle};
 use super::before::{Before, TextKind};
+use super::differing::Differing;
 use super::host::Host;
 use crate::fault::RunFault;
-use crate::looks::FileLook;
+use crate::looks::file_at::FileAt;
+use crate::looks::{FileLook, growing_at, row_count};
 use crate::run::{Run, Subject};
 use crate::stores::files::open_text;
 use crate::streams::devices::{Noted, flushed};
 use gx_cli::{CliFault, Pruned, Repo};
-use gx_listed::Listing;
+use gx_look::Look;
 use gx_object::{Name, Sha1Namer};
 use gx_place::{Place, PlaceFault, Stamp, System};
 use gx_text::IntoWrite;
@@ -20,6 +22,9 @@ use std::io::{BufWriter, Write};
 
 /// So many bytes are written at once.
 const BUFFER: usize = 1 << 16;
+
+/// So many bytes a row of a run has.
+const BYTES_OF_ROW: u64 = 28;
 
 /// The next text of a store file, in a run that tells why it couldn't be written. It has the form of the text that was read, unless
 /// another one is asked for.
@@ -37,14 +42,25 @@ pub(crate) struct NextText<'a> {
 impl<'a> NextText<'a> {
     /// That of a store file that is made. A place where there is something is refused.
     pub(crate) fn claim_new(run: &'a Run<'a>, file: &'a str) -> Result<NextText<'a>, RunFault> {
-        let host = Host { run, file };
+        let host = Host::new(run, file);
+        let claimed = gx_place::NextText::claim_new(run.rt.alloc(), host, file, run.patience());
+        NextText::of_claim(host, claimed)
+    }
+
+    /// The same, of what another file tells: it is its owner's alone, unless everybody may read that one.
+    pub(crate) fn claim_beside(
+        run: &'a Run<'a>,
+        file: &'a str,
+        other: &str,
+    ) -> Result<NextText<'a>, RunFault> {
+        let host = Host::beside(run, file, other);
         let claimed = gx_place::NextText::claim_new(run.rt.alloc(), host, file, run.patience());
         NextText::of_claim(host, claimed)
     }
 
     /// That of a store file that is replaced. One that can't be read is refused before anything is made.
     pub(crate) fn claim_next(run: &'a Run<'a>, file: &'a str) -> Result<NextText<'a>, RunFault> {
-        let host = Host { run, file };
+        let host = Host::new(run, file);
         let claimed = gx_place::NextText::claim_next(run.rt.alloc(), host, file, run.patience());
         NextText::of_claim(host, claimed)
     }
@@ -55,7 +71,7 @@ impl<'a> NextText<'a> {
         file: &'a str,
         known: Stamp,
     ) -> Result<NextText<'a>, RunFault> {
-        let (alloc, host) = (run.rt.alloc(), Host { run, file });
+        let (alloc, host) = (run.rt.alloc(), Host::new(run, file));
         let claimed = gx_place::NextText::claim_known(alloc, host, file, run.patience(), known);
         NextText::of_claim(host, claimed)
     }
@@ -92,7 +108,7 @@ impl<'a> NextText<'a> {
     }
 
     /// What the store file has that is to be read.
-    pub(crate) fn stamp(&mut self) -> Result<Stamp, RunFault> {
+    fn stamp(&mut self) -> Result<Stamp, RunFault> {
         let found = self.host.look(self.text.place().store());
         Ok(self.host.run.want_read(found)?.stamp)
     }
@@ -156,31 +172,54 @@ impl<'a> NextText<'a> {
         self.put_in_place()
     }
 
-    /// Publishes what refs and these names reach of a growing store file that had this stamp when it was opened. That stays as it is
-    /// where it has nothing else, and as many bytes as the next text. Answers how much goes.
+    /// A look into the store file, where that is a growing one. One that has no room for the rows that it tells is damaged: what is read
+    /// of it as a whole tells where.
+    pub(crate) fn open_look(&self) -> Result<Option<FileLook<'a>>, RunFault> {
+        let run = self.host.run;
+        let opened = growing_at(self.host, self.text.place().store());
+        let Some(source) = run.want_read(opened)? else {
+            return Ok(None);
+        };
+        let look = Look::open(run.rt.alloc(), Sha1Namer, source)?;
+        let has_room = row_count(&look) <= look.ending().ends / BYTES_OF_ROW;
+        Ok(has_room.then_some(look))
+    }
+
+    /// Publishes what refs and these names reach of the store file, which is a growing one and looked into. It stays as it is where it
+    /// has the bytes of the next text. Answers how much goes.
     ///
     /// Who fails leaves what [`NextText::publish_store`] does.
     pub(crate) fn publish_kept(
         &mut self,
-        stamp: Stamp,
         look: &FileLook<'_>,
-        listing: &Listing<Global>,
         kept: &[Name],
+        state: RandomState,
     ) -> Result<Pruned, RunFault> {
         self.host.run.placed(self.text.begin())?;
-        let gone = write_kept(self.host.run, &mut self.text, look, listing, kept)?;
-        let is_same = gone.objects == 0 && self.written()? == stamp.size;
-        if !is_same || !settle(self.host, self.text.place(), stamp)? {
+        let stamp = self.stamp()?;
+        let store = self.open_store(stamp)?;
+        let gone = write_kept(self.host.run, &mut self.text, store, look, kept, state)?;
+        if self.is_written()? {
             self.put_in_place()?;
+        } else if !settle(self.host, self.text.place(), stamp)? {
+            return Err(changed(self.host.run));
         }
         Ok(gone)
     }
 
-    /// How many bytes are written of the next text.
-    fn written(&mut self) -> Result<u64, RunFault> {
+    /// The store file, to compare the next text with it, and how many bytes it has.
+    fn open_store(&mut self, stamp: Stamp) -> Result<(FileAt<'a>, u64), RunFault> {
+        match open_same(&mut self.host, self.text.place(), stamp) {
+            Some(opened) => Ok((FileAt::read_only(self.host.run, opened), stamp.size)),
+            None => Err(changed(self.host.run)),
+        }
+    }
+
+    /// Whether there is something of the next text.
+    fn is_written(&mut self) -> Result<bool, RunFault> {
         let found = self.host.look(self.text.place().next());
         let found = self.host.run.want_written(Subject::NextText, found)?;
-        Ok(found.stamp.size)
+        Ok(found.stamp.size > 0)
     }
 
     /// The stamp of the store file, where its text is the next one.
@@ -226,20 +265,23 @@ fn write_store(
     }
 }
 
-/// What is kept of a store goes out through a buffer.
+/// What is kept of a store goes out through a buffer, from where it isn't what the store file has.
 fn write_kept(
     run: &Run<'_>,
     text: &mut gx_place::NextText<Host<'_>>,
+    store: (FileAt<'_>, u64),
     look: &FileLook<'_>,
-    listing: &Listing<Global>,
     kept: &[Name],
+    state: RandomState,
 ) -> Result<Pruned, RunFault> {
     let alloc = run.rt.alloc();
+    let listing = look.listing(alloc, state)?;
     let noted = Noted::new(run, Subject::NextText, text);
-    match BufWriter::with_capacity(alloc, BUFFER, noted) {
+    let differing = Differing::new(alloc, store, noted)?;
+    match BufWriter::with_capacity(alloc, BUFFER, differing) {
         Ok(mut out) => {
             let mut sink = IntoWrite::new(&mut out);
-            let sent = gx_kept::collect(alloc, look, listing, kept, &mut sink);
+            let sent = gx_kept::collect(alloc, look, &listing, kept, &mut sink);
             flushed(&mut out, sent.map_err(RunFault::from))
         }
         Err(_) => Err(RunFault::Command(CliFault::OutOfMemory)),

@@ -17,7 +17,7 @@ from pathlib import Path
 
 import pytest
 
-from failing import needs_faults
+from failing import Call, needs_faults, run_watched
 from growing_reading import read
 from growing_texts import GrowingText, Record, with_runs
 from programs import Done, Program, counted
@@ -218,3 +218,21 @@ def test_each_call(
         assert gx.prints("gc", store) == b""
         assert store.read_bytes() == left and not new.exists()
         counted["calls of gc that failed"] += 1
+
+
+@needs_faults
+def test_taken_away(gx: Program, tmp_path: Path) -> None:
+    """Who removes FILE.new by hand, where another run then makes its own, has gc fail."""
+    store = grown(gx, tmp_path, NEW)
+    text, new = store.read_bytes(), store.with_name("grown.new")
+
+    def judge(call: Call) -> int:
+        if call.place() == str(new) and new.exists() and new.stat().st_size:
+            new.unlink()
+            new.touch()
+        return 0
+
+    words = [gx.path, "gc", store]
+    done = run_watched(words, ["fsync", "statx"], judge, b"", 60, env=gx.environment)
+    assert done == Done(1, b"", b"gx: write failed\n")
+    assert store.read_bytes() == text

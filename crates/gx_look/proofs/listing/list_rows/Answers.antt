@@ -1,4 +1,4 @@
-use Rattle.std.proofs.Common.{◌≡◌, ◌≤◌, ◌+◌, ◌++◌, ◌∷◌, List, [], arith, get_or, subst, sym}
+use Rattle.std.proofs.Common.{◌≤◌, ◌+◌, List, [], arith, get_or, subst, sym}
 use Rattle.std.proofs.lemmas.Result.{err_from_is_err_and}
 use Rattle.gx_growing.specs.GrowingText.{Row}
 use Rattle.gx_listed.specs.Listings.{Listed}

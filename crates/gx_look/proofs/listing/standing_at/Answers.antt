@@ -1,4 +1,4 @@
-use Rattle.std.proofs.Common.{◌≡◌, ◌-◌, ◌≤◌, ℕ, arith, length, refl, sym}
+use Rattle.std.proofs.Common.{◌-◌, ◌≤◌, ℕ, arith, length, refl, sym}
 use Rattle.std.proofs.lemmas.Result.{err_from_is_err_and}
 use Rattle.gx_look.proofs.ListedTexts.{head_is, standing_of}
 use Rattle.gx_look.proofs.RecordsInRooms.{heading_fault, heading_is, length_fits, parts_long, told_apart}

@@ -19,7 +19,8 @@ import pytest
 
 from failing import Call, needs_faults, run_watched
 from growing_reading import read
-from growing_texts import GrowingText, Record, with_runs
+from growing_texts import HEAD, UNUSED, GrowingText, Record, Run, head, page_digests
+from growing_texts import sha256, slot, tail, with_runs
 from programs import Done, Program, counted
 from stops import Ender, ended_at
 from store_files import NEW, OLD, named
@@ -235,4 +236,27 @@ def test_taken_away(gx: Program, tmp_path: Path) -> None:
     words = [gx.path, "gc", store]
     done = run_watched(words, ["fsync", "statx"], judge, b"", 60, env=gx.environment)
     assert done == Done(1, b"", b"gx: write failed\n")
+    assert store.read_bytes() == text
+
+
+def test_objects_in_objects(gx: Program, tmp_path: Path) -> None:
+    """A text whose rows lead into bodies doesn't grow by gc: it is damaged."""
+    inner = Record(b"blob", bytes.fromhex(named("blob", b"")), b"")
+    body = inner.text() * 2
+    outer = Record(b"blob", bytes.fromhex(named("blob", body)), body)
+    whole, store, keep = GrowingText(), tmp_path / "store", tmp_path / "keep"
+    whole.append([outer], {})
+    place = whole.text().index(inner.text())
+    rows = [whole.rows_of(whole.runs[0]), inner.name + place.to_bytes(8, "big")]
+    table = b"".join(sorted(rows))
+    front = whole.text()[HEAD : whole.text().index(b"rows 1\n")] + b"rows 2\n"
+    pages = page_digests(table, sha256)
+    run = Run(HEAD + len(front), 2, sha256(pages))
+    last = tail([run], {})
+    start = run.place + len(table) + len(pages) + 1
+    ends = slot(start + len(last), start, sha256(last))
+    store.write_bytes(head(b"a", ends, UNUSED) + front + table + pages + b"\n" + last)
+    keep.write_bytes(b"".join(b"%s\n" % record.name.hex().encode() for record in (inner, outer)))
+    text = store.read_bytes()
+    assert gx("gc", "--keep", keep, store) == Done(1, b"", b"gx: store: Damaged\n")
     assert store.read_bytes() == text

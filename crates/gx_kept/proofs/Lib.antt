@@ -12,3 +12,6 @@ mod Spreading
 mod Stopping
 mod TailLines
 mod Weights
+mod WrittenObjects
+mod WrittenPacks
+mod SentBundles

@@ -2,6 +2,7 @@ mod CollectedTexts
 mod GoneObjects
 mod LaidMarks
 mod ListedRecords
+mod ListedStores
 mod MarkedTexts
 mod MarkedTips
 mod SentMarked

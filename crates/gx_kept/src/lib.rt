@@ -9,6 +9,7 @@ mod fault;
 mod gone;
 mod layout;
 mod links;
+mod listing;
 mod marking;
 mod sending;
 
@@ -16,3 +17,4 @@ pub use bundle_fault::BundleFault;
 pub use bundling::bundle;
 pub use collecting::{collect, rewrite};
 pub use fault::KeptFault;
+pub use listing::list;

@@ -46,8 +46,8 @@ _gx
 LINES = [
     (
         "gx ",
-        "blobs try check adapt where init grow verify import drop set-ref put gc export show ls archive batch"
-        " refs log rev-parse help --help",
+        "blobs try check adapt where init grow verify import drop set-ref put gc export bundle show ls archive"
+        " batch refs log rev-parse help --help",
     ),
     ("gx -", "--help --explain --version"),
     ("gx --explain im", "import"),

@@ -246,7 +246,7 @@ fn without_room(line: &Line<'_>) -> Option<CliFault>
             wait: _,
             change,
         } => room_of_change(change),
-        Line::Stream(_) | Line::Verify { .. } => None,
+        Line::Stream(_) | Line::Verify { .. } | Line::Bundle { .. } => None,
     }
 }
 

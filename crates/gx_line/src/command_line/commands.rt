@@ -154,6 +154,7 @@ fn with_store_commands<'a>(
     let gx = with_command(gx, put_command(alloc));
     let gx = with_command(gx, gc_command(alloc));
     let gx = with_command(gx, export_command(alloc));
+    let gx = with_command(gx, file_command(alloc, "bundle", stores::BUNDLE));
     with_command(gx, file_command(alloc, "refs", stores::REFS))
 }
 

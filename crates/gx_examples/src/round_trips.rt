@@ -1,46 +1,43 @@
 //! What is answered on a trip, and what a refused one leaves. The name is the one that git gives the commit.
 
 use crate::texts::text;
-use crate::trips::{Trip, tripped};
+use crate::trips::{Made, tripped};
 use gx_cli::{CliFault, ExportForm, Reply};
-use gx_object::{Name, Sha1Namer};
-use gx_repo::Repo;
+use gx_object::Name;
 use gx_text::Held;
 use std::alloc::Global;
 use std::hash::RandomState;
+use std::test::Fail;
 
-/// Whether the question of a trip of the version's stream is answered by its only commit.
-fn is_answered(alloc: Global, state: RandomState) -> Option<bool> {
-    let mut sink = Held::new(alloc, 64).ok()?;
-    let mut first = Repo::new(alloc, Sha1Namer, state);
-    let (stream, form) = (text("version"), ExportForm::FullTree);
-    let trip = tripped(
+#[test]
+fn question_has_the_commit_and_the_list_of_its_revision(rt: HostRuntime) -> Result<(), Fail> {
+    let state = RandomState::new(&rt)?;
+    let alloc = rt.alloc();
+    let mut sink = Held::new(alloc, 64)?;
+    let tripped = tripped(
         alloc,
-        &mut first,
-        stream,
+        text("version"),
         "v1 test.txt",
-        form,
+        ExportForm::FullTree,
         &mut sink,
         state,
     );
-    Some(is_trip_of_version(&trip))
+    let is_right = match &tripped {
+        Some(made) => is_answered(made),
+        None => false,
+    };
+    assert!(rt; is_right);
+    Ok(())
 }
 
-fn is_trip_of_version(trip: &Option<Trip<Global>>) -> bool {
-    match trip {
-        Some(Ok(trip)) => match &trip.reply {
+/// Whether a trip's question was answered by the only commit of the version's stream.
+fn is_answered(made: &Made<Global>) -> bool {
+    match &made.trip {
+        Ok(trip) => match &trip.reply {
             Some(reply) => is_of_version(reply),
             None => false,
         },
-        _ => false,
-    }
-}
-
-#[test]
-fn question_has_the_commit_and_the_list_of_its_revision(rt: HostRuntime) {
-    match RandomState::new(&rt) {
-        Ok(state) => assert!(rt; is_answered(rt.alloc(), state) == Some(true)),
-        Err(_) => assert!(rt; false),
+        Err(_) => false,
     }
 }
 
@@ -67,27 +64,34 @@ fn is_version(name: &Name) -> bool {
     name.hex() == *b"02d6adf1689e06135d2b4b4d471f1ae489887b53"
 }
 
-/// How many refs the refused import of a stream leaves; none where it isn't refused.
-fn left(alloc: Global, stream: &[u8], state: RandomState) -> Option<usize> {
-    let mut sink = Held::new(alloc, 64).ok()?;
-    let mut first = Repo::new(alloc, Sha1Namer, state);
-    let form = ExportForm::FullTree;
-    let trip = tripped(alloc, &mut first, stream, "main f", form, &mut sink, state);
-    is_import_refused(&trip).then_some(first.refs().count())
-}
-
-fn is_import_refused(trip: &Option<Trip<Global>>) -> bool {
-    matches!(trip, Some(Err(CliFault::Import(_))))
-}
-
 /// A refused import leaves what its checkpoint published, and nothing where there was none.
 #[test]
-fn refused_trip_leaves_the_last_checkpoint(rt: HostRuntime) {
-    let Ok(state) = RandomState::new(&rt) else {
-        return assert!(rt; false);
-    };
+fn refused_trip_leaves_the_last_checkpoint(rt: HostRuntime) -> Result<(), Fail> {
+    let state = RandomState::new(&rt)?;
     for (stream, refs) in [(CHECKPOINTED, 1), (NOT_CHECKPOINTED, 0)] {
-        assert!(rt; left(rt.alloc(), stream, state) == Some(refs), "{refs}");
+        let mut sink = Held::new(rt.alloc(), 64)?;
+        let tripped = tripped(
+            rt.alloc(),
+            stream,
+            "main f",
+            ExportForm::FullTree,
+            &mut sink,
+            state,
+        );
+        let count = match &tripped {
+            Some(made) => refs_left(made),
+            None => None,
+        };
+        assert!(rt; count == Some(refs));
+    }
+    Ok(())
+}
+
+/// How many refs a refused import left; none where it wasn't refused.
+fn refs_left(made: &Made<Global>) -> Option<usize> {
+    match &made.trip {
+        Err(CliFault::Import(_)) => Some(made.first.refs().count()),
+        _ => None,
     }
 }
 

@@ -1,24 +1,22 @@
 //! Trips of which each growth is refused in turn.
 
 use crate::texts::text;
-use crate::trips::{Trip, have_same_refs, tripped};
+use crate::trips::{Made, have_same_refs, tripped};
 use gx_cli::{CliFault, ExportForm, Reply};
 use gx_devices::Refusing;
 use gx_import::ImportKind;
-use gx_object::Sha1Namer;
-use gx_repo::Repo;
 use gx_text::Held;
 use std::alloc::{Allocator, Global};
 use std::hash::RandomState;
+use std::test::Fail;
 
 #[test]
-fn each_refused_growth_of_a_trip_is_out_of_memory(rt: HostRuntime) {
-    let Ok(state) = RandomState::new(&rt) else {
-        return assert!(rt; false);
-    };
+fn each_refused_growth_of_a_trip_is_out_of_memory(rt: HostRuntime) -> Result<(), Fail> {
+    let state = RandomState::new(&rt)?;
     for form in [ExportForm::FullTree, ExportForm::Changes { done: true }] {
         assert!(rt; refused_growths(rt.alloc(), form, state) >= 100);
     }
+    Ok(())
 }
 
 /// How many growths are refused before a trip succeeds; none where one is answered otherwise.
@@ -51,21 +49,12 @@ fn is_trip_refused<'a, B: Allocator>(
     form: ExportForm,
     state: RandomState,
 ) -> Option<bool> {
-    let mut first = Repo::new(heap, Sha1Namer, state);
     heap.arm(nth);
-    let trip = tripped(
-        heap,
-        &mut first,
-        text("two branches"),
-        "a f",
-        form,
-        sink,
-        state,
-    );
+    let tripped = tripped(heap, text("two branches"), "a f", form, sink, state);
     let is_waiting = heap.is_waiting();
     heap.arm(0);
-    match &trip {
-        Some(trip) => is_refused(&first, trip, is_waiting),
+    match &tripped {
+        Some(tripped) => is_refused(tripped, is_waiting),
         None if is_waiting => None,
         None => Some(true),
     }
@@ -73,15 +62,11 @@ fn is_trip_refused<'a, B: Allocator>(
 
 /// Whether a trip, or a part of its reply alone, is refused for want of memory; none where it is answered otherwise. One that
 /// succeeds, at which a growth is still waited for, has its reply, and the same refs twice.
-fn is_refused<A: Allocator + Copy>(
-    first: &Repo<Sha1Namer, A>,
-    trip: &Trip<A>,
-    is_waiting: bool,
-) -> Option<bool> {
-    let is_right = match trip {
+fn is_refused<A: Allocator + Copy>(tripped: &Made<A>, is_waiting: bool) -> Option<bool> {
+    let is_right = match &tripped.trip {
         Ok(trip) => match &trip.reply {
             Some(reply) if is_waiting => {
-                is_whole_reply(reply) && have_same_refs(first, &trip.again)
+                is_whole_reply(reply) && have_same_refs(&tripped.first, &trip.again)
             }
             Some(reply) => lacks_memory(reply),
             None => false,

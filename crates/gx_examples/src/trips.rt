@@ -12,35 +12,33 @@ use gx_text::{Bytes, Held, TreePath};
 use std::alloc::Allocator;
 use std::hash::RandomState;
 
-/// The trip of a stream, or why there is none.
-pub(crate) type Trip<A> = Result<RoundTrip<Sha1Namer, A>, CliFault>;
+/// What a stream made of an empty store, and its trip, or why there is none.
+#[derive(Drop)]
+pub(crate) struct Made<A: Allocator> {
+    pub(crate) first: Repo<Sha1Namer, A>,
+    pub(crate) trip: Result<RoundTrip<Sha1Namer, A>, CliFault>,
+}
 
 /// A stream that is imported into an empty store, exported, and imported again, and what is asked between: a revision and a path
 /// behind it, and the commits of the revision. There is none where there is no memory for these words.
 pub(crate) fn tripped<A: Allocator + Copy>(
     alloc: A,
-    first: &mut Repo<Sha1Namer, A>,
     stream: &[u8],
     words: &str,
     form: ExportForm,
     sink: &mut Held<A>,
     state: RandomState,
-) -> Option<Trip<A>> {
+) -> Option<Made<A>> {
     let (word, path) = halves(words, ' ');
-    let question = question_of(alloc, word, path)?;
-    Some(asked(alloc, first, stream, question, form, sink, state))
-}
-
-/// The question of a revision, a path behind it, and its commits.
-fn question_of<A: Allocator + Copy>(alloc: A, word: &str, path: &str) -> Option<Question<A>> {
     let revision = Revision::read(alloc, word.as_bytes()).ok()?;
     let path = TreePath::read(alloc, path.as_bytes()).ok()?;
     let ranges = range_alone(alloc, word)?;
-    Some(Question {
+    let question = Question {
         revision,
         path,
         ranges,
-    })
+    };
+    Some(asked(alloc, stream, Some(question), form, sink, state))
 }
 
 /// A range word alone.
@@ -60,33 +58,34 @@ fn alone<A: Allocator + Copy>(alloc: A, range: Range<A>) -> Option<Vec<Range<A>,
     }
 }
 
-/// The trip on which this is asked.
-fn asked<A: Allocator + Copy>(
+/// The same of a question, or of none.
+pub(crate) fn asked<A: Allocator + Copy>(
     alloc: A,
-    first: &mut Repo<Sha1Namer, A>,
     stream: &[u8],
-    question: Question<A>,
+    question: Option<Question<A>>,
     form: ExportForm,
     sink: &mut Held<A>,
     state: RandomState,
-) -> Trip<A> {
+) -> Made<A> {
     replays_keep_none();
+    let mut first = Repo::new(alloc, Sha1Namer, state);
     let mut told = Explanation::none();
     let options = RoundTripOptions {
         features: Features::none(),
-        question: Some(question),
+        question,
         form,
     };
-    round_trip(
+    let trip = round_trip(
         alloc,
-        first,
+        &mut first,
         Sha1Namer,
         Bytes::new(stream, 4096, false),
         sink,
         &options,
         state,
         &mut told,
-    )
+    );
+    Made { first, trip }
 }
 
 /// Whether two repositories have the same refs.

@@ -23,7 +23,7 @@ __gx_operands() {
   operands=()
   for ((i = 2; i < ${#words[@]} - 1; i++)); do
     case ${words[i]} in
-      --max-count | -n | --prefix | --format | --keep | --push | --expect-stamp | --wait)
+      --max-count | -n | --prefix | --format | --head | --keep | --push | --expect-stamp | --wait)
         i=$((i + 1))
         ;;
       -?*) ;;
@@ -105,6 +105,7 @@ __gx_options() {
     import) __gx_answer '' "$1" --done --force --push --report --explain --wait --help ;;
     try | check) __gx_answer '' "$1" --done --force --explain --help ;;
     verify) __gx_answer '' "$1" --salvage --help ;;
+    bundle) __gx_answer '' "$1" --head --help ;;
     gc) __gx_answer '' "$1" --keep --report --wait --help ;;
     export) __gx_answer '' "$1" --changes --no-done --help ;;
     log) __gx_answer '' "$1" --all --stdin --format --reverse --max-count -n --parents --help ;;

@@ -50,6 +50,35 @@ def test_git_takes_stores(
     assert gx.prints("bundle", store) == bundle.read_bytes()
 
 
+def test_clone_checks_out_head(
+    gx: Program, git: Callable[..., bytes], new_store, tmp_path: Path
+) -> None:
+    """HEAD is what a ref holds, of its whole name or a shorter one: git checks out its branch."""
+    store, bundle = new_store(STREAMS["two branches"]), tmp_path / "bundle"
+    plain = gx.prints("bundle", store)
+    mark = b"# v2 git bundle\n"
+    for head in "refs/heads/a", "b":
+        bundle.write_bytes(gx.prints("bundle", f"--head={head}", store))
+        called = gx.prints("rev-parse", store, head)
+        line = called.replace(b"\n", b" HEAD\n")
+        assert bundle.read_bytes() == mark + line + plain.removeprefix(mark)
+        copy = tmp_path / head[-1:]
+        git("clone", "-q", bundle, copy)
+        assert git("rev-parse", "HEAD", cwd=copy) == called
+        assert git("symbolic-ref", "--short", "HEAD", cwd=copy) == f"{head[-1:]}\n".encode()
+        assert git("status", "--porcelain", cwd=copy) == b""
+
+
+def test_unknown_head_is_refused(gx: Program, new_store) -> None:
+    plain, growing = new_store(name="plain"), new_store(name="growing")
+    gx.prints("grow", growing)
+    for store in plain, growing:
+        done = gx("bundle", "--head", "none", store)
+        assert done.status == 1
+        assert not done.out
+        assert done.err == b"gx: revision 1: UnknownRef\n"
+
+
 def test_range_is_no_operand(gx: Program, new_store) -> None:
     done = gx("bundle", new_store(), "main")
     assert done.status == 2

@@ -10,7 +10,9 @@ use crate::streams::devices::{Noted, flushed};
 use crate::streams::progress::ProgressLine;
 use gx_cli::CliFault;
 use gx_listed::Listing;
+use gx_object::Name;
 use gx_objects::Objects;
+use gx_rev::RevFault;
 use gx_text::IntoWrite;
 use std::alloc::Global;
 use std::hash::RandomState;
@@ -19,22 +21,44 @@ use std::io::BufWriter;
 /// So many bytes go out at once.
 const BUFFER: usize = 1 << 16;
 
-/// Writes all refs of a store file, and the objects that they reach, as a bundle. Of a growing one no more is held than what its
-/// objects are called and where they stand.
-pub(crate) fn bundle(run: &Run<'_>, file: &str, state: RandomState) -> Result<(), RunFault> {
+/// Writes all refs of a store file, and the objects that they reach, as a bundle, whose HEAD is the ref `head`. Of a growing one no
+/// more is held than what its objects are called and where they stand.
+pub(crate) fn bundle(
+    run: &Run<'_>,
+    file: &str,
+    head: Option<&str>,
+    state: RandomState,
+) -> Result<(), RunFault> {
     let alloc = run.rt.alloc();
     if let Some(opened) = growing_file(run, file)? {
         let look = look_into(run, file, opened)?;
         if !has_room_for_rows(&look) {
             return Err(RunFault::Damaged);
         }
+        let head = object_of_head(&look, head)?;
         let listing = look.listing(alloc, state)?;
-        return write_bundle(run, &look, &listing);
+        return write_bundle(run, &look, &listing, head);
     }
     let store = read_store(run, file)?;
     let repo = open_text(run, store, state)?;
+    let head = object_of_head(&repo, head)?;
     let listing = gx_kept::list(alloc, &repo, state)?;
-    write_bundle(run, &repo, &listing)
+    write_bundle(run, &repo, &listing, head)
+}
+
+/// What the ref holds that HEAD is to be, where it is to be one.
+fn object_of_head<O: Objects>(objects: &O, head: Option<&str>) -> Result<Option<Name>, RunFault> {
+    let Some(called) = head else {
+        return Ok(None);
+    };
+    let found = objects.object_of_ref(called.as_bytes())?;
+    if found.is_none() {
+        return Err(RunFault::Command(CliFault::Revision {
+            number: 1,
+            kind: RevFault::UnknownRef,
+        }));
+    }
+    Ok(found)
 }
 
 /// Writes the bundle of objects that are listed, through a buffer, and shows how much went out.
@@ -42,6 +66,7 @@ fn write_bundle<O: Objects>(
     run: &Run<'_>,
     objects: &O,
     listing: &Listing<Global>,
+    head: Option<Name>,
 ) -> Result<(), RunFault>
     requires { ListsIfTold (O.told objects.now) (O.stands objects.now) listing.now }
 {
@@ -50,7 +75,8 @@ fn write_bundle<O: Objects>(
     let output = Noted::output(run).shown_by(&progress);
     let answer = match BufWriter::with_capacity(alloc, BUFFER, output) {
         Ok(mut out) => {
-            let sent = gx_kept::bundle(alloc, objects, listing, &mut IntoWrite::new(&mut out));
+            let sink = &mut IntoWrite::new(&mut out);
+            let sent = gx_kept::bundle(alloc, objects, listing, head, sink);
             flushed(&mut out, sent.map_err(RunFault::from))
         }
         Err(_) => Err(RunFault::Command(CliFault::OutOfMemory)),

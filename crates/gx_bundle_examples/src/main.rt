@@ -30,5 +30,5 @@ fn write_bundle<W: Sink>(
     let piece = 1_000;
     let look = Look::open(alloc, Sha1Namer, TextAt { text, piece })?;
     let listing = look.listing(alloc, state)?;
-    bundle(alloc, &look, &listing, sink)
+    bundle(alloc, &look, &listing, None, sink)
 }

@@ -1,5 +1,5 @@
 -- Objects that go out one after the other, each read as it does. Source: gitformat-bundle(5), and gitformat-pack(5).
-use Rattle.std.specs.Prelude.{◌≡◌, Bool, List, [], map, IfSome, Option, Some, Result, Ok, Err, ⊤}
+use Rattle.std.specs.Prelude.{◌≡◌, Bool, List, [], ◌∷◌, ◌++◌, codes, map, IfSome, Option, Some, None, Result, Ok, Err, ⊤}
 use Rattle.std.specs.List.{flat_map}
 use Rattle.sha1.specs.Sha1.{sha1}
 use Rattle.gx_model.specs.declared.objects.Kind.{Kind}
@@ -10,7 +10,7 @@ use Rattle.gx_model.specs.Texts.Sinks.{Taken, Took}
 use Rattle.gx_store.specs.Marked.{marked}
 use Rattle.gx_listed.specs.Listings.{Listed}
 use Rattle.gx_pack.specs.Packs.{Object, entry_text, pack_text}
-use Rattle.gx_pack.specs.Bundles.{Bundle, bundle_text}
+use Rattle.gx_pack.specs.Bundles.{Bundle, bundle_text, held_line}
 use Rattle.gx_pack.specs.Writing.{Sent, Writes}
 use Rattle.gx_kept.specs.Faults.{Stops}
 use Rattle.gx_kept.specs.declared.fault.KeptFault.{KeptFault}
@@ -20,9 +20,19 @@ use Rattle.gx_kept.specs.declared.bundle_fault.BundleFault.{BundleFault}
 abbrev pub kept_of : List Bool → List Record → List Object
 kept_of marks records = map object_of (marked marks records)
 
--- the bundle of a repository: who reads it has to have nothing
-abbrev pub bundled : Records → Bundle
-bundled r = record { had = []; refs = r.refs; objects = map object_of r.records }
+-- HEAD, where it is told what it stands for
+abbrev pub head_refs : Option Bytes → List (Bytes × Bytes)
+head_refs None = []
+head_refs (Some called) = (codes "HEAD", called) ∷ []
+
+-- its line
+abbrev pub head_line : Option Bytes → Bytes
+head_line None = []
+head_line (Some called) = held_line (codes "HEAD", called)
+
+-- the bundle of a repository, and of a HEAD: who reads it has to have nothing
+abbrev pub bundled : Option Bytes → Records → Bundle
+bundled head r = record { had = []; refs = head_refs head ++ r.refs; objects = map object_of r.records }
 
 -- entries, one behind the other
 abbrev pub entries : List Object → Bytes

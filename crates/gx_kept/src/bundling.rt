@@ -2,6 +2,7 @@
 
 ghost use Rattle.std.specs.Prelude.{◌≡◌, ◌++◌, ◌∷◌, [], length, IfSome};
 ghost use Rattle.sha1.specs.Sha1.{Holds, sha1};
+ghost use Rattle.gx_object.specs.Parts.{bytes_if};
 ghost use Rattle.gx_objects.specs.Answers.{StandsIfTold};
 ghost use Rattle.gx_listed.specs.Listings.{ListsIfTold};
 ghost use Rattle.gx_store.specs.Marked.{marked};
@@ -11,7 +12,7 @@ ghost use Rattle.gx_repo.specs.Pruning.{pruned_beside};
 ghost use Rattle.gx_kept.specs.Faults.{IsOnTheWay, Sends};
 ghost use Rattle.gx_kept.specs.Sending.{left_of};
 ghost use Rattle.gx_kept.specs.BundleFaults.{IsStopped, IsTooMany, SendsBundle};
-ghost use Rattle.gx_kept.specs.Bundling.{NamesBundle, SendsObjects, WritesObject, WritesObjects, WritesPack, bundled};
+ghost use Rattle.gx_kept.specs.Bundling.{NamesBundle, SendsObjects, WritesObject, WritesObjects, WritesPack, bundled, head_line};
 
 use crate::gone::count_marks;
 use crate::marking::marks_of;
@@ -25,7 +26,8 @@ use gx_text::{Failed, Sink};
 use std::alloc::Allocator;
 
 /// Sends the bundle of all refs and of the objects that they reach, in the order in which they are listed. Who reads it has to have
-/// nothing. Whatever the objects are, no body goes out that hasn't the name under which it is listed.
+/// nothing. `head` is what HEAD stands for, which goes before the refs: what one of them holds, so that it goes out, too. Whatever
+/// the objects are, no body goes out that hasn't the name under which it is listed.
 ///
 /// Unsupported: refs reach 2^32 objects or more, and nothing went out. Stopped by OutOfMemory: a growth was refused. ReadFailed: a
 /// read failed. Damaged: this is no repository. WriteFailed: the sink failed. What went out by then is a front of the bundle.
@@ -35,11 +37,12 @@ pub fn bundle<O: Objects, A: Allocator + Copy, W: Sink>(
     alloc: A,
     objects: &O,
     listing: &Listing<A>,
+    head: Option<Name>,
     sink: &mut W,
 ) -> Result<(), BundleFault>
     requires listed { ListsIfTold (O.told objects.now) (O.stands objects.now) listing.now }
     ensures text { IfSome (O.told objects.now)
-        (λ r. SendsBundle (bundle_text sha1 (bundled (pruned_beside [] r)))
+        (λ r. SendsBundle (bundle_text sha1 (bundled (bytes_if head) (pruned_beside [] r)))
         (W.taken sink.old) (W.taken sink.new) result) }
     ensures named { NamesBundle (O.name_of objects.now) listing.now
         (W.taken sink.old) (W.taken sink.new) result }
@@ -56,6 +59,7 @@ pub fn bundle<O: Objects, A: Allocator + Copy, W: Sink>(
         alloc,
         objects,
         listing,
+        head,
         marks.as_slice(),
         count as u32,
         sink,
@@ -68,6 +72,7 @@ fn send_bundle<O: Objects, A: Allocator + Copy, W: Sink>(
     alloc: A,
     objects: &O,
     listing: &Listing<A>,
+    head: Option<Name>,
     marks: &[bool],
     count: u32,
     sink: &mut W,
@@ -76,14 +81,14 @@ fn send_bundle<O: Objects, A: Allocator + Copy, W: Sink>(
     requires long { length marks.now ≡ length listing.now }
     requires count { count ≡ length (marked marks.now listing.now) }
     ensures text { IfSome (O.told objects.now)
-        (λ r. Sends (bundle_text sha1 (bundled (left_of marks.now r)))
+        (λ r. Sends (bundle_text sha1 (bundled (bytes_if head) (left_of marks.now r)))
         (W.taken sink.old) (W.taken sink.new) result) }
     ensures named { SendsObjects (O.name_of objects.now) (marked marks.now listing.now)
         (W.taken sink.old) (W.taken sink.new) result }
     ensures fault { IsOnTheWay (O.told objects.now) result }
 {
     let mut room = Vec::new(alloc);
-    send_head(sink, objects.ref_lines(&mut room)?)?;
+    send_head(sink, head, objects.ref_lines(&mut room)?)?;
     let mut pack = Pack::new(sink);
     let written = write_pack(objects, listing, marks, count, &mut room, &mut pack);
     let _ = pack.into_sink();
@@ -91,11 +96,24 @@ fn send_bundle<O: Objects, A: Allocator + Copy, W: Sink>(
 }
 
 /// Sends what stands before the pack, of which these are the lines of the refs.
-fn send_head<W: Sink>(sink: &mut W, lines: &[u8]) -> Result<(), Failed>
-    ensures { Sent (bundle_mark ++ (lines.now ++ 10 ∷ [])) (W.taken sink.old)
-        (W.taken sink.new) result }
+fn send_head<W: Sink>(sink: &mut W, head: Option<Name>, lines: &[u8]) -> Result<(), Failed>
+    ensures { Sent (bundle_mark ++ ((head_line (bytes_if head) ++ lines.now) ++ 10 ∷ []))
+        (W.taken sink.old) (W.taken sink.new) result }
 {
-    send_all(sink, &[b"# v2 git bundle\n", lines, b"\n"])
+    let Some(head) = head else {
+        return send_all(sink, &[b"# v2 git bundle\n", lines, b"\n"]);
+    };
+    let digits = head.hex();
+    send_all(
+        sink,
+        &[
+            b"# v2 git bundle\n",
+            digits.as_slice(),
+            b" HEAD\n",
+            lines,
+            b"\n",
+        ],
+    )
 }
 
 /// Writes the pack of the objects that are marked, of which nothing was written yet.

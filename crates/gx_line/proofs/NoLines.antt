@@ -52,4 +52,4 @@ no_ranges rows ranges e some (Change file wait change) h = differ h.1.1.0 refl
 no_ranges rows ranges e some (Stream Blobs) h = differ h refl
 no_ranges rows ranges e some (Stream trial) h = differ h.0 refl
 no_ranges rows ranges e some (Verify file salvage) h = differ h.0 refl
-no_ranges rows ranges e some (Bundle file) h = differ h.0 refl
+no_ranges rows ranges e some (Bundle file head) h = differ h.0 refl

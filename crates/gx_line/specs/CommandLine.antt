@@ -99,7 +99,7 @@ abbrev pub export_command : App
 export_command = with_rule (with_rule (with_rule (file_command (codes "export")) rules.changes) rules.no_done) rules.sent_ranges
 
 abbrev pub bundle_command : App
-bundle_command = file_command (codes "bundle")
+bundle_command = with_rule (file_command (codes "bundle")) rules.head
 
 abbrev pub where_command : App
 where_command =
@@ -291,7 +291,7 @@ Says name rows (Ask file question) = IsWord (codes "file") rows file × Asks nam
 Says name rows (Change file wait change) = IsWord (codes "file") rows file × (IsWait rows wait × Alters name rows change)
 Says name rows (Stream trial) = Tries name rows trial
 Says name rows (Verify file salvage) = (name ≡ codes "verify") × (IsOption (codes "salvage") rows salvage × IsWord (codes "file") rows file)
-Says name rows (Bundle file) = (name ≡ codes "bundle") × IsWord (codes "file") rows file
+Says name rows (Bundle file head) = (name ≡ codes "bundle") × (IsOption (codes "head") rows head × IsWord (codes "file") rows file)
 
 -- the commands that read a stream and keep nothing
 abbrev pub stream_names : List Text

@@ -43,9 +43,10 @@ pub enum Line<'a> {
         file: &'a str,
         salvage: Option<&'a str>,
     },
-    /// All refs of a store, and the objects that they reach, go out as a bundle.
+    /// All refs of a store, and the objects that they reach, go out as a bundle. With `head` this ref is HEAD, too.
     Bundle {
         file: &'a str,
+        head: Option<&'a str>,
     },
 }
 
@@ -136,7 +137,10 @@ fn file_line<'a>(
             file,
             salvage: option_of(matches, "salvage"),
         }),
-        "bundle" => Ok(Line::Bundle { file }),
+        "bundle" => Ok(Line::Bundle {
+            file,
+            head: option_of(matches, "head"),
+        }),
         _ => ask_or_change(alloc, name, matches, file),
     }
 }

@@ -34,7 +34,7 @@ pub(crate) fn run_line(run: &Run<'_>, line: &Line<'_>) -> Result<u8, RunFault> {
             file,
             salvage: None,
         } => verify(run, file, state)?,
-        Line::Bundle { file } => bundle(run, file, state)?,
+        Line::Bundle { file, head } => bundle(run, file, *head, state)?,
     }
     Ok(0)
 }
@@ -51,7 +51,7 @@ fn files_of<'a>(line: &Line<'a>) -> (Option<&'a str>, Option<&'a str>) {
     match line {
         Line::Ask { file, .. } | Line::Change { file, .. } => (Some(*file), Some(*file)),
         Line::Verify { file, salvage } => (Some(*file), *salvage),
-        Line::Bundle { file } => (Some(*file), None),
+        Line::Bundle { file, .. } => (Some(*file), None),
         Line::Stream(_) => (None, None),
     }
 }

@@ -304,7 +304,8 @@ pub(crate) const BUNDLE: Page = Page {
 Writes a store as a bundle, which git clone, git fetch and git bundle take as it
 is. It has all refs, and the objects that they reach, under their names.
 
-It tells no HEAD: git clone needs --mirror, or --branch and a name.",
+With --head git clone checks REF out. Otherwise it needs --mirror, or --branch
+and a name.",
     details: "\
 Output:
   The bundle, of version 2, as in gitformat-bundle(5): the refs in the order of
@@ -314,6 +315,8 @@ Output:
 Refusals:
   gx: read failed
   gx: store: KIND       as gx --help has it
+  gx: revision 1: UnknownRef
+                        REF is no ref of the store
   gx: bundle: Unsupported
                         refs reach 2^32 objects or more, as no pack can have.
                         Nothing was written

@@ -22,5 +22,5 @@ returns c = λ a h.
     let seventh = c.with_command-gx-7.ensures six put_command sixth c.put_command.ensures in
     let eighth = c.with_command-gx-8.ensures seven gc_command seventh c.gc_command.ensures in
     let ninth = c.with_command-gx-9.ensures eight export_command eighth c.export_command.ensures in
-    let tenth = c.with_command-gx-10.ensures nine bundle_command ninth c.file_command.ensures in
-    c.with_command.ensures ten _ tenth c.file_command-2.ensures
+    let tenth = c.with_command-gx-10.ensures nine bundle_command ninth c.bundle_command.ensures in
+    c.with_command.ensures ten _ tenth c.file_command.ensures

@@ -315,8 +315,8 @@ Output:
 Refusals:
   gx: read failed
   gx: store: KIND       as gx --help has it
-  gx: revision 1: UnknownRef
-                        REF is no ref of the store
+  gx: revision 1: KIND  KIND is UnknownRef where REF is no ref of the store,
+                        and WrongKind where it holds no commit
   gx: bundle: Unsupported
                         refs reach 2^32 objects or more, as no pack can have.
                         Nothing was written

@@ -70,13 +70,14 @@ def test_clone_checks_out_head(
 
 
 def test_unknown_head_is_refused(gx: Program, new_store) -> None:
-    plain, growing = new_store(name="plain"), new_store(name="growing")
+    """There is no such ref, or it holds a tag, which git checks out nowhere."""
+    plain, growing = (new_store(STREAMS["two branches"], name) for name in ("plain", "growing"))
     gx.prints("grow", growing)
     for store in plain, growing:
-        done = gx("bundle", "--head", "none", store)
-        assert done.status == 1
-        assert not done.out
-        assert done.err == b"gx: revision 1: UnknownRef\n"
+        for head, kind in ("none", b"UnknownRef"), ("refs/tags/t", b"WrongKind"):
+            done = gx("bundle", "--head", head, store)
+            assert (done.status, done.out) == (1, b"")
+            assert done.err == b"gx: revision 1: " + kind + b"\n"
 
 
 def test_range_is_no_operand(gx: Program, new_store) -> None:

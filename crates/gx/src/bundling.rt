@@ -10,7 +10,7 @@ use crate::streams::devices::{Noted, flushed};
 use crate::streams::progress::ProgressLine;
 use gx_cli::CliFault;
 use gx_listed::Listing;
-use gx_object::Name;
+use gx_object::{Kind, Name};
 use gx_objects::Objects;
 use gx_rev::RevFault;
 use gx_text::IntoWrite;
@@ -35,30 +35,40 @@ pub(crate) fn bundle(
         if !has_room_for_rows(&look) {
             return Err(RunFault::Damaged);
         }
-        let head = object_of_head(&look, head)?;
+        let head = commit_of_head(alloc, &look, head)?;
         let listing = look.listing(alloc, state)?;
         return write_bundle(run, &look, &listing, head);
     }
     let store = read_store(run, file)?;
     let repo = open_text(run, store, state)?;
-    let head = object_of_head(&repo, head)?;
+    let head = commit_of_head(alloc, &repo, head)?;
     let listing = gx_kept::list(alloc, &repo, state)?;
     write_bundle(run, &repo, &listing, head)
 }
 
-/// What the ref holds that HEAD is to be, where it is to be one.
-fn object_of_head<O: Objects>(objects: &O, head: Option<&str>) -> Result<Option<Name>, RunFault> {
+/// The commit of the ref that HEAD is to be, where it is to be one. Git checks out nothing else.
+fn commit_of_head<O: Objects>(
+    alloc: Global,
+    objects: &O,
+    head: Option<&str>,
+) -> Result<Option<Name>, RunFault> {
     let Some(called) = head else {
         return Ok(None);
     };
-    let found = objects.object_of_ref(called.as_bytes())?;
-    if found.is_none() {
-        return Err(RunFault::Command(CliFault::Revision {
-            number: 1,
-            kind: RevFault::UnknownRef,
-        }));
+    let Some(name) = objects.object_of_ref(called.as_bytes())? else {
+        return Err(refused_head(RevFault::UnknownRef));
+    };
+    let mut room = Vec::new(alloc);
+    match objects.object(&name, &mut room)? {
+        Some(object) if object.kind == Kind::Commit => Ok(Some(name)),
+        Some(_) => Err(refused_head(RevFault::WrongKind)),
+        None => Err(RunFault::Damaged),
     }
-    Ok(found)
+}
+
+/// A ref is the first that a command line names, where it names no other.
+fn refused_head(kind: RevFault) -> RunFault {
+    RunFault::Command(CliFault::Revision { number: 1, kind })
 }
 
 /// Writes the bundle of objects that are listed, through a buffer, and shows how much went out.

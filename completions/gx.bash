@@ -23,7 +23,7 @@ __gx_operands() {
   operands=()
   for ((i = 2; i < ${#words[@]} - 1; i++)); do
     case ${words[i]} in
-      --max-count | -n | --prefix | --format | --keep | --push | --expect-stamp | --wait)
+      --max-count | -n | --prefix | --format | --head | --keep | --push | --expect-stamp | --wait)
         i=$((i + 1))
         ;;
       -?*) ;;
@@ -105,6 +105,7 @@ __gx_options() {
     import) __gx_answer '' "$1" --done --force --push --report --explain --wait --help ;;
     try | check) __gx_answer '' "$1" --done --force --explain --help ;;
     verify) __gx_answer '' "$1" --salvage --help ;;
+    bundle) __gx_answer '' "$1" --head --help ;;
     gc) __gx_answer '' "$1" --keep --report --wait --help ;;
     export) __gx_answer '' "$1" --changes --no-done --help ;;
     log) __gx_answer '' "$1" --all --stdin --format --reverse --max-count -n --parents --help ;;
@@ -127,13 +128,13 @@ __gx_words_of_command() {
   local -a operands
   __gx_operands
   case ${words[1]}:${#operands[@]} in
-    init:0 | grow:0 | verify:0 | import:0 | drop:0 | set-ref:0 | put:0 | gc:0 | export:0 | show:0 | ls:0 | archive:0 | batch:0 | refs:0 | log:0 | rev-parse:0) __gx_files "$last" ;;
+    init:0 | grow:0 | verify:0 | import:0 | drop:0 | set-ref:0 | put:0 | gc:0 | export:0 | bundle:0 | show:0 | ls:0 | archive:0 | batch:0 | refs:0 | log:0 | rev-parse:0) __gx_files "$last" ;;
     show:1 | ls:1 | archive:1 | drop:[1-9]* | set-ref:1 | export:[1-9]* | log:[1-9]* | rev-parse:[1-9]*) __gx_revisions "$last" ;;
   esac
 }
 
 _gx() {
-  local -a words commands=(blobs try check adapt where init grow verify import drop set-ref put gc export show ls archive batch refs log rev-parse)
+  local -a words commands=(blobs try check adapt where init grow verify import drop set-ref put gc export bundle show ls archive batch refs log rev-parse)
   COMPREPLY=()
   # behind < and > bash completes files by itself
   [[ ${COMP_WORDS[COMP_CWORD - 1]} != *[\<\>]* ]] || return 0

@@ -32,6 +32,7 @@ ENUMS = {
         "gx_objects/src/fault.rt LookFault",
     ],
     "Exports": ["gx_export/src/fault.rt ExportFault"],
+    "Bundles": ["gx_kept/src/bundle_fault.rt BundleFault"],
     "Adapted streams": ["gx_adapt/src/fault.rt AdaptFault"],
     "Changes of refs": ["gx_push/src/fault.rt RefFault"],
     "Places of commands": ["gx_where/src/fault.rt WhereFault"],
@@ -49,7 +50,7 @@ ENUMS = {
 NUMBERED = "gx_cli/src/fault.rt"
 PARTS = {"keep": "Objects to keep"}
 # what no line of a push is refused for, since its objects come from the stream, and what is told without a part
-UNTOLD = {("Pushes", word) for word in ("BadRefName", "UnknownObject", "WrongKind")} | {("Stores", "ReadFailed")}
+UNTOLD = {("Pushes", word) for word in ("BadRefName", "UnknownObject", "WrongKind")} | {("Stores", "ReadFailed"), ("Bundles", "Stopped")}
 
 
 def words_of(place):

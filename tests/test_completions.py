@@ -46,8 +46,8 @@ _gx
 LINES = [
     (
         "gx ",
-        "blobs try check adapt where init grow verify import drop set-ref put gc export show ls archive batch"
-        " refs log rev-parse help --help",
+        "blobs try check adapt where init grow verify import drop set-ref put gc export bundle show ls archive"
+        " batch refs log rev-parse help --help",
     ),
     ("gx -", "--help --explain --version"),
     ("gx --explain im", "import"),
@@ -103,6 +103,10 @@ LINES = [
     ("gx log --max-count=3 st", "store"),
     ("gx init su", "sub"),
     ("gx ex", "export"),
+    ("gx bu", "bundle"),
+    ("gx bundle -", "--head --help"),
+    ("gx bundle --head main st", "store"),
+    ("gx bundle store ", ""),
     ("gx d", "drop"),
     ("gx set-ref -", "--force --stdin --wait --help"),
     ("gx set-ref --force st", "store"),

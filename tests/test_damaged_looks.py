@@ -25,6 +25,7 @@ DAMAGED = b"gx: store: Damaged\n"
 ASKED_OF_DAMAGED = [
     ["archive", "STORE", "main"],
     ["batch", "STORE"],
+    ["bundle", "STORE"],
     ["log", "STORE", "main"],
     ["ls", "-r", "STORE", "main"],
     ["refs", "STORE"],

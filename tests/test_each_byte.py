@@ -101,6 +101,7 @@ CASES = [
     Case("export STORE", MERGED),
     Case("export STORE", MODES),
     Case("export --changes STORE", MERGED),
+    Case("bundle STORE", MERGED),
     Case("archive STORE main:", FIRST),
     Case("log --parents STORE a b", MERGED),
     Case("ls -r STORE main", WIDE),

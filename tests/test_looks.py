@@ -341,6 +341,7 @@ ANSWERED = {
     "files": (["ls", "-r", "STORE", "main"], b""),
     "meetings": (["log", "STORE", "main~2...main~5"], b""),
     "archive": (["archive", "STORE", "main"], b""),
+    "bundle": (["bundle", "--head=main", "STORE"], b""),
     "batch": (["batch", "STORE"], b"main\nmain:dir\nnone\nmain~7:dir/file3\n"),
     "check": (["batch", "--check", "STORE"], b"main\nmain:dir\nnone\nmain~7:dir/file3\n"),
     "command": (["batch", "--command", "STORE"], b"refs\nlog -n 2 main\narchive main~299\nls main\n"),

@@ -259,6 +259,7 @@ QUESTIONS = [
     ["export", "--changes", "STORE", "main", "^v"],
     ["export", "--changes", "STORE", "main...v~1"],
     ["export", "--changes", "STORE", "main^!"],
+    ["bundle", "STORE"],
     ["verify", "STORE"],
 ]
 SENT = re.compile(rb"^blob\nmark :\d+\ndata (\d+)\n", re.M)

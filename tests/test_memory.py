@@ -40,6 +40,7 @@ QUESTIONS = {
     "ls -r FILE main": b"",
     "log --format=raw FILE main": b"",
     "archive FILE main": b"",
+    "bundle FILE": b"",
     "batch FILE": b"main\nmain:test.txt\nnone\n",
     "batch --check FILE": b"main\nmain:test.txt\nnone\n",
     "batch --command FILE": b"refs\narchive main\nlog main\nls -r main\n",

@@ -5,6 +5,8 @@ use Rattle.gx_changes.specs.declared.fault.ChangesFault.TheVariants as changes
 use Rattle.gx_cli.specs.FaultLines as command
 use Rattle.gx_cli.specs.declared.fault.CliFault.TheVariants as cli
 use Rattle.gx_export.specs.declared.fault.ExportFault.TheVariants as export
+use Rattle.gx_kept.specs.declared.bundle_fault.BundleFault.{BundleFault}
+use Rattle.gx_kept.specs.declared.bundle_fault.BundleFault.TheVariants.{Stopped, Unsupported}
 use Rattle.gx_kept.specs.declared.fault.KeptFault.{KeptFault}
 use Rattle.gx_kept.specs.declared.fault.KeptFault.TheVariants as kept
 use Rattle.gx_objects.specs.declared.fault.LookFault.{LookFault}
@@ -12,7 +14,7 @@ use Rattle.gx_objects.specs.declared.fault.LookFault.TheVariants as look
 use Rattle.gx_told.specs.declared.fault.ToldFault.{ToldFault}
 use Rattle.gx_told.specs.declared.fault.ToldFault.TheVariants as told
 use Rattle.gx.specs.declared.fault.RunFault.{RunFault}
-use Rattle.gx.specs.declared.fault.RunFault.TheVariants.{Command, LockFailed, LongName, StoreChanged, BadStamp, RandomFailed, Damaged, NotSmall}
+use Rattle.gx.specs.declared.fault.RunFault.TheVariants.{Command, LockFailed, LongName, StoreChanged, BadStamp, RandomFailed, Damaged, NotSmall, ManyObjects}
 
 -- the line of a refusal, without its line feed
 abbrev pub line_of : RunFault → List ℕ
@@ -24,6 +26,7 @@ line_of BadStamp = codes "gx: bad stamp"
 line_of RandomFailed = codes "gx: random bytes failed"
 line_of Damaged = codes "gx: store: Damaged"
 line_of NotSmall = codes "gx: no small repository"
+line_of ManyObjects = codes "gx: bundle: Unsupported"
 
 -- why a run is refused that can't look into its store
 abbrev pub of_look : LookFault → RunFault
@@ -37,6 +40,11 @@ of_kept kept.OutOfMemory = Command cli.OutOfMemory
 of_kept kept.ReadFailed = Command cli.ReadFailed
 of_kept kept.Damaged = Damaged
 of_kept kept.WriteFailed = Command cli.WriteFailed
+
+-- why a run is refused that writes a bundle
+abbrev pub of_bundle : BundleFault → RunFault
+of_bundle Unsupported = ManyObjects
+of_bundle (Stopped fault) = of_kept fault
 
 -- why a run is refused whose question is
 abbrev pub of_told : ToldFault → RunFault

@@ -1,13 +1,13 @@
 //! Why a run of the program is refused.
 
 ghost use Rattle.std.specs.Prelude.{◌≡◌, Some};
-ghost use Rattle.gx.specs.RunFaults.{line_of, of_changes, of_kept, of_look, of_told};
+ghost use Rattle.gx.specs.RunFaults.{line_of, of_bundle, of_changes, of_kept, of_look, of_told};
 
 use gx_adapt::AdaptFault;
 use gx_changes::ChangesFault;
 use gx_cli::{BlobsKind, CliFault};
 use gx_export::ExportFault;
-use gx_kept::KeptFault;
+use gx_kept::{BundleFault, KeptFault};
 use gx_objects::LookFault;
 use gx_told::ToldFault;
 use std::alloc::AllocError;
@@ -33,6 +33,8 @@ pub(crate) enum RunFault {
     Damaged,
     /// The import can't be done over a small repository, as it is asked for.
     NotSmall,
+    /// There are more objects than a bundle can have.
+    ManyObjects,
 }
 
 impl fmt::Display for RunFault {
@@ -48,6 +50,7 @@ impl fmt::Display for RunFault {
             RunFault::RandomFailed => f.write_str("gx: random bytes failed"),
             RunFault::Damaged => f.write_str("gx: store: Damaged"),
             RunFault::NotSmall => f.write_str("gx: no small repository"),
+            RunFault::ManyObjects => f.write_str("gx: bundle: Unsupported"),
         }
     }
 }
@@ -100,6 +103,17 @@ impl From<KeptFault> for RunFault {
             KeptFault::ReadFailed => RunFault::Command(CliFault::ReadFailed),
             KeptFault::Damaged => RunFault::Damaged,
             KeptFault::WriteFailed => RunFault::Command(CliFault::WriteFailed),
+        }
+    }
+}
+
+impl From<BundleFault> for RunFault {
+    ghost from_gives = { λ bundle fault. fault ≡ of_bundle bundle };
+
+    fn from(fault: BundleFault) -> RunFault {
+        match fault {
+            BundleFault::Unsupported => RunFault::ManyObjects,
+            BundleFault::Stopped(kept) => RunFault::from(kept),
         }
     }
 }

@@ -138,6 +138,7 @@ without_room (line.Ask path question) = Some (room_of_question question)
 without_room (line.Change path wait change) = room_of_change change
 without_room (line.Stream trial) = None
 without_room (line.Verify path salvage) = None
+without_room (line.Bundle path head) = None
 
 -- a format of these parts was read, or the text that was read is none; memory runs out only for one
 abbrev pub ReadsParts : {A : Type 0} → Option (List Part) → Result (Format A) CliFault → Type 0
@@ -263,6 +264,7 @@ module _ (name : Kind → Bytes → Bytes) {A : Type 0} where
   Serves (line.Change path wait change) store coming was now o = ServesChange change store coming was now o
   Serves (line.Stream trial) store coming was now o = ServesStream trial coming was now o
   Serves (line.Verify path salvage) store coming was now o = IsRefused ReadFailed o × (now ≡ was)
+  Serves (line.Bundle path head) store coming was now o = IsRefused ReadFailed o × (now ≡ was)
 
   -- the import of an export, in any form, into an empty store makes that repository again, as far as its refs reach
   abbrev pub ChangesExported : Change → Bytes → Option Coming → Outcome A → Type 0

@@ -47,6 +47,8 @@ pub struct Outcome<A: Allocator> {
 ///
 /// Importing what was exported, in any form, makes the repository again, as far as its refs reach: the same refs and object names.
 ///
+/// `bundle` is refused by `ReadFailed`, too: it's asked of whatever holds objects.
+///
 /// Cost: that of a copy of the store's text, and of reading it, where one is read; for `import` also that of the import
 /// and the next text, and for `export` that of the export.
 pub fn serve<N: Namer + Drop, R: Source + Drop, W: Sink, A: Allocator + Copy>(
@@ -246,7 +248,7 @@ fn without_room(line: &Line<'_>) -> Option<CliFault>
             wait: _,
             change,
         } => room_of_change(change),
-        Line::Stream(_) | Line::Verify { .. } => None,
+        Line::Stream(_) | Line::Verify { .. } | Line::Bundle { .. } => None,
     }
 }
 

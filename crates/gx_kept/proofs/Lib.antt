@@ -2,6 +2,7 @@ mod CollectedTexts
 mod GoneObjects
 mod LaidMarks
 mod ListedRecords
+mod ListedStores
 mod MarkedTexts
 mod MarkedTips
 mod SentMarked
@@ -12,3 +13,6 @@ mod Spreading
 mod Stopping
 mod TailLines
 mod Weights
+mod WrittenObjects
+mod WrittenPacks
+mod SentBundles

@@ -116,6 +116,14 @@ own_record (r ∷ rs) (suc k) held d e =
     let turned : same_bytes held.name r.name ≡ false = false_from_ne_true _ (λ t. other_there r.name rs k held d.0 e (same_is held.name r.name (passes _ t))) in
     ap (λ b. cond b (Some r) (record_named rs held.name)) turned ∙ own_record rs k held d.1 e
 
+-- in front of it, no record has its name
+pub front_lacks : (rs : List Record) (k : ℕ) (held : Record) → AreDistinct (map (λ r. r.name) rs) → slice_get rs k ≡ Some held → place_named (take k rs) held.name ≡ None
+front_lacks [] k held d e = absurd (cc)
+front_lacks (r ∷ rs) zero held d e = refl
+front_lacks (r ∷ rs) (suc k) held d e =
+    let turned : same_bytes held.name r.name ≡ false = false_from_ne_true _ (λ t. other_there r.name rs k held d.0 e (same_is held.name r.name (passes _ t))) in
+    position_step (λ x. same_bytes held.name x.name) r (take k rs) ∙ ap (λ b. cond b (Some 0) (option_map suc (place_named (take k rs) held.name))) turned ∙ ap (option_map suc) (front_lacks rs k held d.1 e)
+
 -- ---- what a record names
 
 module _ (rs : List Record) (k : ℕ) where

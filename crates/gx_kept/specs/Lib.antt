@@ -3,3 +3,5 @@ pub mod Faults
 pub mod Layouts
 pub mod Marking
 pub mod Sending
+pub mod BundleFaults
+pub mod Bundling

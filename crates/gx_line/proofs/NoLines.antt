@@ -10,7 +10,7 @@ use Rattle.gx_asks.specs.declared.question.Question.TheVariants.{Export, ExportR
 use Rattle.gx_asks.specs.declared.trial.Trial.TheVariants.{Blobs}
 use Rattle.gx_line.specs.CommandLine.{Alters, Asks, HasCause, IsAnswer, IsFlag, IsRefused, Says, Tries}
 use Rattle.gx_line.specs.declared.command_line.Line.{Line}
-use Rattle.gx_line.specs.declared.command_line.Line.TheVariants.{Ask, Change, Stream, Verify}
+use Rattle.gx_line.specs.declared.command_line.Line.TheVariants.{Ask, Bundle, Change, Stream, Verify}
 use Rattle.gx_line.specs.declared.fault.LineFault.{LineFault}
 use Rattle.gx_line.specs.declared.fault.LineFault.TheVariants.{OutOfMemory, Status}
 
@@ -52,3 +52,4 @@ no_ranges rows ranges e some (Change file wait change) h = differ h.1.1.0 refl
 no_ranges rows ranges e some (Stream Blobs) h = differ h refl
 no_ranges rows ranges e some (Stream trial) h = differ h.0 refl
 no_ranges rows ranges e some (Verify file salvage) h = differ h.0 refl
+no_ranges rows ranges e some (Bundle file head) h = differ h.0 refl

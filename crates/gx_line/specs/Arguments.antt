@@ -99,6 +99,10 @@ keep = text (codes "keep")
 abbrev pub salvage : Rule
 salvage = text (codes "salvage")
 
+-- a ref that is HEAD, too
+abbrev pub head : Rule
+head = text (codes "head")
+
 -- which file it is that is replaced, which has to be told
 abbrev pub expect_stamp : Rule
 expect_stamp = record (text (codes "expect-stamp")) { required = true }

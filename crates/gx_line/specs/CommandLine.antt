@@ -24,7 +24,7 @@ use Rattle.gx_asks.specs.declared.question.Question.TheVariants.{Refs, Show, Ls,
 use Rattle.gx_asks.specs.declared.trial.Trial.{Trial}
 use Rattle.gx_asks.specs.declared.trial.Trial.TheVariants.{Blobs, Try, Check, Adapt, Where, WhereFault}
 use Rattle.gx_line.specs.declared.command_line.Line.{Line}
-use Rattle.gx_line.specs.declared.command_line.Line.TheVariants.{Ask, Change, Stream, Verify}
+use Rattle.gx_line.specs.declared.command_line.Line.TheVariants.{Ask, Bundle, Change, Stream, Verify}
 use Rattle.gx_line.specs.declared.fault.LineFault.{LineFault}
 use Rattle.gx_line.specs.declared.fault.LineFault.TheVariants.{OutOfMemory, Status}
 
@@ -98,6 +98,9 @@ gc_command = with_wait (with_rule (with_rule (file_command (codes "gc")) rules.r
 abbrev pub export_command : App
 export_command = with_rule (with_rule (with_rule (file_command (codes "export")) rules.changes) rules.no_done) rules.sent_ranges
 
+abbrev pub bundle_command : App
+bundle_command = with_rule (file_command (codes "bundle")) rules.head
+
 abbrev pub where_command : App
 where_command =
     with_rule (with_rule (with_rule (with_rule (new_app (codes "where")) rules.place) rules.fault) (rules.bound rules.done))
@@ -152,8 +155,8 @@ with_stream_commands a =
 -- the commands on a store as a whole
 abbrev pub with_store_commands : App → App
 with_store_commands a =
-    under (under (under (under (under (under (under (with_whole_commands a) import_command) drop_command) set_ref_command)
-    put_command) gc_command) export_command) (file_command (codes "refs"))
+    under (under (under (under (under (under (under (under (with_whole_commands a) import_command) drop_command) set_ref_command)
+    put_command) gc_command) export_command) bundle_command) (file_command (codes "refs"))
 
 -- the commands that show objects
 abbrev pub with_tree_commands : App → App
@@ -288,6 +291,7 @@ Says name rows (Ask file question) = IsWord (codes "file") rows file × Asks nam
 Says name rows (Change file wait change) = IsWord (codes "file") rows file × (IsWait rows wait × Alters name rows change)
 Says name rows (Stream trial) = Tries name rows trial
 Says name rows (Verify file salvage) = (name ≡ codes "verify") × (IsOption (codes "salvage") rows salvage × IsWord (codes "file") rows file)
+Says name rows (Bundle file head) = (name ≡ codes "bundle") × (IsOption (codes "head") rows head × IsWord (codes "file") rows file)
 
 -- the commands that read a stream and keep nothing
 abbrev pub stream_names : List Text
@@ -296,6 +300,10 @@ stream_names = codes "blobs" ∷ codes "try" ∷ codes "check" ∷ codes "adapt"
 -- the commands that change a store
 abbrev pub change_names : List Text
 change_names = codes "init" ∷ codes "grow" ∷ codes "import" ∷ codes "drop" ∷ codes "set-ref" ∷ codes "put" ∷ codes "gc" ∷ []
+
+-- the commands that have to do with a store as a whole, and neither change it nor ask a question of it
+abbrev pub whole_names : List Text
+whole_names = codes "verify" ∷ codes "bundle" ∷ []
 
 -- the name is none of these
 abbrev pub IsNoneOf : List Text → Text → Type 0

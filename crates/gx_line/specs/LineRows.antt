@@ -24,6 +24,7 @@ line_rows =
     ∷ record { words = codes "import" ∷ codes "--push" ∷ codes "refs" ∷ codes "a.gx" ∷ []; taken = true }
     ∷ record { words = codes "gc" ∷ codes "--keep" ∷ codes "names" ∷ codes "a.gx" ∷ []; taken = true }
     ∷ record { words = codes "put" ∷ codes "--expect-stamp=new" ∷ codes "a.gx" ∷ []; taken = true }
+    ∷ record { words = codes "bundle" ∷ codes "--head=main" ∷ codes "a.gx" ∷ []; taken = true }
     ∷ record { words = codes "refs" ∷ codes "a.gx" ∷ []; taken = true }
     ∷ record { words = codes "show" ∷ codes "a.gx" ∷ codes "main" ∷ []; taken = true }
     ∷ record { words = codes "ls" ∷ codes "--recursive" ∷ codes "a.gx" ∷ codes "main" ∷ []; taken = true }

@@ -43,6 +43,11 @@ pub enum Line<'a> {
         file: &'a str,
         salvage: Option<&'a str>,
     },
+    /// All refs of a store, and the objects that they reach, go out as a bundle. With `head` this ref is HEAD, too.
+    Bundle {
+        file: &'a str,
+        head: Option<&'a str>,
+    },
 }
 
 /// The line that the words after the program's name give.
@@ -132,6 +137,10 @@ fn file_line<'a>(
             file,
             salvage: option_of(matches, "salvage"),
         }),
+        "bundle" => Ok(Line::Bundle {
+            file,
+            head: option_of(matches, "head"),
+        }),
         _ => ask_or_change(alloc, name, matches, file),
     }
 }
@@ -146,7 +155,7 @@ fn ask_or_change<'a>(
 ) -> Result<Line<'a>, LineFault>
     requires file { first_of (codes "file") (rows_of (found_of matches.now)) ≡ Some file.now }
     requires other { say.IsNoneOf say.stream_names name.now }
-    requires unverified { name.now ≡ codes "verify" → ⊥ }
+    requires neither { say.IsNoneOf say.whole_names name.now }
     ensures line { IfOk result (λ line. say.Says name.now (rows_of (found_of matches.now)) line) }
     ensures refused { IfErr result (say.IsRefused name.now (rows_of (found_of matches.now))) }
 {

@@ -1,5 +1,6 @@
 //! What runs the command of each line.
 
+use crate::bundling::bundle;
 use crate::fault::RunFault;
 use crate::questions::ask;
 use crate::run::Run;
@@ -33,6 +34,7 @@ pub(crate) fn run_line(run: &Run<'_>, line: &Line<'_>) -> Result<u8, RunFault> {
             file,
             salvage: None,
         } => verify(run, file, state)?,
+        Line::Bundle { file, head } => bundle(run, file, *head, state)?,
     }
     Ok(0)
 }
@@ -49,6 +51,7 @@ fn files_of<'a>(line: &Line<'a>) -> (Option<&'a str>, Option<&'a str>) {
     match line {
         Line::Ask { file, .. } | Line::Change { file, .. } => (Some(*file), Some(*file)),
         Line::Verify { file, salvage } => (Some(*file), *salvage),
+        Line::Bundle { file, .. } => (Some(*file), None),
         Line::Stream(_) => (None, None),
     }
 }

@@ -154,6 +154,7 @@ fn with_store_commands<'a>(
     let gx = with_command(gx, put_command(alloc));
     let gx = with_command(gx, gc_command(alloc));
     let gx = with_command(gx, export_command(alloc));
+    let gx = with_command(gx, bundle_command(alloc));
     with_command(gx, file_command(alloc, "refs", stores::REFS))
 }
 
@@ -351,6 +352,18 @@ fn export_command<'a>(alloc: Global) -> Result<Command<'a>, AllocError>
     let export = with_argument(file_command(alloc, "export", stores::EXPORT), changes);
     let export = with_argument(export, no_done);
     with_argument(export, ranges)
+}
+
+fn bundle_command<'a>(alloc: Global) -> Result<Command<'a>, AllocError>
+    ensures { say.Makes result say.bundle_command }
+{
+    let head = text(
+        alloc,
+        "head",
+        "REF",
+        "Tells this ref as HEAD, too, so that git clone checks it out",
+    );
+    with_argument(file_command(alloc, "bundle", stores::BUNDLE), head)
 }
 
 /// The commands that show objects.

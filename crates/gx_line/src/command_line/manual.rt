@@ -76,9 +76,11 @@ Refusals:
                         BadVersion, Truncated, BadRecord, NameMismatch,
                         DuplicateObject, Dangling, BadObject, BadRef, RefOrder,
                         TrailingBytes or BadRows. Questions of a growing store,
-                        exports of its ranges and gc tell Damaged: gx verify
-                        tells the first fault, gx verify --salvage saves refs
+                        exports of its ranges, bundle and gc tell Damaged:
+                        gx verify tells the first fault, and
+                        gx verify --salvage saves refs
   gx: export: KIND      OutOfMemory or WriteFailed
+  gx: bundle: KIND      Unsupported
   gx: adapt: KIND       OutOfMemory, ReadFailed, WriteFailed, TruncatedData or
                         BadNumber
   gx: where: ...        as gx where --help has it

@@ -22,7 +22,7 @@ pub(super) fn question_of<'a>(
 ) -> Result<Question<'a>, LineFault>
     requires other { say.IsNoneOf say.stream_names name.now }
     requires unchanging { say.IsNoneOf say.change_names name.now }
-    requires unverified { name.now ≡ codes "verify" → ⊥ }
+    requires neither { say.IsNoneOf say.whole_names name.now }
     ensures question { IfOk result (say.Asks name.now (rows_of (found_of matches.now))) }
     ensures refused { IfErr result (say.IsRefused name.now (rows_of (found_of matches.now))) }
 {

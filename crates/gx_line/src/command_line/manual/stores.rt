@@ -297,6 +297,33 @@ Refusals:
   gx: out of memory",
 };
 
+/// The page of `bundle`.
+pub(crate) const BUNDLE: Page = Page {
+    about: "Writes a store as a bundle, as git bundle makes one",
+    description: "\
+Writes a store as a bundle, which git clone, git fetch and git bundle take as it
+is. It has all refs, and the objects that they reach, under their names.
+
+With --head git clone checks REF out. Otherwise it needs --mirror, or --branch
+and a name.",
+    details: "\
+Output:
+  The bundle, of version 2, as in gitformat-bundle(5): the refs in the order of
+  their names' bytes, and a pack with the objects in the order in which they
+  came into the store. They aren't compressed.
+
+Refusals:
+  gx: read failed
+  gx: store: KIND       as gx --help has it
+  gx: revision 1: KIND  KIND is UnknownRef where REF is no ref of the store,
+                        and WrongKind where it holds no commit
+  gx: bundle: Unsupported
+                        refs reach 2^32 objects or more, as no pack can have.
+                        Nothing was written
+  gx: write failed      what was written is the bundle's beginning
+  gx: out of memory     so it is here",
+};
+
 /// The page of `refs`.
 pub(crate) const REFS: Page = Page {
     about: "Lists the refs",

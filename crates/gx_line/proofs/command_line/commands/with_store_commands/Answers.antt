@@ -1,4 +1,4 @@
-use Rattle.gx_line.specs.CommandLine.{drop_command, export_command, gc_command, grow_command, import_command, init_command, put_command, set_ref_command, under, verify_command}
+use Rattle.gx_line.specs.CommandLine.{bundle_command, drop_command, export_command, gc_command, grow_command, import_command, init_command, put_command, set_ref_command, under, verify_command}
 use Rattle.gx_line.proofs.command_line.commands.with_store_commands.Goals as goal
 
 pub returns : goal.returns
@@ -12,6 +12,7 @@ returns c = λ a h.
     let seven = under six put_command in
     let eight = under seven gc_command in
     let nine = under eight export_command in
+    let ten = under nine bundle_command in
     let first = c.with_command-gx.ensures a init_command h c.init_command.ensures in
     let second = c.with_command-gx-2.ensures one grow_command first c.grow_command.ensures in
     let third = c.with_command-gx-3.ensures two verify_command second c.verify_command.ensures in
@@ -21,4 +22,5 @@ returns c = λ a h.
     let seventh = c.with_command-gx-7.ensures six put_command sixth c.put_command.ensures in
     let eighth = c.with_command-gx-8.ensures seven gc_command seventh c.gc_command.ensures in
     let ninth = c.with_command-gx-9.ensures eight export_command eighth c.export_command.ensures in
-    c.with_command.ensures nine _ ninth c.file_command.ensures
+    let tenth = c.with_command-gx-10.ensures nine bundle_command ninth c.bundle_command.ensures in
+    c.with_command.ensures ten _ tenth c.file_command.ensures

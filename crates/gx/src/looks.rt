@@ -40,8 +40,22 @@ pub(crate) fn growing_file<'a>(
     }
 }
 
-/// Opens a file of which the first line is a growing store's. A look comes first, since to open a pipe would wait.
+/// Opens a file of which the first line is a growing store's.
 pub(crate) fn open_growing<'a>(run: &'a Run<'a>, file: &'a str) -> io::Result<Option<FileAt<'a>>> {
+    open_in_form(run, file, StoreForm::Growing)
+}
+
+/// Opens a file of which the first line isn't a growing store's.
+pub(crate) fn open_plain<'a>(run: &'a Run<'a>, file: &'a str) -> io::Result<Option<FileAt<'a>>> {
+    open_in_form(run, file, StoreForm::Plain)
+}
+
+/// Opens a file whose text is of a form. A look comes first, since to open a pipe would wait.
+fn open_in_form<'a>(
+    run: &'a Run<'a>,
+    file: &'a str,
+    form: StoreForm,
+) -> io::Result<Option<FileAt<'a>>> {
     let mut host = Host { run, file };
     if host.look(file)?.kind != FileKind::File {
         return Ok(None);
@@ -53,7 +67,7 @@ pub(crate) fn open_growing<'a>(run: &'a Run<'a>, file: &'a str) -> io::Result<Op
     let source = FileAt::read_only(run, opened);
     let mut front = [0; 10];
     match source.read_at(0, &mut front) {
-        Ok(count) if form_of(&front[..count]) == StoreForm::Growing => Ok(Some(source)),
+        Ok(count) if form_of(&front[..count]) == form => Ok(Some(source)),
         _ => Ok(None),
     }
 }

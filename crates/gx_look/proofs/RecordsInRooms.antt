@@ -32,7 +32,7 @@ use Rattle.gx_look.specs.Records.{IsRecordAt, IsWritten, ReadsHeading, TellsReco
 
 -- ---- how long a record's line is
 
-number_short : (n : ℕ) → n < 2 ^ 64 → length (number_text n) ≤ 20
+pub number_short : (n : ℕ) → n < 2 ^ 64 → length (number_text n) ≤ 20
 number_short n l =
     let k = length (number_text n) in
     let a = length-append (replicate (20 - k) 48) (number_text n) in
@@ -40,7 +40,7 @@ number_short n l =
     let c : length (long_number n) ≡ 20 = long_length n l in
     omega arith
 
-word_short : (k : Kind) → length (kind_word k) ≤ 6
+pub word_short : (k : Kind) → length (kind_word k) ≤ 6
 word_short kind.Blob = omega arith
 word_short kind.Tree = omega arith
 word_short kind.Commit = omega arith

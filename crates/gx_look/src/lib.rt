@@ -12,3 +12,4 @@ mod rows;
 mod tail;
 
 pub use look::Look;
+pub use refs::{are_refs, find_by_names, without_end};

@@ -15,8 +15,8 @@ use gx_text::{cut, is_ref_name};
 
 /// Whether a text has the lines of so many refs, in the byte order of their names, and the last line behind them.
 ///
-/// Cost: one pass.
-pub(crate) fn are_refs(count: u64, text: &[u8]) -> bool
+/// Cost: one pass. Takes no memory. Source: this project's own format, and git-check-ref-format(1).
+pub fn are_refs(count: u64, text: &[u8]) -> bool
     ensures spelled { IsTrue result → SpellsLines text.now }
     ensures all { PassesRefs count text.now result }
 {
@@ -66,8 +66,8 @@ fn is_after(last: Option<&[u8]>, name: &[u8]) -> bool
 
 /// The object of the first ref among the six names that a word stands for, in their order.
 ///
-/// Cost: one pass over the lines for each name.
-pub(crate) fn find_by_names(lines: &[u8], word: &[u8]) -> Option<Name>
+/// Cost: one pass over the lines for each name. Takes no memory. Source: gitrevisions(7), "refname".
+pub fn find_by_names(lines: &[u8], word: &[u8]) -> Option<Name>
     ensures { FindsAmong lines.now (ref_names word.now) result }
 {
     if let Some(found) = find(lines, b"", word, b"") {
@@ -110,8 +110,8 @@ fn find(lines: &[u8], before: &[u8], word: &[u8], after: &[u8]) -> Option<Name>
     None
 }
 
-/// The lines of refs without the last line, which is no ref's.
-pub(crate) fn without_end(lines: &[u8]) -> Option<&[u8]>
+/// The lines of refs without the last line, which is no ref's. Cost: constant. Takes no memory. Source: this project's own format.
+pub fn without_end(lines: &[u8]) -> Option<&[u8]>
     ensures { LeavesEnd lines.now result }
 {
     lines.strip_suffix(b"end\n")

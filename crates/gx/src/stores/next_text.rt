@@ -5,6 +5,7 @@ use super::before::{Before, TextKind};
 use super::host::Host;
 use crate::fault::RunFault;
 use crate::looks::FileLook;
+use crate::looks::file_at::FileAt;
 use crate::run::{Run, Subject};
 use crate::stores::files::open_text;
 use crate::streams::devices::{Noted, flushed};
@@ -176,6 +177,26 @@ impl<'a> NextText<'a> {
         Ok(gone)
     }
 
+    /// Publishes the growing text of a store file of version 1 or 2, which is open. Answers false, where nothing was written, since this
+    /// isn't the text of one.
+    ///
+    /// Who fails leaves what [`NextText::publish_store`] does.
+    pub(crate) fn publish_grown(
+        &mut self,
+        opened: FileAt<'_>,
+        state: RandomState,
+    ) -> Result<bool, RunFault> {
+        self.host.run.placed(self.text.begin())?;
+        match write_grown(self.host.run, &mut self.text, opened, state) {
+            Ok(()) => {
+                self.put_in_place()?;
+                Ok(true)
+            }
+            Err(RunFault::Damaged) if self.written()? == 0 => Ok(false),
+            Err(fault) => Err(fault),
+        }
+    }
+
     /// How many bytes are written of the next text.
     fn written(&mut self) -> Result<u64, RunFault> {
         let found = self.host.look(self.text.place().next());
@@ -240,6 +261,25 @@ fn write_kept(
         Ok(mut out) => {
             let mut sink = IntoWrite::new(&mut out);
             let sent = gx_kept::collect(alloc, look, listing, kept, &mut sink);
+            flushed(&mut out, sent.map_err(RunFault::from))
+        }
+        Err(_) => Err(RunFault::Command(CliFault::OutOfMemory)),
+    }
+}
+
+/// The growing text of a plain one goes out through a buffer.
+fn write_grown(
+    run: &Run<'_>,
+    text: &mut gx_place::NextText<Host<'_>>,
+    opened: FileAt<'_>,
+    state: RandomState,
+) -> Result<(), RunFault> {
+    let alloc = run.rt.alloc();
+    let noted = Noted::new(run, Subject::NextText, text);
+    match BufWriter::with_capacity(alloc, BUFFER, noted) {
+        Ok(mut out) => {
+            let mut sink = IntoWrite::new(&mut out);
+            let sent = gx_plain::grow(alloc, Sha1Namer, opened, state, &mut sink);
             flushed(&mut out, sent.map_err(RunFault::from))
         }
         Err(_) => Err(RunFault::Command(CliFault::OutOfMemory)),

@@ -1,0 +1,90 @@
+-- Lines and bodies of a text that are read in a front of it.
+use Rattle.std.proofs.Common.{◌≡◌, ℕ, suc, ◌+◌, ◌-◌, ◌<◌, ◌≤◌, eqb, Bool, true, false, [], ◌∷◌, ◌++◌, append_assoc, length, take, drop, Option, Some, None, Ok, Err, refl, sym, ap, ◌∙◌, subst, arith}
+use Rattle.std.proofs.Math.Seq.{take-append-add}
+use Rattle.std.proofs.lemmas.List.{length-drop, take-append-drop, take_all}
+use Rattle.gx_model.specs.declared.store_faults.FileFault.TheVariants as fault
+use Rattle.gx_model.specs.Texts.{Bytes, cut_at, lacks}
+use Rattle.gx_model.specs.Stores.StoreReading.{Stored, stored_body, stored_line}
+use Rattle.gx_model.proofs.Stores.StoreTexts.{body_of, body_read, if_there, line_read}
+use Rattle.gx_model.proofs.Texts.Cuts.{cut_spelled, map_some, some_is}
+use Rattle.gx_at.specs.Reads.{ReadsAt, StandsAt, part}
+use Rattle.gx_plain.specs.Reading.{IsFrontAt, IsRefused}
+
+-- ---- a room
+
+-- as many bytes as were wanted are a front
+pub front_whole : (told : Option Bytes) (at count : ℕ) (room : Bytes) → StandsAt told at room → length room ≡ count → IsFrontAt told at count room
+front_whole None at count room h e = tt
+front_whole (Some text) at count room h e = h ∙ ap (part text at) e
+
+-- and so are fewer, where the text ends
+pub front_short : (told : Option Bytes) (at count came : ℕ) (room buffer : Bytes) → StandsAt told at room → length room ≤ count → ReadsAt told (at + length room) buffer (Ok came) → came ≡ 0 → IsFrontAt told at count room
+front_short None at count came room buffer h l r e = tt
+front_short (Some text) at count came room buffer h l r e =
+    let ends = r.1 e in
+    let long = length-drop at text in
+    h ∙ take_all (length room) (drop at text) (omega (arith, ends, long)) ∙ sym (take_all count (drop at text) (omega (arith, ends, long, l)))
+
+-- ---- faults
+
+-- what gives nothing is refused
+pub refused_unless : {Y : Type 0} (given : Stored Y) → ((y : Y) → given ≡ Ok y → ⊥) → IsRefused given
+refused_unless (Ok y) h = absurd (h y refl)
+refused_unless (Err why) h = (why, refl)
+
+-- ---- lines
+
+-- what stands before the first c has none
+pub cut_lacks : (c : ℕ) (bs : Bytes) (p : Bytes × Bytes) → cut_at c bs ≡ Some p → lacks c p.0 ≡ true
+unfolding cut_at
+cut_lacks c [] p e = absurd cc
+cut_lacks c (b ∷ bs) p e = step (λ q h. cut_lacks c bs q h) (eqb b c) refl
+  where
+    step : ((q : Bytes × Bytes) → cut_at c bs ≡ Some q → lacks c q.0 ≡ true) → (t : Bool) → eqb b c ≡ t → lacks c p.0 ≡ true
+    step again true t =
+        let h : Some ([], bs) ≡ Some p = rw t at e in
+        subst (λ (q : Bytes × Bytes). lacks c q.0 ≡ true) (some_is ([], bs) p h) refl
+    step again false t =
+        let h = map_some (λ (q : Bytes × Bytes). (b ∷ q.0, q.1)) (cut_at c bs) p (rw t at e) in
+        let rest = again h.0 h.1 in
+        let here : lacks c (b ∷ h.0.0) ≡ true = rw t rest in
+        subst (λ (q : Bytes × Bytes). lacks c q.0 ≡ true) h.2 here
+
+module _ (c : ℕ) (text : Bytes) (l : Bytes × Bytes) where
+  -- a line of a front is one of the text
+  pub line_whole : stored_line (take c text) ≡ Ok l → stored_line text ≡ Ok (l.0, l.1 ++ drop c text)
+  line_whole e =
+      let cut = if_there fault.Truncated (cut_at 10 (take c text)) l e in
+      let whole : text ≡ l.0 ++ 10 ∷ (l.1 ++ drop c text) =
+      sym (take-append-drop c text) ∙ ap (λ z. z ++ drop c text) (cut_spelled 10 (take c text) l cut) ∙ append_assoc l.0 (10 ∷ l.1) (drop c text) in
+      ap stored_line whole ∙ line_read l.0 (l.1 ++ drop c text) (cut_lacks 10 (take c text) l cut)
+
+  -- a line of a text that is short enough is one of the front
+  pub line_front : stored_line text ≡ Ok l → length l.0 < c → stored_line (take c text) ≡ Ok (l.0, take (c - (length l.0 + 1)) l.1)
+  line_front e h =
+      let cut = if_there fault.Truncated (cut_at 10 text) l e in
+      let n = c - (length l.0 + 1) in
+      let long : c ≡ length l.0 + suc n = omega arith in
+      let spelled = cut_spelled 10 text l cut in
+      let front : take c text ≡ l.0 ++ 10 ∷ take n l.1 = (λ i. take (long i) (spelled i)) ∙ take-append-add l.0 (10 ∷ l.1) (suc n) in
+      ap stored_line front ∙ line_read l.0 (take n l.1) (cut_lacks 10 text l cut)
+
+-- ---- bodies
+
+module _ (n m : ℕ) (text : Bytes) (x : Bytes × Bytes) where
+  -- a body of a front is one of the text
+  pub body_whole : stored_body n (take m text) ≡ Ok x → stored_body n text ≡ Ok (x.0, x.1 ++ drop m text)
+  body_whole e =
+      let b = body_of n (take m text) x e in
+      let whole : text ≡ x.0 ++ 10 ∷ (x.1 ++ drop m text) = sym (take-append-drop m text) ∙ ap (λ z. z ++ drop m text) b.0 ∙ append_assoc x.0 (10 ∷ x.1) (drop m text) in
+      (λ i. stored_body (sym b.1 i) (whole i)) ∙ body_read x.0 (x.1 ++ drop m text)
+
+  -- a body of a text that is short enough is one of the front
+  pub body_front : stored_body n text ≡ Ok x → n < m → stored_body n (take m text) ≡ Ok (x.0, take (m - (n + 1)) x.1)
+  body_front e h =
+      let b = body_of n text x e in
+      let k = m - (n + 1) in
+      let many = b.1 in
+      let long : m ≡ length x.0 + suc k = omega arith in
+      let front : take m text ≡ x.0 ++ 10 ∷ take k x.1 = (λ i. take (long i) (b.0 i)) ∙ take-append-add x.0 (10 ∷ x.1) (suc k) in
+      (λ i. stored_body (sym b.1 i) (front i)) ∙ body_read x.0 (take k x.1)

@@ -1,0 +1,4 @@
+pub mod Fronts
+pub mod NextRecords
+pub mod PartsOfRecords
+pub mod ShortLines

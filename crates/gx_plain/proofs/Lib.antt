@@ -1,4 +1,9 @@
+pub mod Checks
 pub mod Fronts
+pub mod NamedRecords
 pub mod NextRecords
+pub mod NextRefs
 pub mod PartsOfRecords
+pub mod PlainTexts
 pub mod ShortLines
+pub mod TailsOfRefs

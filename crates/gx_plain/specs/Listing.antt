@@ -12,6 +12,7 @@ use Rattle.gx_listed.specs.Listings.{HaveHeads, Listed}
 use Rattle.gx_objects.specs.declared.fault.LookFault.{LookFault}
 use Rattle.gx_plain.specs.Held.{IsHeld}
 use Rattle.gx_plain.specs.Reading.{RefusesWith}
+use Rattle.gx_plain.specs.Records.{AreStored, IsStoredAt}
 use Rattle.gx_plain.specs.declared.start.Start.{Start}
 
 -- where records stand one behind the other, from a place on
@@ -32,6 +33,7 @@ module _ (name : Kind → Bytes → Bytes) where
       pub read : next_record name v records (drop place text) ≡ Ok (records ++ held ∷ [], drop behind text)
       pub ends : behind ≡ place + length (stored_record v held)
       pub within : behind ≤ length text
+      pub stored : IsStoredAt name v text place held.name held
 
     -- one object more is listed, with its room, and of what tells a text it is that of the next record
     pub record IsOneMore (told : Option Bytes) (place : ℕ) (old new : List Listed) (rooms : List ℕ) (records : List Record) (behind : ℕ) : Type 0 where
@@ -54,6 +56,7 @@ module _ (name : Kind → Bytes → Bytes) where
     pub sound : IsSound name (held_in records [])
     pub read : next_records name start.version start.count [] (drop start.place text) ≡ Ok (records, drop behind text)
     pub places : places_listed listed ≡ places_from start.version start.place records
+    pub stand : AreStored name start.version text listed records
 
   -- all records are listed, or why they aren't; of what tells no text, nothing is claimed
   abbrev pub ListsAllNext : Option Bytes → Start → Result (List Listed × ℕ) LookFault → Type 0

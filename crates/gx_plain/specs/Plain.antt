@@ -10,6 +10,7 @@ use Rattle.gx_model.specs.Stores.StoreReading.{Stored, store_of}
 use Rattle.gx_listed.specs.Listings.{HaveHeads, Listed}
 use Rattle.gx_look.specs.Tails.{refs_text}
 use Rattle.gx_plain.specs.Listing.{places_from, places_listed}
+use Rattle.gx_plain.specs.Records.{AreStored}
 use Rattle.gx_plain.specs.Refs.{HoldsLines}
 use Rattle.gx_plain.specs.Starts.{start_of}
 use Rattle.gx_plain.specs.declared.refs.Tail.{Tail}
@@ -42,6 +43,7 @@ pub record IsReadAs {A : Type 0} (name : Kind → Bytes → Bytes) (text : Bytes
   pub read : store_of name text ≡ Ok repository
   pub heads : HaveHeads listed repository.records
   pub places : places_listed listed ≡ places_from v (length text - length behind) repository.records
+  pub stand : AreStored name v text listed repository.records
   pub refs : drop tail.refs tail.text.items ≡ refs_text repository.refs
 
 abbrev pub IsReadIfTold : {A : Type 0} → (Kind → Bytes → Bytes) → Option Bytes → Version → List Listed → Tail A → Type 0

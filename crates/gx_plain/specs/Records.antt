@@ -1,5 +1,6 @@
 -- A record that stands in a plain text, and the body that is read of it. Source: this project's own format.
-use Rattle.std.specs.Prelude.{◌≡◌, ℕ, ◌+◌, ◌-◌, ◌≤◌, ◌<◌, ◌^◌, ◌++◌, length, drop, slice_range, Option, Some, None, Result, Ok, Err, ⊤}
+use Rattle.std.specs.Prelude.{◌≡◌, ℕ, ◌+◌, ◌-◌, ◌≤◌, ◌<◌, ◌^◌, List, length, drop, slice_range, Option, Some, None, Result, Ok, Err, ⊤}
+use Rattle.std.specs.List.{AllZip}
 use Rattle.std.specs.Option.{ok_or}
 use Rattle.gx_model.specs.declared.objects.Kind.{Kind}
 use Rattle.gx_model.specs.declared.store_versions.Version.{Version}
@@ -8,12 +9,11 @@ use Rattle.gx_model.specs.Faults.{◌>>=◌}
 use Rattle.gx_model.specs.Texts.{Bytes}
 use Rattle.gx_model.specs.Histories.{Record}
 use Rattle.gx_model.specs.Stores.StoreReading.{Length, Stored, record_line, stored_body, stored_line}
-use Rattle.gx_model.specs.Stores.StoreText.{stored_record}
 use Rattle.gx_object.specs.Parts.{bytes_if}
 use Rattle.gx_object.specs.declared.name.Name.{Name}
 use Rattle.gx_objects.specs.declared.fault.LookFault.{LookFault}
+use Rattle.gx_listed.specs.Listings.{Listed}
 use Rattle.gx_look.specs.Reading.{Gives}
-use Rattle.gx_look.specs.Records.{IsWritten}
 use Rattle.gx_plain.specs.Reading.{RefusesWith}
 use Rattle.gx_plain.specs.declared.heading.Heading.{Heading}
 use Rattle.gx_plain.specs.declared.records.Found.{Found}
@@ -78,9 +78,9 @@ HasName name called room found = name found.kind (body_in room found) ≡ called
 
 -- a record of a name stands at a place
 pub record IsStoredAt (name : Kind → Bytes → Bytes) (v : Version) (text : Bytes) (at : ℕ) (called : Bytes) (held : Record) : Type 0 where
+  pub stated : Option Bytes
   pub rest : Bytes
-  pub stands : drop at text ≡ stored_record v held ++ rest
-  pub written : IsWritten held
+  pub parts : next_parts v (drop at text) ≡ Ok ((held.kind, (length held.body, stated)), (held.body, rest))
   pub name_is : held.name ≡ called
   pub named : held.name ≡ name held.kind held.body
 
@@ -89,3 +89,7 @@ abbrev pub TellsRecord : (Kind → Bytes → Bytes) → Version → Option Bytes
 TellsRecord name v None at called room result = ⊤
 TellsRecord name v (Some text) at called room result =
     (held : Record) → IsStoredAt name v text at called held → Gives (λ found. (found.kind ≡ held.kind) × (body_in room found ≡ held.body)) result
+
+-- objects that are listed are those of these records, each of which stands where it is listed
+abbrev pub AreStored : (Kind → Bytes → Bytes) → Version → Bytes → List Listed → List Record → Type 0
+AreStored name v text listed records = AllZip (λ one held. IsStoredAt name v text one.1.place held.name held) listed records

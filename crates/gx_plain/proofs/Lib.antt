@@ -1,9 +1,14 @@
+pub mod BegunNames
 pub mod Checks
+pub mod FarRecords
 pub mod Fronts
+pub mod GrownTexts
 pub mod NamedRecords
 pub mod NextRecords
 pub mod NextRefs
 pub mod PartsOfRecords
 pub mod PlainTexts
 pub mod ShortLines
+pub mod StartLines
 pub mod TailsOfRefs
+pub mod WholeTexts

@@ -29,6 +29,9 @@ use Rattle.gx_look.proofs.RecordsInRooms.{number_short, word_short}
 
 -- ---- numbers
 
+pub few_digits : (n : ℕ) → n < 2 ^ 64 → length (number_text n) ≤ 20
+few_digits n h = number_short n h
+
 number_small : (x : Bytes) (n : ℕ) → decimal_of x ≡ Some n → n < 2 ^ 64
 number_small x n e =
     let q = cond_some (is_number x) (digits_value 10 x) n e in

@@ -39,7 +39,9 @@ module _ (name : Kind → Bytes → Bytes) where
     pub record IsOneMore (told : Option Bytes) (place : ℕ) (old new : List Listed) (rooms : List ℕ) (records : List Record) (behind : ℕ) : Type 0 where
       pub held : Record
       pub more : IsHeld name new rooms (records ++ held ∷ [])
-      pub places : places_listed new ≡ places_listed old ++ place ∷ []
+      pub one : Listed
+      pub last : new ≡ old ++ one ∷ []
+      pub stands : one.1.place ≡ place
       pub next : IfSome told (λ text. IsNext text records place held behind)
 
     -- the next record was added, or why there is none to add

@@ -4,15 +4,23 @@ same store read as a whole, also of several segments and runs, and of what is da
 
 from __future__ import annotations
 
+import contextlib
+import fcntl
+import os
 import random
 import re
+import resource
+import subprocess
+import time
+from collections.abc import Iterator
 from pathlib import Path
 
 import pytest
 
 from growing_reading import read
+from growing_texts import HEAD, GrowingText, Record, head, picked_slot, sha256, slot, tail
 from programs import Done, Program, counted
-from store_files import NEW, named
+from store_files import NEW, OLD, named
 from test_damaged_looks import draws
 from test_growing import grown
 from test_salvage import branches, torn
@@ -121,3 +129,67 @@ def test_unread(gx: Program, tmp_path: Path) -> None:
     store.write_bytes(text.replace(b"version 1\n", b"version 2\n"))
     assert gx("gc", store) == Done(1, b"", b"gx: store: Damaged\n")
     assert store.read_bytes() == text.replace(b"version 1\n", b"version 2\n")
+
+
+def test_turned(gx: Program, tmp_path: Path, randoms: random.Random, times: int) -> None:
+    """Where one byte of a text is another, of which nothing goes, that is refused, or is mended."""
+    store = grown(gx, tmp_path, OLD)
+    text = store.read_bytes()
+    for at in randoms.sample(range(len(text)), min(len(text), 60 * times)):
+        turned = bytearray(text)
+        turned[at] ^= randoms.randrange(1, 256)
+        store.write_bytes(turned)
+        done = gx("gc", store)
+        assert store.read_bytes() == (turned if done.status else text), f"byte {at}"
+        counted["turned bytes that gc mends"] += not done.status
+
+
+def test_nothing_goes(gx: Program, tmp_path: Path) -> None:
+    """Where nothing goes, no room is needed for it."""
+    store = grown(gx, tmp_path, OLD)
+    gx.prints("gc", store, preexec_fn=lambda: resource.setrlimit(resource.RLIMIT_FSIZE, (0, 0)))
+
+
+def test_rows_of_many_runs(gx: Program, tmp_path: Path) -> None:
+    """A text that tells one run again and again takes no memory for each."""
+    blobs = [b"%d" % number for number in range(2000)]
+    whole, store = GrowingText(), tmp_path / "store"
+    whole.append([Record(b"blob", bytes.fromhex(named("blob", body)), body) for body in blobs], {})
+    ends, start = picked_slot(whole.text())
+    last = tail(whole.runs * 4000, {})
+    front = head(b"a", slot(start + len(last), start, sha256(last)), bytes(106))
+    text = front + whole.text()[HEAD:start] + last
+    store.write_bytes(text)
+    room = (64 << 20, 64 << 20)
+    done = gx("gc", store, preexec_fn=lambda: resource.setrlimit(resource.RLIMIT_AS, room))
+    assert done == Done(1, b"", b"gx: store: BadRows\n")
+    assert store.read_bytes() == text
+
+
+@contextlib.contextmanager
+def waiting(gx: Program, store: Path, *words: str | Path) -> Iterator[subprocess.Popen]:
+    """A run that waits for another one on a store, which ends behind the block."""
+    new = store.with_name(f"{store.name}.new")
+    with new.open("w") as other:
+        fcntl.flock(other, fcntl.LOCK_EX)
+        child = subprocess.Popen([gx.path, *words], env=gx.environment)
+        files = Path(f"/proc/{child.pid}/fd")
+        while not any(file.samefile(new) for file in files.iterdir() if file.exists()):
+            time.sleep(0.01)
+        yield child
+
+
+def test_link_that_is_turned(gx: Program, tmp_path: Path) -> None:
+    """A link that leads elsewhere by the time that gc has its turn: the store that it waited for is
+    collected."""
+    store, link = grown(gx, tmp_path, NEW), tmp_path / "link"
+    link.symlink_to(store.name)
+    other = tmp_path / "other"
+    gx.prints("init", "--growing", other)
+    before = other.read_bytes()
+    with waiting(gx, store, "gc", link) as child:
+        link.unlink()
+        link.symlink_to(other.name)
+    assert child.wait(60) == 0
+    assert other.read_bytes() == before
+    assert gx.prints("verify", store).startswith(b"version 3\nobjects 3\nrefs 1\n")

@@ -130,7 +130,7 @@ class Salvage:
                 assert not reach[digits] <= good
             else:
                 assert digits not in good
-        assert done.status == (3 if lost else 0)
+        assert done.status == (3 if lost or by != self.store else 0)
         counted["torn stores that are saved"] += 1
         counted["refs that are lost"] += len(lost)
 

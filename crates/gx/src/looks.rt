@@ -56,7 +56,7 @@ fn open_in_form<'a>(
     file: &'a str,
     form: StoreForm,
 ) -> io::Result<Option<FileAt<'a>>> {
-    let mut host = Host { run, file };
+    let mut host = Host::new(run, file);
     if host.look(file)?.kind != FileKind::File {
         return Ok(None);
     }
@@ -89,6 +89,12 @@ pub(crate) fn look_into<'a>(
         }
     }
     Ok(look?)
+}
+
+/// How many rows the live runs of a growing store file have: as many as it has objects.
+pub(crate) fn row_count(look: &FileLook<'_>) -> u64 {
+    let runs = look.ending().runs.iter();
+    runs.fold(0u64, |sum, run| sum.saturating_add(run.count))
 }
 
 fn is_damaged<T>(look: &Result<T, LookFault>) -> bool {

@@ -17,11 +17,16 @@ use std::alloc::{AllocError, Global};
 use std::hash::RandomState;
 use std::io::Write;
 
-/// The status where refs are lost.
+/// The status where something is lost.
 const LOST: u8 = 3;
 
 /// What is saved of a store file.
-type Saved = Salvaged<Sha1Namer, Global>;
+#[derive(Drop)]
+struct Saved {
+    salvaged: Salvaged<Sha1Namer, Global>,
+    /// Whether it stood there last: not where that is what stood before something was appended.
+    is_latest: bool,
+}
 
 /// Saves the refs of a store file whose whole history can be read into a new one of version 3, and prints a line for each of the
 /// others. Answers the status.
@@ -31,14 +36,15 @@ pub(crate) fn salvage_into(
     new: &str,
     state: RandomState,
 ) -> Result<u8, RunFault> {
-    let mut next = NextText::claim_new(run, new)?;
+    let mut next = NextText::claim_beside(run, new, file)?;
     next.shape(StoreForm::Growing);
     let saved = salvage_file(run, file, state)?;
-    let lines = lost_lines(run.rt.alloc(), saved.lost.as_slice())?;
-    next.publish_store(&saved.repo)?;
+    let lines = lost_lines(run.rt.alloc(), saved.salvaged.lost.as_slice())?;
+    next.publish_store(&saved.salvaged.repo)?;
     drop(next);
     run.want_written(Subject::Output, run.rt.stdout().write_all(&lines))?;
-    Ok(if lines.is_empty() { 0 } else { LOST })
+    let has_all = saved.is_latest && lines.is_empty();
+    Ok(if has_all { 0 } else { LOST })
 }
 
 /// Salvages a growing store by the slot that is picked, or by the other one where that leads to no tail. A store of another
@@ -47,13 +53,20 @@ fn salvage_file(run: &Run<'_>, file: &str, state: RandomState) -> Result<Saved, 
     let alloc = run.rt.alloc();
     let Some(opened) = run.want_read(open_growing(run, file))? else {
         let store = read_store(run, file)?;
-        return Ok(Salvaged {
+        let salvaged = Salvaged {
             repo: open_text(run, store, state)?,
             lost: Vec::new(alloc),
+        };
+        return Ok(Saved {
+            salvaged,
+            is_latest: true,
         });
     };
     match look_into(run, file, opened) {
-        Ok(look) => salvage_look(run, &look, state),
+        Ok(look) => Ok(Saved {
+            salvaged: salvage_look(run, &look, state)?,
+            is_latest: true,
+        }),
         Err(RunFault::Damaged) => salvage_by_other_slot(run, file, state),
         Err(fault) => Err(fault),
     }
@@ -67,7 +80,10 @@ fn salvage_by_other_slot(run: &Run<'_>, file: &str, state: RandomState) -> Resul
     };
     let look = Look::open(run.rt.alloc(), Sha1Namer, other)?;
     run.tell_other_slot(file);
-    salvage_look(run, &look, state)
+    Ok(Saved {
+        salvaged: salvage_look(run, &look, state)?,
+        is_latest: false,
+    })
 }
 
 /// Salvages what a look shows.
@@ -75,7 +91,7 @@ fn salvage_look<S: ReadAt>(
     run: &Run<'_>,
     look: &Look<S, Sha1Namer, Global>,
     state: RandomState,
-) -> Result<Saved, RunFault> {
+) -> Result<Salvaged<Sha1Namer, Global>, RunFault> {
     let alloc = run.rt.alloc();
     let mut room = Vec::new(alloc);
     let lines = look.ref_lines(&mut room)?;

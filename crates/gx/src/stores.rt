@@ -3,6 +3,7 @@
 mod appending;
 mod before;
 mod changed;
+mod differing;
 mod drop_refs;
 pub(crate) mod files;
 mod gc;

@@ -12,3 +12,5 @@ mod objects;
 mod stopped;
 #[cfg(test)]
 mod texts;
+#[cfg(test)]
+mod told;

@@ -1,44 +1,95 @@
 //! Objects that are appended, and what is read of the text then.
 
-use crate::growing::{add_blobs, append_to, committed, count_runs, disk_with, hold, is_read_as};
-use gx_additions::{AdditionFault, append_objects};
-use gx_append::AppendFault;
-use gx_disk::{Disk, Fate, Plan};
+use crate::growing::{
+    add_blobs, append_blobs, append_grown, append_to, committed, count_runs, disk_with, hold,
+    is_read_as, is_read_back, repository,
+};
+use crate::told::{Outcome, Told, answered};
+use gx_additions::append_objects;
+use gx_disk::{Disk, Plan};
 use gx_growing_parts::{Ending, Run};
 use gx_object::Sha1Namer;
 use gx_repo::Repo;
 use std::alloc::Global;
 use std::hash::RandomState;
 
-/// How many live runs a text has after an append of so many blobs, if all is read back.
-fn runs_after(
+/// What is appended: blobs from a number to another, and a ref that holds the commit; and how many live runs the text has then, and
+/// how many bytes.
+#[derive(Drop)]
+struct Step {
+    blobs: (u8, u8),
+    name: &'static [u8],
+    runs: usize,
+    len: usize,
+}
+
+/// To the text of the commit: eighteen blobs, one, two, none, and ten.
+const STEPS: [Step; 5] = [
+    Step {
+        blobs: (0, 18),
+        name: b"refs/heads/main",
+        runs: 1,
+        len: 2_337,
+    },
+    Step {
+        blobs: (18, 19),
+        name: b"refs/heads/main",
+        runs: 2,
+        len: 2_685,
+    },
+    Step {
+        blobs: (19, 21),
+        name: b"refs/heads/main",
+        runs: 2,
+        len: 3_139,
+    },
+    Step {
+        blobs: (21, 21),
+        name: b"refs/heads/next",
+        runs: 2,
+        len: 3_434,
+    },
+    Step {
+        blobs: (21, 31),
+        name: b"refs/heads/next",
+        runs: 1,
+        len: 5_115,
+    },
+];
+
+/// Does a step, and answers how many live runs the text has then, and how many bytes, if all is read back.
+fn grown_by(
     alloc: Global,
     disk: &mut Disk<Global>,
     repo: &mut Repo<Sha1Namer, Global>,
-    blobs: (u8, u8),
+    step: &Step,
     state: RandomState,
-) -> Option<usize> {
+) -> Option<(usize, usize)> {
     let held = repo.store().len();
-    add_blobs(repo, blobs.0, blobs.1)?;
-    append_to(alloc, disk, repo, held)?.ok()?;
-    if is_read_as(alloc, disk.text(), repo, state)? {
-        count_runs(alloc, disk.text())
+    add_blobs(repo, step.blobs.0, step.blobs.1)?;
+    hold(repo, step.name)?;
+    if append_to(alloc, disk, repo, held)? != Told::Appended {
+        return None;
+    }
+    let text = disk.text();
+    if is_read_back(alloc, text, repo, state)? {
+        Some((count_runs(alloc, text)?, text.len()))
     } else {
         None
     }
 }
 
-/// The numbers of live runs after each of four appends to a text with twenty objects: of one blob, of two, of none, and of ten.
-fn runs_of_four(alloc: Global, state: RandomState) -> Option<[usize; 4]> {
-    let mut repo = committed(alloc, state)?;
-    add_blobs(&mut repo, 0, 18)?;
+/// How many steps leave the text as they say, up to the first that doesn't.
+fn right_steps(alloc: Global, state: RandomState) -> Option<usize> {
+    let mut repo = repository(alloc, false, state)?;
     let mut disk = disk_with(alloc, &repo, Plan::NONE)?;
-    let one = runs_after(alloc, &mut disk, &mut repo, (18, 19), state)?;
-    let two = runs_after(alloc, &mut disk, &mut repo, (19, 21), state)?;
-    hold(&mut repo, b"refs/heads/next")?;
-    let none = runs_after(alloc, &mut disk, &mut repo, (21, 21), state)?;
-    let ten = runs_after(alloc, &mut disk, &mut repo, (21, 31), state)?;
-    Some([one, two, none, ten])
+    for (number, step) in STEPS.iter().enumerate() {
+        let grown = grown_by(alloc, &mut disk, &mut repo, step, state);
+        if grown != Some((step.runs, step.len)) {
+            return Some(number);
+        }
+    }
+    Some(STEPS.len())
 }
 
 #[test]
@@ -46,55 +97,29 @@ fn runs_of_few_rows_are_taken_in(rt: HostRuntime) {
     let Ok(state) = RandomState::new(&rt) else {
         return assert!(rt; false);
     };
-    assert!(rt; runs_of_four(rt.alloc(), state) == Some([2, 2, 2, 1]));
+    assert!(rt; right_steps(rt.alloc(), state) == Some(STEPS.len()));
 }
 
-/// A repository of a commit, its text on a disk of which calls fail as a plan says, and the same with three blobs and a ref more.
-fn before_and_after(
-    alloc: Global,
-    plan: Plan,
-    state: RandomState,
-) -> Option<
-    (
-        Disk<Global>,
-        Repo<Sha1Namer, Global>,
-        Repo<Sha1Namer, Global>,
-    ),
-> {
-    let before = committed(alloc, state)?;
-    let disk = disk_with(alloc, &before, plan)?;
-    let mut after = committed(alloc, state)?;
-    add_blobs(&mut after, 0, 3)?;
-    hold(&mut after, b"refs/heads/next")?;
-    Some((disk, before, after))
-}
+/// How much of the call that fails is written.
+const FRONTS: [usize; 4] = [0, 1, 100, 1_000];
 
-/// Whether a text is read as the repository before where one call fails and the answer says so, and as one of both otherwise.
-fn is_right_where_one_fails(
-    alloc: Global,
-    done: u64,
-    front: usize,
-    state: RandomState,
-) -> Option<bool> {
-    let failing = 1;
-    let plan = Plan {
-        done,
-        failing,
-        front,
-    };
-    let (mut disk, before, after) = before_and_after(alloc, plan, state)?;
-    let ends = disk.text().len();
-    let answer = append_to(alloc, &mut disk, &after, 2)?;
-    let is_before = is_read_as(alloc, disk.text(), &before, state)?;
-    match answer {
-        Err(AdditionFault::Append(AppendFault::Unwritten(_))) => Some(
-            done < 4 && is_before && disk.text().len() == ends,
-        ),
-        Err(AdditionFault::Append(AppendFault::Unsettled(_))) => Some(
-            done >= 4 && (is_before || is_read_as(alloc, disk.text(), &after, state)?),
-        ),
-        _ => Some(false),
-    }
+/// What is answered where one call fails, how long the text is then, and for each front whether it is read as what has grown: for each
+/// call.
+const FAILED: [(Told, usize, [bool; 4]); 6] = [
+    (Told::Unwritten, 677, [false; 4]),
+    (Told::Unwritten, 677, [false; 4]),
+    (Told::Unwritten, 677, [false; 4]),
+    (Told::Unwritten, 677, [false; 4]),
+    (Told::Unsettled, 1_220, [false, true, true, true]),
+    (Told::Unsettled, 1_220, [true; 4]),
+];
+
+/// What is answered where calls fail as a plan says, how long the text is then, and whether it is read as it is to be.
+fn outcome(alloc: Global, plan: Plan, has_grown: bool, state: RandomState) -> Option<Outcome> {
+    let mut disk = committed(alloc, plan, state)?;
+    let told = append_grown(alloc, &mut disk, state);
+    let text = disk.text();
+    Some((told, text.len(), is_read_as(alloc, text, has_grown, state)))
 }
 
 #[test]
@@ -102,75 +127,85 @@ fn text_is_the_one_before_or_after_where_one_call_fails(rt: HostRuntime) {
     let Ok(state) = RandomState::new(&rt) else {
         return assert!(rt; false);
     };
-    for done in 0..6 {
-        for front in [0, 1, 100, 1_000] {
-            assert!(rt; is_right_where_one_fails(rt.alloc(), done, front, state) == Some(true));
+    for call in 0..6usize {
+        let (told, len, has_grown) = FAILED[call];
+        for front in 0..4usize {
+            let plan = Plan {
+                done: call as u64,
+                failing: 1,
+                front: FRONTS[front],
+            };
+            let made = outcome(rt.alloc(), plan, has_grown[front], state);
+            assert!(rt; made == Some((Some(told), len, true)), "{call} {front}");
         }
     }
 }
 
-/// Whether stops after each number of calls leave the text before or the one after, where the calls have these two fates in turn.
-fn are_right_after_stops(alloc: Global, even: Fate, odd: Fate, state: RandomState) -> Option<bool> {
-    let (mut disk, before, after) = before_and_after(alloc, Plan::NONE, state)?;
-    append_to(alloc, &mut disk, &after, 2)?.ok()?;
-    let fates = [even, odd, even, odd, even, odd];
-    for calls in 0..7 {
-        let left = disk.stopped(alloc, fates.get(..calls)?).ok()?;
-        let left = left.as_slice();
-        if !is_read_as(alloc, left, &before, state)? && !is_read_as(alloc, left, &after, state)? {
-            return Some(false);
-        }
-    }
-    Some(true)
+/// What is answered where a store of new objects is appended, how long the text is then, and whether it is read as what has grown.
+fn outcome_of_store(alloc: Global, state: RandomState) -> Option<Outcome> {
+    let mut disk = committed(alloc, Plan::NONE, state)?;
+    let told = append_blobs(alloc, &mut disk, state);
+    let text = disk.text();
+    Some((told, text.len(), is_read_as(alloc, text, true, state)))
 }
 
 #[test]
-fn stop_leaves_the_repository_before_or_after(rt: HostRuntime) {
+fn store_of_new_objects_is_appended(rt: HostRuntime) {
     let Ok(state) = RandomState::new(&rt) else {
         return assert!(rt; false);
     };
-    let spoiled = Fate::Spoiled {
-        count: 60,
-        byte: b'1',
-    };
-    let fates = [
-        Fate::Lost,
-        Fate::Done,
-        Fate::Front(1),
-        Fate::Front(200),
-        spoiled,
-    ];
-    for even in fates {
-        for odd in fates {
-            assert!(rt; are_right_after_stops(rt.alloc(), even, odd, state) == Some(true));
-        }
-    }
+    let made = outcome_of_store(rt.alloc(), state);
+    assert!(rt; made == Some((Some(Told::Appended), 1_220, true)));
 }
 
-/// Whether nothing is written where a live run stands behind the end of the text.
-fn is_unread(alloc: Global, place: u64, count: u64, state: RandomState) -> Option<bool> {
-    let (mut disk, _before, after) = before_and_after(alloc, Plan::NONE, state)?;
-    let digest = [0; 32];
+/// What is answered where the text of a disk is said to have such a live run.
+fn with_run(
+    alloc: Global,
+    disk: &mut Disk<Global>,
+    place: u64,
+    count: u64,
+    state: RandomState,
+) -> Option<Told> {
+    let repo = repository(alloc, true, state)?;
     let run = Run {
         place,
         count,
-        digest,
+        digest: [0; 32],
     };
     let ending = Ending {
         is_first: true,
-        ends: disk.text().len() as u64,
+        ends: 677,
         runs: &[run],
     };
-    let answer = append_objects(alloc, &mut disk, ending, &after, 2);
-    Some(matches!(answer, Err(AdditionFault::ReadFailed)) && disk.calls().is_empty())
+    Some(answered(append_objects(alloc, disk, ending, &repo, 2)))
 }
+
+/// What is answered where the text of the commit is said to have such a live run, and how many calls were made.
+fn calls_with_run(
+    alloc: Global,
+    place: u64,
+    count: u64,
+    state: RandomState,
+) -> Option<(Option<Told>, usize)> {
+    let mut disk = committed(alloc, Plan::NONE, state)?;
+    let told = with_run(alloc, &mut disk, place, count, state);
+    Some((told, disk.calls().len()))
+}
+
+/// Live runs, and what is answered: those that end behind the text can't be read, and too long ones aren't.
+const RUNS: [(u64, u64, Told, usize); 3] = [
+    (100_000, 2, Told::ReadFailed, 0),
+    (u64::MAX, 1, Told::ReadFailed, 0),
+    (0, u64::MAX, Told::Appended, 6),
+];
 
 #[test]
 fn run_behind_the_end_is_not_read(rt: HostRuntime) {
     let Ok(state) = RandomState::new(&rt) else {
         return assert!(rt; false);
     };
-    assert!(rt; is_unread(rt.alloc(), 100_000, 2, state) == Some(true));
-    assert!(rt; is_unread(rt.alloc(), u64::MAX, 1, state) == Some(true));
-    assert!(rt; is_unread(rt.alloc(), 0, u64::MAX, state) == Some(false));
+    for (place, count, told, calls) in RUNS {
+        let made = calls_with_run(rt.alloc(), place, count, state);
+        assert!(rt; made == Some((Some(told), calls)), "{place}");
+    }
 }

@@ -1,12 +1,8 @@
-//! A growing text, and the same with a segment more.
+//! Texts of stores. Source: this project's own formats, and git's names of objects.
 
-use gx_additions::{Addition, refs_alone};
-use gx_append::{AppendFault, append};
-use gx_disk::{Disk, Plan};
 use gx_growing_parts::Ending;
-use std::alloc::Global;
 
-/// The growing text with no object and no ref. Source: this project's own format.
+/// The growing text with no object and no ref.
 pub(crate) const EMPTY: &[u8] = b"gxstore 3\na\n\
 00000000000000000262 00000000000000000244 \
 adb75895df009d6af652e3e2686b8d561b10c7e4b0c7c84e20c13de012fb0597\n\
@@ -30,24 +26,41 @@ pub(crate) const ENDING: Ending<'static> = Ending {
     runs: &[],
 };
 
-/// What a segment of no objects and no refs gives behind the empty text.
-fn nothing(alloc: Global) -> Option<Addition<Global>> {
-    refs_alone(alloc, ENDING, 0, b"").ok()
-}
+/// The text of version 2 with a commit of no files, which a branch holds.
+const COMMITTED: &[u8] = b"gxstore 2\nobjects 2\n\
+tree 0 4b825dc642cb6eb9a060e54bf8d69288fbee4904\n\n\
+commit 98 09c9dfe00ddfa1db2b5ba1953e2536a5e84b21da\n\
+tree 4b825dc642cb6eb9a060e54bf8d69288fbee4904\n\
+author A <a@b> 0 +0000\n\
+committer A <a@b> 0 +0000\n\
+\n\
+m\n\n\
+refs 1\n\
+09c9dfe00ddfa1db2b5ba1953e2536a5e84b21da refs/heads/main\n\
+end\n";
 
-/// The disk once the segment is appended as a plan says, and the answer.
-pub(crate) fn appended(
-    alloc: Global,
-    plan: Plan,
-) -> Option<(Disk<Global>, Result<(), AppendFault>)> {
-    let added = nothing(alloc)?;
-    let mut disk = Disk::new(alloc, EMPTY, plan).ok()?;
-    let answer = append(
-        &mut disk,
-        true,
-        262,
-        added.segment.as_slice(),
-        added.slot.as_slice(),
-    );
-    Some((disk, answer))
+/// The same with three blobs and a ref more.
+const GROWN: &[u8] = b"gxstore 2\nobjects 5\n\
+tree 0 4b825dc642cb6eb9a060e54bf8d69288fbee4904\n\n\
+commit 98 09c9dfe00ddfa1db2b5ba1953e2536a5e84b21da\n\
+tree 4b825dc642cb6eb9a060e54bf8d69288fbee4904\n\
+author A <a@b> 0 +0000\n\
+committer A <a@b> 0 +0000\n\
+\n\
+m\n\n\
+blob 1 f76dd238ade08917e6712764a16a22005a50573d\n\0\n\
+blob 1 6b2aaa7640726588bcd3d57e1de4b1315b7f315e\n\x01\n\
+blob 1 25cb955ba23571f6fefd57cecf5f67454210bbc8\n\x02\n\
+refs 2\n\
+09c9dfe00ddfa1db2b5ba1953e2536a5e84b21da refs/heads/main\n\
+09c9dfe00ddfa1db2b5ba1953e2536a5e84b21da refs/heads/next\n\
+end\n";
+
+/// The lines of its refs.
+pub(crate) const LINES: &[u8] = b"09c9dfe00ddfa1db2b5ba1953e2536a5e84b21da refs/heads/main\n\
+09c9dfe00ddfa1db2b5ba1953e2536a5e84b21da refs/heads/next\n";
+
+/// The text of version 2 of the commit, or of what it has grown to.
+pub(crate) fn version_2(has_grown: bool) -> &'static [u8] {
+    if has_grown { GROWN } else { COMMITTED }
 }

@@ -1,57 +1,58 @@
 //! What places, digits and refs give, of growing texts and of a repository in memory.
 
-use crate::looks::{look_into, two_segments};
-use crate::written::{Written, name_of};
-use gx_object::{Kind, Sha1Namer};
+use crate::looks::{look_into, name_of};
+use crate::texts::{ALIKE, TWO};
+use gx_object::{Kind, Name, Sha1Namer};
 use gx_objects::Objects;
 use gx_repo::{RefChange, Repo};
 use gx_store::Prefix;
 use std::alloc::Global;
 use std::hash::RandomState;
 
-/// Blobs of whose names some begin alike.
-const FIRST: [&[u8]; 3] = [b"80", b"816", b"365"];
-
-const SECOND: [&[u8]; 2] = [b"1599", b"one"];
-
-/// The blobs in two segments.
-fn blobs_written(alloc: Global) -> Option<Written> {
-    let mut written = Written::new(alloc)?;
-    written.add(alloc, &FIRST, &[])?;
-    written.add(alloc, &SECOND, &[])?;
-    Some(written)
-}
-
-/// The blobs in memory, and a commit that a branch and a tag hold.
-fn blobs_held(alloc: Global, state: RandomState) -> Option<Repo<Sha1Namer, Global>> {
-    let mut repo = Repo::new(alloc, Sha1Namer, state);
-    for body in FIRST {
-        repo.add_blob(body).ok()?;
-    }
-    for body in SECOND {
-        repo.add_blob(body).ok()?;
-    }
-    repo.add_record(Kind::Tree, b"").ok()?;
-    let target = repo.add_record(Kind::Commit, COMMIT).ok()?;
-    let changes = [
-        RefChange {
-            name: b"refs/tags/v1",
-            target,
-        },
-        RefChange {
-            name: b"refs/heads/main",
-            target,
-        },
-    ];
-    repo.publish(&changes).ok()?;
-    Some(repo)
-}
-
-const COMMIT: &[u8] = b"tree 4b825dc642cb6eb9a060e54bf8d69288fbee4904\n\
+/// Blobs of whose names some begin alike, and a commit of no files.
+const RECORDS: [(Kind, &[u8]); 7] = [
+    (Kind::Blob, b"80"),
+    (Kind::Blob, b"816"),
+    (Kind::Blob, b"365"),
+    (Kind::Blob, b"1599"),
+    (Kind::Blob, b"one"),
+    (Kind::Tree, b""),
+    (
+        Kind::Commit,
+        b"tree 4b825dc642cb6eb9a060e54bf8d69288fbee4904\n\
 author A <a@b> 0 +0000\n\
 committer A <a@b> 0 +0000\n\
 \n\
-m\n";
+m\n",
+    ),
+];
+
+/// The commit's name.
+const COMMIT: Name = Name {
+    bytes: *b"\x09\xc9\xdf\xe0\x0d\xdf\xa1\xdb\x2b\x5b\xa1\x95\x3e\x25\x36\xa5\xe8\x4b\x21\xda",
+};
+
+/// A branch and a tag that hold the commit.
+const REFS: [RefChange<'static>; 2] = [
+    RefChange {
+        name: b"refs/tags/v1",
+        target: COMMIT,
+    },
+    RefChange {
+        name: b"refs/heads/main",
+        target: COMMIT,
+    },
+];
+
+/// These in memory.
+fn held(alloc: Global, state: RandomState) -> Option<Repo<Sha1Namer, Global>> {
+    let mut repo = Repo::new(alloc, Sha1Namer, state);
+    for (kind, body) in RECORDS {
+        repo.add_record(kind, body).ok()?;
+    }
+    repo.publish(&REFS).ok()?;
+    Some(repo)
+}
 
 /// Digits, and the blob whose name they begin alone.
 const ALONE: [(&[u8], &[u8]); 7] = [
@@ -64,16 +65,16 @@ const ALONE: [(&[u8], &[u8]); 7] = [
     (b"43dd47ea691c90a5fa7827892c70241913351963", b"one"),
 ];
 
-/// Digits that begin more than one: two of one segment, one of each, and all.
-const SEVERAL: [&[u8]; 3] = [b"e3f1", b"55f0", b""];
-
-/// What begins no name.
-const NONE: [&[u8]; 5] = [
-    b"43de",
-    b"55f09",
-    b"xy",
-    b"43dd47ea691c90a5fa7827892c70241913351964",
-    b"43dd47ea691c90a5fa7827892c702419133519631",
+/// Digits that begin more than one, two of one segment, one of each, and all; and what begins no name.
+const OTHERS: [(&[u8], Prefix); 8] = [
+    (b"e3f1", Prefix::Ambiguous),
+    (b"55f0", Prefix::Ambiguous),
+    (b"", Prefix::Ambiguous),
+    (b"43de", Prefix::Absent),
+    (b"55f09", Prefix::Absent),
+    (b"xy", Prefix::Absent),
+    (b"43dd47ea691c90a5fa7827892c70241913351964", Prefix::Absent),
+    (b"43dd47ea691c90a5fa7827892c702419133519631", Prefix::Absent),
 ];
 
 /// The first digits whose answer is another than that of the tables.
@@ -83,13 +84,8 @@ fn told_otherwise<O: Objects>(objects: &O) -> Option<&'static [u8]> {
             return Some(digits);
         }
     }
-    for digits in SEVERAL {
-        if objects.by_digits(digits) != Ok(Prefix::Ambiguous) {
-            return Some(digits);
-        }
-    }
-    for digits in NONE {
-        if objects.by_digits(digits) != Ok(Prefix::Absent) {
+    for (digits, prefix) in OTHERS {
+        if objects.by_digits(digits) != Ok(prefix) {
             return Some(digits);
         }
     }
@@ -121,46 +117,58 @@ fn has_lines<O: Objects>(alloc: Global, objects: &O, lines: &[u8]) -> bool {
     }
 }
 
-/// What is told of the blobs in two segments, and of lines of refs.
-fn asked_of_text(alloc: Global) -> Option<bool> {
-    let blobs = blobs_written(alloc)?;
-    let look = look_into(alloc, &blobs.text, 1_000).ok()?;
-    let refs = two_segments(alloc, b"long")?;
-    let other = look_into(alloc, &refs.text, 1_000).ok()?;
-    Some(
-        told_otherwise(&look) == None
-            && places_go_up(alloc, &look) == Some(true)
-            && has_lines(alloc, &look, b"")
-            && has_lines(alloc, &other, LINES),
+/// The first digits whose answer is another than that of the tables, whether places go up, and whether these are the lines of refs.
+type Answers = (Option<&'static [u8]>, Option<bool>, bool);
+
+fn asked<O: Objects>(alloc: Global, objects: &O, lines: &[u8]) -> Answers {
+    (
+        told_otherwise(objects),
+        places_go_up(alloc, objects),
+        has_lines(alloc, objects, lines),
     )
 }
 
+/// What is told of the blobs in two segments.
+fn asked_of_text(alloc: Global) -> Option<Answers> {
+    let look = look_into(alloc, ALIKE, 1_000).ok()?;
+    Some(asked(alloc, &look, b""))
+}
+
+/// The lines of the refs of two segments.
 const LINES: &[u8] = b"1d19714ffbc272ba0da6eb419d66123c20527174 refs/heads/main\n\
 e69de29bb2d1d6434b8b29ae775ad8c2e48c5391 refs/remotes/origin/HEAD\n\
 43dd47ea691c90a5fa7827892c70241913351963 refs/tags/v1\n";
 
+/// Whether these are told.
+fn tells_lines(alloc: Global) -> bool {
+    match look_into(alloc, TWO, 1_000) {
+        Ok(look) => has_lines(alloc, &look, LINES),
+        Err(_) => false,
+    }
+}
+
 #[test]
 fn growing_text_tells_places_digits_and_refs(rt: HostRuntime) {
-    assert!(rt; asked_of_text(rt.alloc()) == Some(true));
+    assert!(rt; asked_of_text(rt.alloc()) == Some((None, Some(true), true)));
+    assert!(rt; tells_lines(rt.alloc()));
 }
 
-/// The same of the blobs in memory.
-fn asked_of_repository(alloc: Global, state: RandomState) -> Option<bool> {
-    let repo = blobs_held(alloc, state)?;
-    Some(
-        told_otherwise(&repo) == None
-            && places_go_up(alloc, &repo) == Some(true)
-            && has_lines(alloc, &repo, HELD_LINES),
-    )
-}
-
+/// The lines of the refs in memory.
 const HELD_LINES: &[u8] = b"09c9dfe00ddfa1db2b5ba1953e2536a5e84b21da refs/heads/main\n\
 09c9dfe00ddfa1db2b5ba1953e2536a5e84b21da refs/tags/v1\n";
+
+/// What is told of the same in memory.
+fn asked_of_repository(alloc: Global, state: RandomState) -> Option<Answers> {
+    let repo = held(alloc, state)?;
+    Some(asked(alloc, &repo, HELD_LINES))
+}
 
 #[test]
 fn repository_tells_places_digits_and_refs(rt: HostRuntime) {
     match RandomState::new(&rt) {
-        Ok(state) => assert!(rt; asked_of_repository(rt.alloc(), state) == Some(true)),
+        Ok(state) => {
+            assert!(rt; asked_of_repository(rt.alloc(), state) == Some((None, Some(true), true)))
+        }
         Err(_) => assert!(rt; false),
     }
 }

@@ -1,68 +1,68 @@
 //! How growing texts end, as who appends to them has to know.
 
-use crate::looks::{EMPTY, look_into, two_segments};
-use crate::written::{Written, name_of};
-use gx_growing_parts::{Ending, Run, digest_of};
+use crate::damaged::two_with;
+use crate::looks::look_into;
+use crate::texts::EMPTY;
+use gx_growing_parts::Run;
 use std::alloc::Global;
 
-/// Whether a run of fewer than 586 rows stands so in a text, and has the digest of its page's digest.
-fn is_run(text: &[u8], run: &Run, place: u64, count: u64) -> Option<bool> {
-    let rows_end = place.checked_add(count.checked_mul(28)?)?;
-    let (_front, behind) = text.split_at_checked(rows_end as usize)?;
-    let (digests, _behind) = behind.split_at_checked(32)?;
-    Some(run.place == place && run.count == count && run.digest == digest_of(digests))
+/// The run of the first of two segments.
+const FIRST: Run = Run {
+    place: 402,
+    count: 3,
+    digest: *b"\x35\x54\xf6\xdf\x20\x9e\x80\x48\x06\x70\x67\xb1\x5c\xa1\xd0\x35\
+\xe4\x96\xf5\xcb\xdf\xe3\x3d\x8d\x12\x2b\x99\x05\x31\xd0\x81\x51",
+};
+
+/// The run of the second.
+const SECOND: Run = Run {
+    place: 789,
+    count: 2,
+    digest: *b"\xea\x57\x31\x4c\x49\x92\x98\x10\xe1\xab\xfe\xbe\x2b\x6e\xe8\x48\
+\xab\xd7\x76\x98\xa4\xb4\x74\x98\x2b\xc4\x9b\xde\x6d\x7e\x23\xb5",
+};
+
+fn is_run(run: &Run, told: &Run) -> bool {
+    run.place == told.place && run.count == told.count && run.digest == told.digest
 }
 
-/// Whether a text has live runs of these places and counts, and no other.
-fn has_runs(text: &[u8], ending: &Ending<'_>, runs: &[(u64, u64)]) -> Option<bool> {
-    for (run, (place, count)) in ending.runs.iter().zip(runs) {
-        if !is_run(text, run, *place, *count)? {
-            return Some(false);
+/// Whether these are the live runs, and no other.
+fn are_runs(runs: &[Run], told: &[Run]) -> bool {
+    for (run, told) in runs.iter().zip(told) {
+        if !is_run(run, told) {
+            return false;
         }
     }
-    Some(ending.runs.len() == runs.len())
+    runs.len() == told.len()
 }
 
 /// Whether a text picks its first slot, or its second, has so many bytes up to its end, and these live runs.
-fn ends_so(
-    alloc: Global,
-    text: &[u8],
-    is_first: bool,
-    ends: u64,
-    runs: &[(u64, u64)],
-) -> Option<bool> {
-    let look = look_into(alloc, text, 1_000).ok()?;
+fn ends_so(alloc: Global, text: &[u8], is_first: bool, ends: u64, runs: &[Run]) -> bool {
+    let Ok(look) = look_into(alloc, text, 1_000) else {
+        return false;
+    };
     let ending = look.ending();
-    Some(
-        ending.is_first == is_first
-            && ending.ends == ends
-            && has_runs(text, &ending, runs) == Some(true),
-    )
+    ending.is_first == is_first && ending.ends == ends && are_runs(ending.runs, runs)
 }
 
 #[test]
 fn empty_text_ends_with_its_tail(rt: HostRuntime) {
-    assert!(rt; ends_so(rt.alloc(), &EMPTY, true, 262, &[]) == Some(true));
+    assert!(rt; ends_so(rt.alloc(), EMPTY, true, 262, &[]));
 }
 
-/// Whether a text of one segment picks its first slot and has one run, whatever stands behind its end.
-fn one_segment_ends(alloc: Global) -> Option<bool> {
-    let mut written = Written::new(alloc)?;
-    let refs = [(b"refs/heads/main".as_slice(), name_of(b"one"))];
-    written.add(alloc, &[b"one", b"", b"two\nlines"], &refs)?;
-    written.text.extend_from_slice(b"objects 1\nblob").ok()?;
-    ends_so(alloc, &written.text, true, 665, &[(402, 3)])
-}
-
-/// Whether a text of two segments picks its second slot, and both runs are live.
-fn two_segments_end(alloc: Global) -> Option<bool> {
-    let written = two_segments(alloc, b"long")?;
-    let ends = written.text.len() as u64;
-    ends_so(alloc, &written.text, false, ends, &[(402, 3), (789, 2)])
-}
+/// Bytes that pick a slot of two segments: whether it is the first, where the text ends then, and its live runs, whatever stands
+/// behind.
+const PICKED: [(&[u8], bool, u64, &[Run]); 2] = [
+    (b"a", true, 665, &[FIRST]),
+    (b"b", false, 1_215, &[FIRST, SECOND]),
+];
 
 #[test]
 fn texts_of_segments_end_with_the_slot_that_is_picked(rt: HostRuntime) {
-    assert!(rt; one_segment_ends(rt.alloc()) == Some(true));
-    assert!(rt; two_segments_end(rt.alloc()) == Some(true));
+    for (byte, is_first, ends, runs) in PICKED {
+        let Some(text) = two_with(rt.alloc(), 10, byte) else {
+            return assert!(rt; false);
+        };
+        assert!(rt; ends_so(rt.alloc(), text.as_slice(), is_first, ends, runs));
+    }
 }

@@ -1,4 +1,4 @@
-//! Looks into growing texts that are written here, segment by segment, also damaged ones. There are tests alone here.
+//! Looks into growing texts, also damaged ones. There are tests alone here.
 #![tactic(auto)]
 
 #[cfg(test)]
@@ -14,4 +14,6 @@ mod listed;
 #[cfg(test)]
 mod looks;
 #[cfg(test)]
-mod written;
+mod refs;
+#[cfg(test)]
+mod texts;

@@ -1,8 +1,9 @@
 //! What is listed of growing texts.
 
-use crate::looks::{look_into, two_segments};
-use crate::written::{Written, name_of, put_at};
-use gx_listed::Standing;
+use crate::damaged::two_with_another;
+use crate::looks::{look_into, name_of};
+use crate::texts::{SAME, TWO};
+use gx_listed::{Listing, Standing};
 use gx_object::Kind;
 use gx_objects::LookFault;
 use std::alloc::Global;
@@ -18,10 +19,7 @@ const BLOBS: [(&[u8], u64); 5] = [
 ];
 
 /// Whether these blobs are listed in their order, and no other.
-fn are_listed(alloc: Global, piece: usize, state: RandomState) -> Option<bool> {
-    let written = two_segments(alloc, b"long")?;
-    let look = look_into(alloc, &written.text, piece).ok()?;
-    let listing = look.listing(alloc, state).ok()?;
+fn has_blobs(listing: &Listing<Global>) -> bool {
     for (number, (body, place)) in BLOBS.iter().enumerate() {
         let standing = Standing {
             place: *place,
@@ -29,10 +27,39 @@ fn are_listed(alloc: Global, piece: usize, state: RandomState) -> Option<bool> {
             length: body.len() as u64,
         };
         if listing.get(number) != Some((name_of(body), standing)) {
-            return Some(false);
+            return false;
         }
     }
-    Some(listing.len() == BLOBS.len())
+    listing.len() == BLOBS.len()
+}
+
+/// What is listed of a text in pieces.
+fn listed(
+    alloc: Global,
+    text: &[u8],
+    piece: usize,
+    state: RandomState,
+) -> Result<Listing<Global>, LookFault> {
+    let look = look_into(alloc, text, piece)?;
+    look.listing(alloc, state)
+}
+
+/// Whether the blobs are listed of two segments in pieces.
+fn are_listed(alloc: Global, piece: usize, state: RandomState) -> bool {
+    match listed(alloc, TWO, piece, state) {
+        Ok(listing) => has_blobs(&listing),
+        Err(_) => false,
+    }
+}
+
+#[test]
+fn objects_are_listed_in_their_order(rt: HostRuntime) {
+    let Ok(state) = RandomState::new(&rt) else {
+        return assert!(rt; false);
+    };
+    for piece in [1, 1_000] {
+        assert!(rt; are_listed(rt.alloc(), piece, state));
+    }
 }
 
 /// Whether nothing is listed of a text, which is opened.
@@ -43,29 +70,11 @@ fn is_damaged(alloc: Global, text: &[u8], state: RandomState) -> bool {
     }
 }
 
-/// Whether two segments are damaged where a byte of them is another.
-fn is_damaged_at(alloc: Global, place: usize, state: RandomState) -> Option<bool> {
-    let mut written = two_segments(alloc, b"long")?;
-    let other = *written.text.get(place)? ^ 1;
-    put_at(&mut written.text, place, &[other]);
-    Some(is_damaged(alloc, &written.text, state))
-}
-
-/// Whether two segments are damaged that bring the same blob.
-fn is_damaged_twice(alloc: Global, state: RandomState) -> Option<bool> {
-    let mut written = Written::new(alloc)?;
-    written.add(alloc, &[b"one"], &[])?;
-    written.add(alloc, &[b"one"], &[])?;
-    Some(is_damaged(alloc, &written.text, state))
-}
-
-#[test]
-fn objects_are_listed_in_their_order(rt: HostRuntime) {
-    let Ok(state) = RandomState::new(&rt) else {
-        return assert!(rt; false);
-    };
-    for piece in [1, 1_000] {
-        assert!(rt; are_listed(rt.alloc(), piece, state) == Some(true));
+/// Whether two segments are damaged where the byte at a place is another.
+fn is_damaged_at(alloc: Global, place: usize, state: RandomState) -> bool {
+    match two_with_another(alloc, place) {
+        Some(text) => is_damaged(alloc, text.as_slice(), state),
+        None => false,
     }
 }
 
@@ -76,7 +85,7 @@ fn nothing_is_listed_of_a_damaged_text(rt: HostRuntime) {
     };
     // a record's kind and name, and a row's name and place
     for place in [236, 243, 402, 429] {
-        assert!(rt; is_damaged_at(rt.alloc(), place, state) == Some(true));
+        assert!(rt; is_damaged_at(rt.alloc(), place, state));
     }
-    assert!(rt; is_damaged_twice(rt.alloc(), state) == Some(true));
+    assert!(rt; is_damaged(rt.alloc(), SAME, state));
 }

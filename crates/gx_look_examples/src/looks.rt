@@ -1,10 +1,10 @@
 //! What is found in growing texts.
 
 use crate::counted::Counted;
-use crate::written::{Written, name_of};
+use crate::texts::{EMPTY, HEAD, LONG_BEHIND, LONG_FRONT, THRICE, TWO};
 use gx_at::TextAt;
 use gx_look::Look;
-use gx_object::{Kind, Name, Sha1Namer};
+use gx_object::{Kind, Name, Namer, Sha1Namer};
 use gx_objects::{LookFault, Objects};
 use std::alloc::Global;
 use std::cell::Cell;
@@ -18,8 +18,13 @@ pub(crate) fn look_into(
     Look::open(alloc, Sha1Namer, TextAt { text, piece })
 }
 
+/// The name of a blob.
+pub(crate) fn name_of(body: &[u8]) -> Name {
+    Sha1Namer.name(Kind::Blob, body)
+}
+
 /// Whether this blob is found by its name, with its body.
-pub(crate) fn is_found<O: Objects>(alloc: Global, objects: &O, body: &[u8]) -> bool {
+fn is_found<O: Objects>(alloc: Global, objects: &O, body: &[u8]) -> bool {
     let mut room = Vec::new(alloc);
     match objects.object(&name_of(body), &mut room) {
         Ok(Some(object)) => object.kind == Kind::Blob && object.body == body,
@@ -33,111 +38,94 @@ fn is_absent<O: Objects>(alloc: Global, objects: &O, body: &[u8]) -> bool {
     matches!(objects.object(&name_of(body), &mut room), Ok(None))
 }
 
-/// Two segments: the second has refs of its own.
-pub(crate) fn two_segments(alloc: Global, long: &[u8]) -> Option<Written> {
-    let mut written = Written::new(alloc)?;
-    written.add(
-        alloc,
-        &[b"one", b"", b"two\nlines"],
-        &[(b"refs/heads/main", name_of(b"one"))],
-    )?;
-    written.add(
-        alloc,
-        &[b"three", long],
-        &[
-            (b"refs/heads/main", name_of(b"three")),
-            (b"refs/remotes/origin/HEAD", name_of(b"")),
-            (b"refs/tags/v1", name_of(b"one")),
-        ],
-    )?;
-    Some(written)
+/// Two segments with a blob of 200,000 bytes.
+fn long_text(alloc: Global) -> Option<Vec<u8>> {
+    let mut text = Vec::from_slice(alloc, LONG_FRONT).ok()?;
+    text.resize(200_782, b'x').ok()?;
+    text.extend_from_slice(LONG_BEHIND).ok()?;
+    Some(text)
 }
 
-/// Whether all of two segments are found, however reads are cut.
-fn all_found(alloc: Global, piece: usize) -> Option<bool> {
-    let mut long = Vec::new(alloc);
-    long.resize(200_000, b'x').ok()?;
-    let written = two_segments(alloc, &long)?;
-    let look = look_into(alloc, &written.text, piece).ok()?;
-    let bodies: [&[u8]; 5] = [b"one", b"", b"two\nlines", b"three", &long];
-    for body in bodies {
-        if !is_found(alloc, &look, body) {
-            return Some(false);
-        }
+/// Whether all of these segments are found, however reads are cut, and no other blob.
+fn all_found(alloc: Global, text: &[u8], piece: usize) -> Option<bool> {
+    let long = text.get(782..200_782)?;
+    let look = look_into(alloc, text, piece).ok()?;
+    let mut all = true;
+    for body in [b"one".as_slice(), b"", b"two\nlines", b"three", long] {
+        all = all && is_found(alloc, &look, body);
     }
-    Some(is_absent(alloc, &look, b"four"))
+    Some(all && is_absent(alloc, &look, b"four"))
 }
 
 #[test]
 fn each_object_of_each_segment_is_found(rt: HostRuntime) {
+    let Some(text) = long_text(rt.alloc()) else {
+        return assert!(rt; false);
+    };
     for piece in [1, 7, 4_096, 1_000_000] {
-        assert!(rt; all_found(rt.alloc(), piece) == Some(true));
+        assert!(rt;
+            all_found(rt.alloc(), text.as_slice(), piece) == Some(true),
+            "{piece}"
+        );
     }
 }
 
-/// What six names of a word lead to in two segments.
+/// The names of the blobs `three`, `one` and the empty one.
+const THREE: Name = Name {
+    bytes: *b"\x1d\x19\x71\x4f\xfb\xc2\x72\xba\x0d\xa6\xeb\x41\x9d\x66\x12\x3c\x20\x52\x71\x74",
+};
+
+const ONE: Name = Name {
+    bytes: *b"\x43\xdd\x47\xea\x69\x1c\x90\xa5\xfa\x78\x27\x89\x2c\x70\x24\x19\x13\x35\x19\x63",
+};
+
+const NOTHING: Name = Name {
+    bytes: *b"\xe6\x9d\xe2\x9b\xb2\xd1\xd6\x43\x4b\x8b\x29\xae\x77\x5a\xd8\xc2\xe4\x8c\x53\x91",
+};
+
+/// Words, and what their six names lead to in two segments.
+const WORDS: [(&[u8], Option<Name>); 7] = [
+    (b"main", Some(THREE)),
+    (b"heads/main", Some(THREE)),
+    (b"refs/heads/main", Some(THREE)),
+    (b"origin", Some(NOTHING)),
+    (b"v1", Some(ONE)),
+    (b"v", None),
+    (b"end", None),
+];
+
+/// What the six names of a word lead to in two segments.
 fn object_of_word(alloc: Global, word: &[u8]) -> Option<Option<Name>> {
-    let written = two_segments(alloc, b"long")?;
-    let look = look_into(alloc, &written.text, 1_000).ok()?;
+    let look = look_into(alloc, TWO, 1_000).ok()?;
     look.object_of_ref(word).ok()
 }
 
 #[test]
 fn six_names_lead_to_the_refs_of_the_last_tail(rt: HostRuntime) {
-    let three = name_of(b"three");
-    assert!(rt; object_of_word(rt.alloc(), b"main") == Some(Some(three)));
-    assert!(rt; object_of_word(rt.alloc(), b"heads/main") == Some(Some(three)));
-    assert!(rt; object_of_word(rt.alloc(), b"refs/heads/main") == Some(Some(three)));
-    assert!(rt; object_of_word(rt.alloc(), b"origin") == Some(Some(name_of(b""))));
-    assert!(rt; object_of_word(rt.alloc(), b"v1") == Some(Some(name_of(b"one"))));
-    assert!(rt; object_of_word(rt.alloc(), b"v") == Some(None));
-    assert!(rt; object_of_word(rt.alloc(), b"end") == Some(None));
+    for (word, name) in WORDS {
+        assert!(rt; object_of_word(rt.alloc(), word) == Some(name));
+    }
 }
 
-/// What is found in the empty text, and in one where a segment of no objects follows.
-fn empty_finds(alloc: Global, segments: usize) -> Option<bool> {
-    let mut written = Written::new(alloc)?;
-    for _ in 0..segments {
-        written.add(alloc, &[], &[])?;
-    }
-    let look = look_into(alloc, &written.text, 1_000).ok()?;
+/// Whether a text has no object and no ref.
+fn finds_nothing(alloc: Global, text: &[u8]) -> Option<bool> {
+    let look = look_into(alloc, text, 1_000).ok()?;
     Some(is_absent(alloc, &look, b"") && look.object_of_ref(b"main") == Ok(None))
 }
 
 #[test]
 fn empty_text_has_no_object_and_no_ref(rt: HostRuntime) {
-    assert!(rt; empty_finds(rt.alloc(), 1) == Some(true));
-    assert!(rt; empty_finds(rt.alloc(), 3) == Some(true));
-    assert!(rt; empty_finds(rt.alloc(), 0) == None);
-}
-
-/// The text with no object and no ref, as it is written.
-pub(crate) const EMPTY: [u8; 262] = *b"gxstore 3\na\n\
-00000000000000000262 00000000000000000244 \
-adb75895df009d6af652e3e2686b8d561b10c7e4b0c7c84e20c13de012fb0597\n\
-00000000000000000000 00000000000000000000 \
-0000000000000000000000000000000000000000000000000000000000000000\n\
-objects 0\nrows 0\n\nruns 0\nrefs 0\nend\n";
-
-/// Whether the text that is written here with one segment of no objects is the empty one.
-fn is_written_so(alloc: Global) -> Option<bool> {
-    let mut written = Written::new(alloc)?;
-    written.add(alloc, &[], &[])?;
-    Some(written.text.as_slice() == EMPTY.as_slice())
-}
-
-#[test]
-fn empty_text_is_written_so(rt: HostRuntime) {
-    assert!(rt; is_written_so(rt.alloc()) == Some(true));
+    for (text, answer) in [(EMPTY, Some(true)), (THRICE, Some(true)), (HEAD, None)] {
+        assert!(rt; finds_nothing(rt.alloc(), text) == answer);
+    }
 }
 
 /// How many reads opening takes, and then the look-up of an object in the second run.
 fn reads_taken(alloc: Global) -> Option<(u64, u64)> {
-    let written = two_segments(alloc, b"long")?;
     let reads = Cell::new(0);
     let source = Counted {
         text: TextAt {
-            text: &written.text,
+            text: TWO,
             piece: usize::MAX,
         },
         reads: &reads,

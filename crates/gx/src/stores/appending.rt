@@ -7,6 +7,7 @@ use super::host::Host;
 use super::process::most_bytes_of_a_file;
 use crate::fault::RunFault;
 use crate::looks::file_at::FileAt;
+use crate::looks::{FileLook, row_count};
 use crate::run::{Run, Subject};
 use gx_additions::{AdditionFault, append_additions, append_objects, append_refs};
 use gx_append::{AppendFault, Device};
@@ -51,7 +52,7 @@ pub(crate) struct InPlace<'a> {
     host: Host<'a>,
     file: File,
     stamp: Stamp,
-    pub(crate) look: Look<FileAt<'a>, Sha1Namer, Global>,
+    pub(crate) look: FileLook<'a>,
 }
 
 impl<'a> InPlace<'a> {
@@ -75,12 +76,6 @@ impl<'a> InPlace<'a> {
         })
     }
 
-    /// How many objects it has.
-    pub(crate) fn held(&self) -> u64 {
-        let runs = self.look.ending().runs.iter();
-        runs.fold(0u64, |sum, run| sum.saturating_add(run.count))
-    }
-
     /// How many bytes it has.
     pub(crate) fn size(&self) -> u64 {
         self.stamp.size
@@ -88,7 +83,7 @@ impl<'a> InPlace<'a> {
 
     /// Whether it has no objects, or not more than so many bytes.
     pub(crate) fn is_outweighed_by(&self, bytes: u64) -> bool {
-        self.held() == 0 || bytes >= self.stamp.size
+        row_count(&self.look) == 0 || bytes >= self.stamp.size
     }
 
     /// Appends what a repository has beside the objects that the file holds, so many.
@@ -116,7 +111,8 @@ impl<'a> InPlace<'a> {
         self.want_same(place)?;
         let mut device = self.device(place)?;
         let (alloc, ending) = (self.host.run.rt.alloc(), self.look.ending());
-        let answer = append_additions(alloc, &mut device, ending, self.held(), new, count, refs);
+        let held = row_count(&self.look);
+        let answer = append_additions(alloc, &mut device, ending, held, new, count, refs);
         self.appended(answer)
     }
 
@@ -139,7 +135,7 @@ impl<'a> InPlace<'a> {
         if settle(self.host, place, self.stamp)? {
             Ok(())
         } else {
-            Err(self.changed())
+            Err(changed(self.host.run))
         }
     }
 
@@ -148,14 +144,8 @@ impl<'a> InPlace<'a> {
         let mut host = self.host;
         match host.look(place.store()) {
             Ok(found) if found.stamp == self.stamp => Ok(()),
-            _ => Err(self.changed()),
+            _ => Err(changed(self.host.run)),
         }
-    }
-
-    fn changed(&self) -> RunFault {
-        let error = io::Error::other("changed since it was read");
-        let run = self.host.run;
-        run.failed(Subject::Store, error, CliFault::WriteFailed)
     }
 
     /// What the file is written by. That it stands there is made durable first, and what a killed run left behind its end goes.
@@ -198,8 +188,14 @@ pub(super) fn settle(mut host: Host<'_>, place: &Place, stamp: Stamp) -> Result<
     Ok(true)
 }
 
+/// Why a store file isn't written that isn't the one that was read any more.
+pub(super) fn changed(run: &Run<'_>) -> RunFault {
+    let error = io::Error::other("changed since it was read");
+    run.failed(Subject::Store, error, CliFault::WriteFailed)
+}
+
 /// Opens a store file, where that is the one that was read.
-fn open_same(host: &mut Host<'_>, place: &Place, stamp: Stamp) -> Option<File> {
+pub(super) fn open_same(host: &mut Host<'_>, place: &Place, stamp: Stamp) -> Option<File> {
     let opened = host.open(place.store()).ok()?;
     let is_same = host.look_at(&opened).ok()?.stamp == stamp;
     is_same.then_some(opened)

@@ -12,7 +12,7 @@ use std::io;
 
 /// The bytes of a store file, behind the links at the end of its path.
 pub(crate) fn read_store(run: &Run<'_>, file: &str) -> Result<Vec<u8>, CliFault> {
-    run.want_read(read_linked(&mut Host { run, file }))
+    run.want_read(read_linked(&mut Host::new(run, file)))
 }
 
 /// The repository of a store's text of any version.

@@ -18,11 +18,39 @@ const PAUSE: u64 = 100;
 /// The set-group-ID bit of a mode.
 const SET_GROUP: u32 = 0o2000;
 
+/// All permissions of a file.
+const ANY: u32 = 0o777;
+
+/// Those of a file that is its owner's alone.
+const OWN: u32 = 0o600;
+
 /// The system of a run, and the store file as its user names it.
 #[derive(Clone, Copy, Drop)]
 pub(crate) struct Host<'a> {
     pub(crate) run: &'a Run<'a>,
     pub(crate) file: &'a str,
+    /// No file is made with other permissions than these.
+    most: u32,
+}
+
+impl<'a> Host<'a> {
+    pub(crate) fn new(run: &'a Run<'a>, file: &'a str) -> Host<'a> {
+        Host {
+            run,
+            file,
+            most: ANY,
+        }
+    }
+
+    /// One that makes files that are their owner's alone, unless everybody may read this file.
+    pub(crate) fn beside(run: &'a Run<'a>, file: &'a str, other: &str) -> Host<'a> {
+        let mut host = Host::new(run, file);
+        match host.look(other) {
+            Ok(found) if found.rights.mode.others.reads => {}
+            _ => host.most = OWN,
+        }
+        host
+    }
 }
 
 impl System for Host<'_> {
@@ -56,7 +84,10 @@ impl System for Host<'_> {
 
     fn make(&mut self, path: &str, mode: Mode) -> io::Result<File> {
         let mut options = File::options();
-        options.write(true).create_new(true).mode(mode.bits());
+        options
+            .write(true)
+            .create_new(true)
+            .mode(mode.bits() & self.most);
         options.open(self.run.rt, path)
     }
 

@@ -1,7 +1,8 @@
 //! The next text of a store file, which a command writes beside it, or of which it appends to the store file what is new.
 
-use super::appending::{InPlace, grow_by, settle};
+use super::appending::{InPlace, changed, grow_by, open_same, settle};
 use super::before::{Before, TextKind};
+use super::differing::Differing;
 use super::host::Host;
 use crate::fault::RunFault;
 use crate::looks::FileLook;
@@ -38,14 +39,25 @@ pub(crate) struct NextText<'a> {
 impl<'a> NextText<'a> {
     /// That of a store file that is made. A place where there is something is refused.
     pub(crate) fn claim_new(run: &'a Run<'a>, file: &'a str) -> Result<NextText<'a>, RunFault> {
-        let host = Host { run, file };
+        let host = Host::new(run, file);
+        let claimed = gx_place::NextText::claim_new(run.rt.alloc(), host, file, run.patience());
+        NextText::of_claim(host, claimed)
+    }
+
+    /// The same, of what another file tells: it is its owner's alone, unless everybody may read that one.
+    pub(crate) fn claim_beside(
+        run: &'a Run<'a>,
+        file: &'a str,
+        other: &str,
+    ) -> Result<NextText<'a>, RunFault> {
+        let host = Host::beside(run, file, other);
         let claimed = gx_place::NextText::claim_new(run.rt.alloc(), host, file, run.patience());
         NextText::of_claim(host, claimed)
     }
 
     /// That of a store file that is replaced. One that can't be read is refused before anything is made.
     pub(crate) fn claim_next(run: &'a Run<'a>, file: &'a str) -> Result<NextText<'a>, RunFault> {
-        let host = Host { run, file };
+        let host = Host::new(run, file);
         let claimed = gx_place::NextText::claim_next(run.rt.alloc(), host, file, run.patience());
         NextText::of_claim(host, claimed)
     }
@@ -56,7 +68,7 @@ impl<'a> NextText<'a> {
         file: &'a str,
         known: Stamp,
     ) -> Result<NextText<'a>, RunFault> {
-        let (alloc, host) = (run.rt.alloc(), Host { run, file });
+        let (alloc, host) = (run.rt.alloc(), Host::new(run, file));
         let claimed = gx_place::NextText::claim_known(alloc, host, file, run.patience(), known);
         NextText::of_claim(host, claimed)
     }
@@ -158,7 +170,7 @@ impl<'a> NextText<'a> {
     }
 
     /// Publishes what refs and these names reach of a growing store file that had this stamp when it was opened. That stays as it is
-    /// where it has nothing else, and as many bytes as the next text. Answers how much goes.
+    /// where it has the bytes of the next text. Answers how much goes.
     ///
     /// Who fails leaves what [`NextText::publish_store`] does.
     pub(crate) fn publish_kept(
@@ -169,10 +181,12 @@ impl<'a> NextText<'a> {
         kept: &[Name],
     ) -> Result<Pruned, RunFault> {
         self.host.run.placed(self.text.begin())?;
-        let gone = write_kept(self.host.run, &mut self.text, look, listing, kept)?;
-        let is_same = gone.objects == 0 && self.written()? == stamp.size;
-        if !is_same || !settle(self.host, self.text.place(), stamp)? {
+        let store = self.open_store(stamp)?;
+        let gone = write_kept(self.host.run, &mut self.text, store, look, listing, kept)?;
+        if self.is_written()? {
             self.put_in_place()?;
+        } else if !settle(self.host, self.text.place(), stamp)? {
+            return Err(changed(self.host.run));
         }
         Ok(gone)
     }
@@ -192,16 +206,24 @@ impl<'a> NextText<'a> {
                 self.put_in_place()?;
                 Ok(true)
             }
-            Err(RunFault::Damaged) if self.written()? == 0 => Ok(false),
+            Err(RunFault::Damaged) if !self.is_written()? => Ok(false),
             Err(fault) => Err(fault),
         }
     }
 
-    /// How many bytes are written of the next text.
-    fn written(&mut self) -> Result<u64, RunFault> {
+    /// The store file, to compare the next text with it, and how many bytes it has.
+    fn open_store(&mut self, stamp: Stamp) -> Result<(FileAt<'a>, u64), RunFault> {
+        match open_same(&mut self.host, self.text.place(), stamp) {
+            Some(opened) => Ok((FileAt::read_only(self.host.run, opened), stamp.size)),
+            None => Err(changed(self.host.run)),
+        }
+    }
+
+    /// Whether there is something of the next text.
+    fn is_written(&mut self) -> Result<bool, RunFault> {
         let found = self.host.look(self.text.place().next());
         let found = self.host.run.want_written(Subject::NextText, found)?;
-        Ok(found.stamp.size)
+        Ok(found.stamp.size > 0)
     }
 
     /// The stamp of the store file, where its text is the next one.
@@ -247,17 +269,19 @@ fn write_store(
     }
 }
 
-/// What is kept of a store goes out through a buffer.
+/// What is kept of a store goes out through a buffer, from where it isn't what the store file has.
 fn write_kept(
     run: &Run<'_>,
     text: &mut gx_place::NextText<Host<'_>>,
+    store: (FileAt<'_>, u64),
     look: &FileLook<'_>,
     listing: &Listing<Global>,
     kept: &[Name],
 ) -> Result<Pruned, RunFault> {
     let alloc = run.rt.alloc();
     let noted = Noted::new(run, Subject::NextText, text);
-    match BufWriter::with_capacity(alloc, BUFFER, noted) {
+    let differing = Differing::new(alloc, store, noted)?;
+    match BufWriter::with_capacity(alloc, BUFFER, differing) {
         Ok(mut out) => {
             let mut sink = IntoWrite::new(&mut out);
             let sent = gx_kept::collect(alloc, look, listing, kept, &mut sink);

@@ -99,11 +99,11 @@ def test_spoiled(gx: Program, tmp_path: Path, randoms: random.Random, times: int
         try_spoiled(gx, tmp_path / "store", randoms)
 
 
-LARGE = 64
+LARGE = 24
 
 
 def test_holds_no_body(gx: Program, tmp_path: Path) -> None:
-    """A store of 64 MB is grown where there is room for a blob of it, and not for eight."""
+    """A store of 24 MB is grown where there is room for a few blobs of it, and not for half of them."""
     blobs = [("blob", b"%08d" % number + bytes((1 << 20) - 8)) for number in range(LARGE)]
     objects = [*blobs, *COMMITTED]
     lines = [
@@ -114,6 +114,6 @@ def test_holds_no_body(gx: Program, tmp_path: Path) -> None:
     refs = b"refs 1\n%s refs/heads/main\nend\n" % COMMIT.encode()
     store = tmp_path / "store"
     store.write_bytes(front + b"".join(lines) + refs)
-    limit = (16 << 20, 16 << 20)
+    limit = (12 << 20, 12 << 20)
     gx.prints("grow", store, preexec_fn=lambda: resource.setrlimit(resource.RLIMIT_AS, limit))
     assert gx.prints("verify", store).startswith(b"version 3\nobjects %d\n" % len(objects))

@@ -109,7 +109,7 @@ module _ (listed : List Listed) (rooms : List ℕ) (e : Entry) where
     full_looked some = λ name rs h. (
       ap (λ x. is_entry_held rs x e.name) m ∙ (f rs h.heads).1,
       ap (λ x. Some (1 + length e.component + x)) (room_is name rs h)
-      ∙ full_entry name h.namer rs h.sound e i m (f rs h.heads).0 (f rs h.heads).1 (λ z. some (room_is name rs h ∙ z)),
+          ∙ full_entry name h.namer rs h.sound e i m (f rs h.heads).0 (f rs h.heads).1 (λ z. some (room_is name rs h ∙ z)),
     )
 
 -- the number of an object has a room, which isn't large

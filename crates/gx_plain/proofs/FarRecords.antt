@@ -63,7 +63,7 @@ module _ (name : Kind → Bytes → Bytes) (text : Bytes) (start : Start) where
           ap places_listed last ∙ map_push (λ one. one.1.place) listed one ∙ (λ j. far.places j ++ (stands ∙ far.ends) j ∷ [])
           ∙ sym (places_push start.version start.place rs held);
       stand = subst (λ z. AreStored name start.version text z (rs ++ held ∷ [])) (sym last) (zip_push (λ one held. IsStoredAt name start.version text one.1.place held.name held) listed rs one held far.stand
-      (subst (λ k. IsStoredAt name start.version text k held.name held) (sym stands) next.stored));
+          (subst (λ k. IsStoredAt name start.version text k held.name held) (sym stands) next.stored));
     }
 
     pub refused_more : (why : LookFault) → i < start.count → RefusesWith why (next_record name start.version rs (drop place text)) → RefusesWith why all_given

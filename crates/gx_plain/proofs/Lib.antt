@@ -1,3 +1,4 @@
+pub mod AddedRecords
 pub mod BegunNames
 pub mod Checks
 pub mod FarRecords

@@ -105,11 +105,11 @@ module _ (v : Version) (text : Bytes) (c : ℕ) where
             let body : x.0 ≡ take n (drop start room) = sym (take_at x.0 (10 ∷ x.1) n here.1) ∙ ap (take n) (sym here.0) in
             let rest : x.1 ++ drop (m - start) behind ≡ drop (start + n + 1) text =
             (let s : n + 1 ≡ length (x.0 ++ 10 ∷ []) = ap (λ z. z + 1) (sym here.1) ∙ sym (length-append x.0 (10 ∷ [])) in
-                let sum : start + (n + 1) ≡ start + n + 1 = omega arith in
-                sym (drop-append_seam (x.0 ++ 10 ∷ []) (x.1 ++ drop (m - start) behind))
-                ∙ ap (drop (length (x.0 ++ 10 ∷ []))) (append_assoc x.0 (10 ∷ []) (x.1 ++ drop (m - start) behind) ∙ sym there.0)
-                ∙ ap (λ z. drop z behind) (sym s)
-                ∙ ap (drop (n + 1)) (sym left)
-                ∙ drop-drop (n + 1) start text
-                ∙ ap (λ z. drop z text) sum) in
+            let sum : start + (n + 1) ≡ start + n + 1 = omega arith in
+            sym (drop-append_seam (x.0 ++ 10 ∷ []) (x.1 ++ drop (m - start) behind))
+            ∙ ap (drop (length (x.0 ++ 10 ∷ []))) (append_assoc x.0 (10 ∷ []) (x.1 ++ drop (m - start) behind) ∙ sym there.0)
+            ∙ ap (λ z. drop z behind) (sym s)
+            ∙ ap (drop (n + 1)) (sym left)
+            ∙ drop-drop (n + 1) start text
+            ∙ ap (λ z. drop z text) sum) in
             (heading_then ∙ ap (λ s. s >>= λ body. Ok (k, body)) whole ∙ (λ i. Ok (k, (body i, rest i))), body_within (x.0, x.1 ++ drop (m - start) behind) whole)

@@ -54,7 +54,7 @@ module _ (name : Kind → Bytes → Bytes) where
       counted rs (Err why) = refl
 
       -- what the definition reads behind the records
-      abbrev behind : List Record × Bytes → Stored Records
+      behind : List Record × Bytes → Stored Records
       behind x = stored_count (codes "refs") x.1 >>= λ refs. next_refs refs.0 x.0 None refs.1 >>= λ named. stored_end named.1 >>= λ ended. Ok (record { records = x.0; refs = named.0 })
 
       records : (r : Stored (List Record × Bytes)) → (r >>= behind) ≡ (r >>= with_records)

@@ -7,7 +7,7 @@ ghost use Rattle.gx_plain.specs.Held.{AreHeld, ChecksBody, FindsHeld, LooksAtEnt
 
 use gx_listed::Listing;
 use gx_model::store_laws::bodies_are_read;
-use gx_object::{Entry, Kind, Mode, Name, TreeReader, decode_commit, decode_tag};
+use gx_object::{BadObject, Entry, Kind, Mode, Name, TreeReader, decode_commit, decode_tag};
 use std::alloc::Allocator;
 
 /// The room of the longest path, of 4,095 bytes.
@@ -46,14 +46,21 @@ fn tree_room<A: Allocator + Copy>(
     bodies_are_read();
     let mut reader = TreeReader::new(body);
     let mut widest = 0;
-    while let Some((entry, _text)) = reader.read().ok()? {
-        let room = entry_room(listing, rooms, &entry)?;
-        widest = usize::max(widest, room);
+    loop {
+        match reader.read() {
+            Ok(Some((entry, _text))) => {
+                let room = entry_room(listing, rooms, &entry)?;
+                widest = usize::max(widest, room);
+            }
+            Ok(None) => break,
+            Err(BadObject) => return None,
+        }
     }
     if widest > MOST_ROOM {
-        return None;
+        None
+    } else {
+        Some(widest)
     }
-    Some(widest)
 }
 
 /// The room of what is at or below an entry. None where what it names isn't listed, or is a tree without entries.
@@ -89,7 +96,9 @@ fn commit_room<A: Allocator + Copy>(
     ensures { ChecksBody listing.now rooms.now kinds.Commit body.now result }
 {
     bodies_are_read();
-    let commit = decode_commit(body).ok()?;
+    let Ok(commit) = decode_commit(body) else {
+        return None;
+    };
     number_of(listing, Kind::Tree, &commit.tree())?;
     for place in 0..commit.parent_count() {
         let Some(parent) = commit.parent(place) else {
@@ -109,7 +118,9 @@ fn tag_room<A: Allocator + Copy>(
     ensures { ChecksBody listing.now rooms.now kinds.Tag body.now result }
 {
     bodies_are_read();
-    let tag = decode_tag(body).ok()?;
+    let Ok(tag) = decode_tag(body) else {
+        return None;
+    };
     number_of(listing, Kind::Commit, &tag.object())?;
     Some(0)
 }
@@ -119,8 +130,8 @@ fn number_of<A: Allocator + Copy>(listing: &Listing<A>, kind: Kind, name: &Name)
     ensures { FindsHeld listing.now kind name.now.bytes result }
 {
     let number = listing.number(name)?;
-    let (_name, standing) = listing.get(number)?;
-    if standing.kind == kind {
+    let one = listing.get(number)?;
+    if one.1.kind == kind {
         Some(number)
     } else {
         None

@@ -5,11 +5,11 @@ ghost use Rattle.gx_plain.specs.Refs.{HoldsLines, ReadsTail, TellsTag, TellsTarg
 
 use crate::fill::read_front;
 use crate::records::read_named;
+use gx_look::are_refs;
 use gx_at::ReadAt;
 use gx_file::{is_after, read_ref};
 use gx_lines::read_count;
 use gx_listed::Listing;
-use gx_look::are_refs;
 use gx_model::Version;
 use gx_object::{Kind, Name, Namer, decode_tag};
 use gx_objects::LookFault;

@@ -1,6 +1,6 @@
 -- The next record of a plain text is listed, or why it isn't.
-use Rattle.std.proofs.Common.{◌≡◌, ◌≢◌, ℕ, ◌+◌, ◌-◌, ◌<◌, ◌≤◌, true, false, List, [], ◌∷◌, ◌++◌, length, drop, take, Option, Some, None, Result, Ok, Err, refl, sym, ap, ◌∙◌, subst, arith, is_some}
-use Rattle.std.specs.Prelude.{IfSome, slice_range}
+use Rattle.std.proofs.Common.{◌≡◌, ◌≢◌, ℕ, ◌+◌, ◌-◌, true, false, List, [], ◌∷◌, ◌++◌, length, drop, Option, Some, None, Ok, Err, refl, sym, ap, ◌∙◌, subst, arith}
+use Rattle.std.specs.Prelude.{IfSome}
 use Rattle.std.proofs.lemmas.List.{length-append, length-drop, length-take-le, same_from_push}
 use Rattle.gx_model.specs.declared.objects.Kind.{Kind}
 use Rattle.gx_model.specs.declared.store_faults.FileFault.{FileFault}
@@ -8,20 +8,18 @@ use Rattle.gx_model.specs.declared.store_faults.FileFault.TheVariants as fault
 use Rattle.gx_model.specs.declared.store_versions.Version.{Version}
 use Rattle.gx_model.specs.Texts.{Bytes}
 use Rattle.gx_model.specs.Histories.{Record, record_for}
-use Rattle.gx_model.specs.Records.Growth.{record_named}
-use Rattle.gx_model.specs.Records.RecordFaults.{content_fault, record_fault}
+use Rattle.gx_model.specs.Records.RecordFaults.{record_fault}
 use Rattle.gx_model.specs.Stores.StoreReading.{is_stated, next_record}
 use Rattle.gx_model.specs.Stores.StoreText.{stored_record}
 use Rattle.gx_model.proofs.Stores.StoredRecords.{record_of_text}
 use Rattle.gx_object.specs.Parts.{bytes_if}
-use Rattle.gx_repo.specs.Rooms.{room_below}
 use Rattle.gx_listed.specs.Listings.{Listed, head_of, number_named, shown_head}
 use Rattle.gx_objects.specs.declared.fault.LookFault.{LookFault}
 use Rattle.gx_objects.specs.declared.fault.LookFault.TheVariants.{Damaged}
 use Rattle.gx_plain.specs.Held.{ChecksBody, IsHeld}
 use Rattle.gx_plain.specs.Listing.{IsNext, IsOneMore}
-use Rattle.gx_plain.specs.Reading.{IsRefused, RefusesWith}
-use Rattle.gx_plain.specs.Records.{IsParts, IsRoomOf, IsStoredAt, ReadsParts, body_in, end_of, next_parts, shown_parts}
+use Rattle.gx_plain.specs.Reading.{RefusesWith}
+use Rattle.gx_plain.specs.Records.{IsParts, IsRoomOf, ReadsParts, body_in, end_of, shown_parts}
 use Rattle.gx_plain.specs.declared.records.Found.{Found}
 use Rattle.gx_plain.proofs.NextRecords.{fault_held, fault_none, fault_of, misnamed, more_held, no_parts, none_named, opposed, some_named, taken}
 

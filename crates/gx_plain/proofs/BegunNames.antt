@@ -13,8 +13,7 @@ use Rattle.gx_model.proofs.ObjectTexts.TreePaths.{name_is_name}
 use Rattle.gx_model.proofs.Texts.PathTests.{is_true}
 use Rattle.gx_object.specs.declared.name.Name.{Name}
 use Rattle.gx_store.specs.NameOrder.{is_within}
-use Rattle.gx_store.specs.Prefixes.{AreEnds, BeginNone, found_between, joined, picked, prefix_of}
-use Rattle.gx_store.specs.declared.prefix.Prefix.{Prefix}
+use Rattle.gx_store.specs.Prefixes.{AreEnds, BeginNone, found_between, joined, prefix_of}
 use Rattle.gx_store.specs.declared.prefix.Prefix.TheVariants.{Absent, Unique}
 use Rattle.gx_listed.specs.Listings.{HaveHeads, Head, Listed, head_of, shown_head}
 

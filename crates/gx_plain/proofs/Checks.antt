@@ -1,5 +1,5 @@
 -- What is against a body, by what is listed of the records before it.
-use Rattle.std.proofs.Common.{◌≡◌, ◌≢◌, ◌⊎◌, inl, inr, ℕ, ◌+◌, ◌<◌, ◌≤◌, true, false, Bool, ◌&&◌, List, [], ◌∷◌, length, drop, get_or, slice_get, max, Option, Some, None, refl, sym, ap, ◌∙◌, subst, arith}
+use Rattle.std.proofs.Common.{◌≡◌, ◌≢◌, inl, inr, ℕ, ◌+◌, ◌<◌, ◌≤◌, true, false, Bool, ◌&&◌, List, [], ◌∷◌, length, drop, get_or, slice_get, max, Option, Some, None, refl, sym, ap, ◌∙◌, subst, arith}
 use Rattle.std.specs.List.{list_all}
 use Rattle.std.specs.Option.{option_map}
 use Rattle.std.proofs.lemmas.Bool.{false_from_ne_true}
@@ -15,18 +15,17 @@ use Rattle.gx_model.specs.Laws.StoreLaws.{BodiesAreRead, IsBody}
 use Rattle.gx_model.specs.Objects.{CommitParts, Entry, IsCommitText, IsTagText, TagParts}
 use Rattle.gx_model.specs.Records.Growth.{same_kind}
 use Rattle.gx_model.specs.Records.HistoryOf.{entries_in}
-use Rattle.gx_model.specs.Records.RecordFaults.{are_links_held, content_fault, is_body, is_entry_held, is_held, is_of_kind}
-use Rattle.gx_store.specs.Stores.{place_named}
+use Rattle.gx_model.specs.Records.RecordFaults.{are_links_held, content_fault, is_bad_below, is_body, is_entry_held, is_held, is_of_kind}
 use Rattle.gx_repo.specs.Checking.{entry_room, fault_behind, wider, widest}
 use Rattle.gx_repo.specs.Records.{add_fault}
-use Rattle.gx_repo.specs.Rooms.{room_at, room_below, rooms_of}
+use Rattle.gx_repo.specs.Rooms.{room_at, rooms_of}
 use Rattle.gx_repo.proofs.CheckedEntries.{empty_entry, full_entry, held_at_place, nothing_held}
 use Rattle.gx_repo.proofs.ContentFaults.{bad_below, commit_dangling, commit_fine, empty_below, fine_below, long_below, not_canonical, not_held, nothing_against, tag_dangling, tag_fine, told_bad, widest_room}
 use Rattle.gx_repo.proofs.HeldRecords.{kind_is}
 use Rattle.gx_repo.proofs.Places.{is_place}
-use Rattle.gx_repo.proofs.ReadTrees.{IsLeft, left_bad, left_dangling, left_end, left_first, left_next}
+use Rattle.gx_repo.proofs.ReadTrees.{IsLeft, left_bad, left_dangling, left_end, left_next}
 use Rattle.gx_repo.proofs.RecordRooms.{rooms_count, rooms_small}
-use Rattle.gx_listed.specs.Listings.{HaveHeads, Head, Listed, head_of, number_named, shown_head}
+use Rattle.gx_listed.specs.Listings.{HaveHeads, Head, Listed, number_named}
 use Rattle.gx_kept.proofs.ListedRecords.{number_is, record_listed}
 use Rattle.gx_plain.specs.Held.{AreHeld, ChecksBody, FindsHeld, IsHeld, LooksAtEntry}
 
@@ -143,7 +142,7 @@ module _ (listed : List Listed) (rooms : List ℕ) (body : Bytes) where
       let all : None ≡ widest rs (entries_in body) = ap (λ x. wider (Some far) (wider x (widest rs left))) none ∙ j.2 in
       by (are_links_held rs kinds.Tree body) refl j.0 (empty_below rs body all)
     where
-      by : (b : Bool) → are_links_held rs kinds.Tree body ≡ b → is_body kinds.Tree body ≡ true → _ → (why : FileFault) × (content_fault rs kinds.Tree body ≡ Some why)
+      by : (b : Bool) → are_links_held rs kinds.Tree body ≡ b → is_body kinds.Tree body ≡ true → is_bad_below rs kinds.Tree body ≡ true → (why : FileFault) × (content_fault rs kinds.Tree body ≡ Some why)
       by true g good bad = (fault.BadObject, bad_below rs kinds.Tree body good g bad)
       by false g good bad = (fault.Dangling, not_held rs kinds.Tree body good g)
 

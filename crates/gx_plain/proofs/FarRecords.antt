@@ -1,5 +1,5 @@
 -- The records of a plain text that are listed so far.
-use Rattle.std.proofs.Common.{◌≡◌, ℕ, suc, ◌+◌, ◌-◌, ◌<◌, ◌≤◌, List, [], ◌∷◌, ◌++◌, length, map, drop, Option, Some, None, Ok, Err, refl, sym, ap, ◌∙◌, subst, arith}
+use Rattle.std.proofs.Common.{◌≡◌, ℕ, suc, ◌+◌, ◌-◌, ◌<◌, ◌≤◌, List, [], ◌∷◌, ◌++◌, length, drop, refl, sym, ap, ◌∙◌, subst, arith}
 use Rattle.std.specs.List.{AllZip}
 use Rattle.std.proofs.lemmas.List.{map_push}
 use Rattle.gx_model.specs.declared.objects.Kind.{Kind}
@@ -12,8 +12,8 @@ use Rattle.gx_model.specs.Stores.StoreText.{stored_record}
 use Rattle.gx_file.proofs.CountedRecords.{all_read, one_read}
 use Rattle.gx_listed.specs.Listings.{Listed}
 use Rattle.gx_objects.specs.declared.fault.LookFault.{LookFault}
-use Rattle.gx_plain.specs.Listing.{AreListed, IsNext, IsOneMore, places_from, places_listed}
-use Rattle.gx_plain.specs.Reading.{IsRefused, RefusesWith}
+use Rattle.gx_plain.specs.Listing.{AreListed, IsNext, places_from, places_listed}
+use Rattle.gx_plain.specs.Reading.{RefusesWith}
 use Rattle.gx_plain.specs.Records.{AreStored, IsStoredAt}
 use Rattle.gx_plain.specs.Held.{IsHeld}
 use Rattle.gx_plain.specs.declared.start.Start.{Start}

@@ -1,13 +1,14 @@
 -- Lines and bodies of a text that are read in a front of it.
-use Rattle.std.proofs.Common.{◌≡◌, ℕ, suc, ◌+◌, ◌-◌, ◌<◌, ◌≤◌, eqb, Bool, true, false, [], ◌∷◌, ◌++◌, append_assoc, length, take, drop, Option, Some, None, Ok, Err, refl, sym, ap, ◌∙◌, subst, arith}
+use Rattle.std.proofs.Common.{◌≡◌, ℕ, suc, ◌+◌, ◌-◌, ◌<◌, ◌≤◌, eqb, Bool, true, false, [], ◌∷◌, ◌++◌, append_assoc, length, replicate, take, drop, Option, Some, None, Ok, Err, refl, sym, ap, ◌∙◌, subst, arith}
 use Rattle.std.proofs.Math.Seq.{take-append-add}
-use Rattle.std.proofs.lemmas.List.{length-drop, take-append-drop, take_all}
+use Rattle.std.proofs.lemmas.List.{length-append, length-drop, length-take-le, take-append-drop, take_all}
 use Rattle.gx_model.specs.declared.store_faults.FileFault.TheVariants as fault
 use Rattle.gx_model.specs.Texts.{Bytes, cut_at, lacks}
 use Rattle.gx_model.specs.Stores.StoreReading.{Stored, stored_body, stored_line}
 use Rattle.gx_model.proofs.Stores.StoreTexts.{body_of, body_read, if_there, line_read}
 use Rattle.gx_model.proofs.Texts.Cuts.{cut_spelled, map_some, some_is}
 use Rattle.gx_at.specs.Reads.{ReadsAt, StandsAt, part}
+use Rattle.gx_look.proofs.ReadOn.{both_stand, grown_room}
 use Rattle.gx_plain.specs.Reading.{IsFrontAt, IsRefused}
 
 -- ---- a room
@@ -24,6 +25,32 @@ front_short (Some text) at count came room buffer h l r e =
     let ends = r.1 e in
     let long = length-drop at text in
     h ∙ take_all (length room) (drop at text) (omega (arith, ends, long)) ∙ sym (take_all count (drop at text) (omega (arith, ends, long, l)))
+
+-- what came stands behind what was there
+came_stands : (told : Option Bytes) (at came : ℕ) (new : Bytes) → ReadsAt told at new (Ok came) → came ≤ length new → StandsAt told at (take came new)
+came_stands None at came new r l = tt
+came_stands (Some text) at came new r l = r.0 ∙ ap (part text at) (sym (length-take-le came new l))
+
+module _ (told : Option Bytes) (at : ℕ) (old made whole new post behind : Bytes) (done more n size came : ℕ) (e : made ≡ take n old ++ replicate (n - done) 0) (w : whole ≡ made) (d : done ≡ length old) (m : n ≡ done + more) (l : length new ≡ more) (k : size ≡ n) where
+  came_room : take (done + came) (take size ((take done whole ++ (new ++ post)) ++ behind)) ≡ old ++ take came new
+  came_room =
+      ap (take (done + came)) (grown_room old made whole new post behind done more n size e w d m l k) ∙ ap (λ i. take (i + came) (old ++ new)) d ∙ take-append-add old new came
+
+  pub came_within : (count : ℕ) → came ≤ more → n ≤ count → length (take (done + came) (take size ((take done whole ++ (new ++ post)) ++ behind))) ≤ count
+  came_within count c h =
+      let a = ap length came_room ∙ length-append old (take came new) in
+      let b = length-take-le came new (omega arith) in
+      omega arith
+
+  pub came_long : came ≤ more → length (take (done + came) (take size ((take done whole ++ (new ++ post)) ++ behind))) ≡ done + came
+  came_long c =
+      let a = ap length came_room ∙ length-append old (take came new) in
+      let b = length-take-le came new (omega arith) in
+      omega arith
+
+  pub came_there : came ≤ more → StandsAt told at old → ReadsAt told (at + done) new (Ok came) → StandsAt told at (take (done + came) (take size ((take done whole ++ (new ++ post)) ++ behind)))
+  came_there c f r =
+      subst (StandsAt told at) (sym came_room) (both_stand told at old (take came new) f (subst (λ i. StandsAt told (at + i) (take came new)) d (came_stands told (at + done) came new r (omega arith))))
 
 -- ---- faults
 

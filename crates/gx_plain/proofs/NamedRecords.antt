@@ -1,5 +1,5 @@
 -- A record that stands at a place of a text under its name, and what is read of it.
-use Rattle.std.proofs.Common.{◌≡◌, ◌≢◌, ℕ, length, drop, Option, Some, None, Result, Ok, Err, refl, sym, ap, subst, ◌∙◌}
+use Rattle.std.proofs.Common.{◌≡◌, ◌≢◌, ℕ, length, Option, Some, None, Result, Ok, Err, refl, sym, ap, subst, ◌∙◌}
 use Rattle.gx_model.specs.declared.objects.Kind.{Kind}
 use Rattle.gx_model.specs.declared.store_versions.Version.{Version}
 use Rattle.gx_model.specs.Texts.{Bytes}
@@ -8,8 +8,7 @@ use Rattle.gx_model.proofs.Stores.StoreTexts.{ok_is}
 use Rattle.gx_look.specs.Reading.{Gives}
 use Rattle.gx_objects.specs.declared.fault.LookFault.{LookFault}
 use Rattle.gx_objects.specs.declared.fault.LookFault.TheVariants.{Damaged}
-use Rattle.gx_plain.specs.Reading.{RefusesWith}
-use Rattle.gx_plain.specs.Records.{IsParts, IsStoredAt, Parts, ReadsParts, TellsRecord, body_in, next_parts, shown_parts}
+use Rattle.gx_plain.specs.Records.{IsStoredAt, Parts, ReadsParts, TellsRecord, body_in, shown_parts}
 use Rattle.gx_plain.specs.declared.records.Found.{Found}
 
 -- what is told of a record is told of each text that is

@@ -1,5 +1,5 @@
 -- The next record of a plain text, by its parts: what is against it, and what is listed with it.
-use Rattle.std.proofs.Common.{◌≡◌, ◌≢◌, ℕ, ◌+◌, true, false, Bool, cond, List, [], ◌∷◌, ◌++◌, length, map, get_or, Option, Some, None, Ok, Err, refl, sym, ap, ◌∙◌, subst, is_some}
+use Rattle.std.proofs.Common.{◌≡◌, ◌≢◌, ℕ, ◌+◌, true, false, List, [], ◌∷◌, ◌++◌, Option, Some, None, Ok, Err, refl, sym, ap, ◌∙◌, is_some}
 use Rattle.std.specs.Option.{ok_or}
 use Rattle.std.proofs.lemmas.List.{map_push}
 use Rattle.gx_model.specs.declared.objects.Kind.{Kind}
@@ -9,7 +9,6 @@ use Rattle.gx_model.specs.declared.store_versions.Version.{Version}
 use Rattle.gx_model.specs.Faults.{◌>>=◌}
 use Rattle.gx_model.specs.Texts.{Bytes}
 use Rattle.gx_model.specs.Histories.{Record, record_for}
-use Rattle.gx_model.specs.Objects.{IsNamer}
 use Rattle.gx_model.specs.Records.Growth.{record_named}
 use Rattle.gx_model.specs.Records.RecordFaults.{content_fault, or_duplicate, record_fault}
 use Rattle.gx_model.specs.Stores.StoreReading.{Length, Stored, admitted, is_stated, next_record, only_if, record_line, stored_body, stored_line, with_stored}
@@ -17,9 +16,9 @@ use Rattle.gx_model.proofs.Records.TakenRecords.{sound_with}
 use Rattle.gx_store.specs.Stores.{place_named}
 use Rattle.gx_repo.specs.Repositories.{held_in}
 use Rattle.gx_repo.specs.Rooms.{room_below}
-use Rattle.gx_repo.proofs.Places.{is_place, no_place, no_record, no_record_named, record_at_place}
+use Rattle.gx_repo.proofs.Places.{is_place, no_place, no_record_named, record_at_place}
 use Rattle.gx_repo.proofs.RecordRooms.{rooms_more}
-use Rattle.gx_listed.specs.Listings.{HaveHeads, Head, Listed, head_of, number_named, shown_head}
+use Rattle.gx_listed.specs.Listings.{HaveHeads, Listed, head_of, number_named, shown_head}
 use Rattle.gx_kept.proofs.ListedRecords.{number_is}
 use Rattle.gx_objects.specs.declared.fault.LookFault.{LookFault}
 use Rattle.gx_plain.specs.Held.{IsHeld}

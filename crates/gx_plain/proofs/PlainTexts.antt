@@ -1,17 +1,17 @@
 -- What is held of a plain text that was opened tells the repository that it is read as.
-use Rattle.std.proofs.Common.{◌≡◌, ◌≢◌, ℕ, zero, suc, ◌+◌, ◌-◌, ◌<◌, ◌≤◌, Bool, true, false, List, [], ◌∷◌, ◌++◌, length, map, drop, get_or, Option, Some, None, Result, Ok, Err, refl, sym, ap, ◌∙◌, subst, arith}
+use Rattle.std.proofs.Common.{◌≡◌, ◌≢◌, ℕ, zero, suc, ◌+◌, ◌-◌, ◌<◌, ◌≤◌, List, [], ◌∷◌, ◌++◌, length, get_or, Option, Some, None, Ok, Err, refl, sym, ap, ◌∙◌, subst, arith}
 use Rattle.std.specs.Prelude.{IfSome, slice_get, slice_index}
 use Rattle.std.specs.Bool.{passes}
-use Rattle.std.specs.List.{AllByRecursion, AllZip, flat_map}
-use Rattle.std.specs.Option.{option_and_then, option_map}
+use Rattle.std.specs.List.{AllZip}
+use Rattle.std.specs.Option.{option_map}
 use Rattle.std.specs.Result.{result_ok}
 use Rattle.std.proofs.lemmas.List.{length-append}
 use Rattle.std.proofs.lemmas.Option.{slice_get-get_or}
 use Rattle.gx_model.specs.declared.objects.Kind.{Kind}
 use Rattle.gx_model.specs.declared.store_versions.Version.{Version}
-use Rattle.gx_model.specs.Texts.{Bytes, same_bytes}
+use Rattle.gx_model.specs.Texts.{Bytes}
 use Rattle.gx_model.specs.Histories.{Record, Records, object_of}
-use Rattle.gx_model.specs.Objects.{IsNamer, line}
+use Rattle.gx_model.specs.Objects.{line}
 use Rattle.gx_model.specs.Objects.Naming.{kind_word}
 use Rattle.gx_model.specs.Laws.StoreLaws.{StoresAreRead}
 use Rattle.gx_model.specs.Records.Growth.{record_named}
@@ -27,8 +27,10 @@ use Rattle.gx_listed.specs.Listings.{HaveHeads, Listed, ListsAll, ListsIfTold, n
 use Rattle.gx_kept.proofs.ListedRecords.{number_is, one_listed, same_length}
 use Rattle.gx_plain.specs.Listing.{places_from, places_listed}
 use Rattle.gx_plain.specs.Plain.{IsOpened, IsReadAs, IsReadIfTold, places_in, places_of, told_by}
-use Rattle.gx_plain.specs.Records.{AreStored, IsStoredAt}
-use Rattle.gx_plain.specs.Starts.{start_of}
+use Rattle.gx_plain.specs.Records.{AreStored, IsStoredAt, TellsRecord, body_in}
+use Rattle.gx_objects.specs.declared.fault.LookFault.{LookFault}
+use Rattle.gx_objects.specs.declared.fault.LookFault.TheVariants.{Damaged}
+use Rattle.gx_plain.specs.declared.records.Found.{Found}
 use Rattle.gx_plain.specs.declared.refs.Tail.{Tail}
 
 -- ---- places go up
@@ -167,3 +169,28 @@ module _ (name : Kind → Bytes → Bytes) where
     none_named n none = each_told told (λ r. None ≡ option_map object_of (record_named r.records n)) (λ text e r g.
         let h = (seen text e r g).heads in
         sym (ap (option_map object_of) (no_record_named r.records n (no_place r.records n (sym (none ∙ number_is n listed r.records h))))))
+
+    -- ---- what is read of a record
+
+    -- what holds of a repository that is told holds of the one of the text
+    at_told : (P : Records → Type 0) → IfSome (told_by name told) P → (text : Bytes) → told ≡ Some text → (r : Records) → store_of name text ≡ Ok r → P r
+    at_told P h text e r g = subst (λ o. IfSome o P) (ap (told_by name) e ∙ ap result_ok g) h
+
+    module _ (n : Bytes) (place : ℕ) (there : IfSome (told_by name told) (λ r. StandsThere (places_in name told) n r (Some place))) (room : Bytes) where
+      stored_there : (text : Bytes) → told ≡ Some text → (r : Records) → store_of name text ≡ Ok r → IsTold text r n place
+      stored_there text e r g = record_tells n place text e r g (at_told (λ r. StandsThere (places_in name told) n r (Some place)) there text e r g)
+
+      pub body_tells : (found : Found) → TellsRecord name v told place n room (Ok found) → IfSome (told_by name told) (λ r. Some (found.kind, body_in room found) ≡ option_map object_of (record_named r.records n))
+      body_tells found read = each_told told (λ r. Some (found.kind, body_in room found) ≡ option_map object_of (record_named r.records n)) (λ text e r g.
+          let t = stored_there text e r g in
+          let k = (subst (λ o. TellsRecord name v o place n room (Ok found)) e read) t.held t.stored in
+          (λ i. Some (k.0 i, k.1 i)) ∙ sym (ap (option_map object_of) t.found))
+
+      pub fault_tells : (why : LookFault) → TellsRecord name v told place n room (Err why) → why ≡ Damaged → told_by name told ≡ None
+      fault_tells why read same = by (told_by name told) (each_told told (λ r. why ≢ Damaged) (λ text e r g.
+          let t = stored_there text e r g in
+          (subst (λ o. TellsRecord name v o place n room (Err why)) e read) t.held t.stored))
+        where
+          by : (o : Option Records) → IfSome o (λ r. why ≢ Damaged) → o ≡ None
+          by None h = refl
+          by (Some r) h = absurd (h same)

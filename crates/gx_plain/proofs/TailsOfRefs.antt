@@ -1,7 +1,7 @@
 -- What stands behind the records of a plain text: the number of the refs, the refs, and the last line.
-use Rattle.std.proofs.Common.{◌≡◌, ℕ, true, false, List, [], ◌∷◌, ◌++◌, codes, length, map, Option, Some, None, Ok, Err, refl, sym, ap, ◌∙◌, subst}
+use Rattle.std.proofs.Common.{◌≡◌, ℕ, false, List, [], ◌∷◌, ◌++◌, codes, length, None, Ok, Err, sym, ap, ◌∙◌}
 use Rattle.std.specs.Prelude.{T, IsTrue}
-use Rattle.std.specs.List.{AllByRecursion, flat_map}
+use Rattle.std.specs.List.{AllByRecursion}
 use Rattle.gx_model.specs.declared.objects.Kind.{Kind}
 use Rattle.gx_model.specs.declared.store_faults.FileFault.{FileFault}
 use Rattle.gx_model.specs.Faults.{◌>>=◌}
@@ -11,7 +11,6 @@ use Rattle.gx_model.specs.Objects.{IsNamer, is_name}
 use Rattle.gx_model.specs.Records.Publishing.{Ref}
 use Rattle.gx_model.specs.Records.Sound.{IsSound}
 use Rattle.gx_model.specs.Stores.StoreReading.{Stored, next_refs, stored_count, stored_end}
-use Rattle.gx_model.specs.Stores.StoreText.{stored_ref}
 use Rattle.gx_model.proofs.Stores.StoredRefs.{refs_of_text, targets_name, targets_of}
 use Rattle.gx_model.proofs.Stores.StoreTexts.{both_steps, end_of, end_read}
 use Rattle.gx_model.proofs.Texts.PathTests.{is_true}

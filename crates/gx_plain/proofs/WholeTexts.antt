@@ -1,6 +1,6 @@
 -- A plain text as its front, its records, and the refs behind them.
-use Rattle.std.proofs.Common.{◌≡◌, ◌≢◌, ℕ, ◌+◌, ◌-◌, ◌≤◌, List, [], length, drop, Option, Some, None, Result, Ok, Err, refl, sym, ap, ◌∙◌, subst, arith}
-use Rattle.std.specs.Prelude.{IfErr, IsOk, codes}
+use Rattle.std.proofs.Common.{◌≡◌, ℕ, ◌-◌, List, [], length, drop, Option, Some, None, Ok, Err, refl, sym, ap, ◌∙◌, subst, arith}
+use Rattle.std.specs.Prelude.{IsOk, codes}
 use Rattle.std.specs.Result.{result_ok}
 use Rattle.std.proofs.lemmas.List.{length-drop}
 use Rattle.gx_model.specs.declared.objects.Kind.{Kind}
@@ -10,14 +10,13 @@ use Rattle.gx_model.specs.Texts.{Bytes}
 use Rattle.gx_model.specs.Histories.{Record, Records}
 use Rattle.gx_model.specs.Records.Publishing.{Ref}
 use Rattle.gx_model.specs.Stores.StoreReading.{Stored, after_magic, next_records, next_refs, store_of, stored_count, stored_end}
-use Rattle.gx_model.proofs.Stores.StoreTexts.{both_steps}
 use Rattle.gx_listed.specs.Listings.{Listed}
 use Rattle.gx_look.specs.Tails.{refs_text}
 use Rattle.gx_objects.specs.declared.fault.LookFault.{LookFault}
 use Rattle.gx_objects.specs.declared.fault.LookFault.TheVariants.{Damaged}
 use Rattle.gx_plain.specs.Listing.{AreListed, places_from, places_listed}
 use Rattle.gx_plain.specs.Plain.{IsReadAs, told_by}
-use Rattle.gx_plain.specs.Reading.{IsRefused, RefusesWith}
+use Rattle.gx_plain.specs.Reading.{RefusesWith}
 use Rattle.gx_plain.specs.Refs.{AreTold, refs_behind}
 use Rattle.gx_plain.specs.Starts.{IsStart, start_of}
 use Rattle.gx_plain.specs.declared.refs.Tail.{Tail}
@@ -31,6 +30,10 @@ module _ (name : Kind → Bytes → Bytes) where
   -- what is read once the front is
   abbrev with_front : Version × (ℕ × Bytes) → Stored Records
   with_front s = next_records name s.0 s.1.0 [] s.1.1 >>= with_records
+
+  -- what the definition reads behind the records
+  abbrev as_defined : List Record × Bytes → Stored Records
+  as_defined x = stored_count (codes "refs") x.1 >>= λ refs. next_refs refs.0 x.0 None refs.1 >>= λ named. stored_end named.1 >>= λ ended. Ok (record { records = x.0; refs = named.0 })
 
   parts_of_store : (text : Bytes) → store_of name text ≡ (start_of text >>= with_front)
   unfolding store_of
@@ -53,20 +56,16 @@ module _ (name : Kind → Bytes → Bytes) where
       counted rs (Ok refs) = named rs (next_refs refs.0 rs None refs.1)
       counted rs (Err why) = refl
 
-      -- what the definition reads behind the records
-      behind : List Record × Bytes → Stored Records
-      behind x = stored_count (codes "refs") x.1 >>= λ refs. next_refs refs.0 x.0 None refs.1 >>= λ named. stored_end named.1 >>= λ ended. Ok (record { records = x.0; refs = named.0 })
-
-      records : (r : Stored (List Record × Bytes)) → (r >>= behind) ≡ (r >>= with_records)
+      records : (r : Stored (List Record × Bytes)) → (r >>= as_defined) ≡ (r >>= with_records)
       records (Ok x) = counted x.0 (stored_count (codes "refs") x.1)
       records (Err why) = refl
 
-      objects : (v : Version) (o : Stored (ℕ × Bytes)) → (o >>= λ objects. next_records name v objects.0 [] objects.1 >>= behind) ≡ ((o >>= λ objects. Ok (v, objects)) >>= with_front)
+      objects : (v : Version) (o : Stored (ℕ × Bytes)) → (o >>= λ objects. next_records name v objects.0 [] objects.1 >>= as_defined) ≡ ((o >>= λ objects. Ok (v, objects)) >>= with_front)
       objects v (Ok x) = records (next_records name v x.0 [] x.1)
       objects v (Err why) = refl
 
       magic : (m : Stored (Version × Bytes))
-          → (m >>= λ start. stored_count (codes "objects") start.1 >>= λ objects. next_records name start.0 objects.0 [] objects.1 >>= behind)
+          → (m >>= λ start. stored_count (codes "objects") start.1 >>= λ objects. next_records name start.0 objects.0 [] objects.1 >>= as_defined)
           ≡ ((m >>= λ start. stored_count (codes "objects") start.1 >>= λ objects. Ok (start.0, objects)) >>= with_front)
       magic (Ok x) = objects x.0 (stored_count (codes "objects") x.1)
       magic (Err why) = refl
@@ -83,14 +82,14 @@ module _ (name : Kind → Bytes → Bytes) where
       no_records why h same = let r = h same in (r.0, here ∙ ap (λ s. s >>= with_records) r.1)
 
       module _ (listed : List Listed) (behind : ℕ) (rs : List Record) (all : AreListed name text start listed behind rs) where
-        then : store_of name text ≡ with_records (rs, drop behind text)
-        then = here ∙ ap (λ s. s >>= with_records) all.read
+        read_then : store_of name text ≡ with_records (rs, drop behind text)
+        read_then = here ∙ ap (λ s. s >>= with_records) all.read
 
         pub told_so : AreTold name start.version text listed rs
         told_so = record { heads = all.heads; stand = all.stand; sound = all.sound }
 
         pub no_refs : (why : LookFault) → RefusesWith why (refs_behind rs (drop behind text)) → RefusesWith why (store_of name text)
-        no_refs why h same = let r = h same in (r.0, then ∙ ap (λ s. s >>= λ refs. Ok (record { records = rs; refs = refs })) r.1)
+        no_refs why h same = let r = h same in (r.0, read_then ∙ ap (λ s. s >>= λ refs. Ok (record { records = rs; refs = refs })) r.1)
 
         pub read_so : {A : Type 0} (tail : Tail A) (refs : List Ref) → refs_behind rs (drop behind text) ≡ Ok refs → drop tail.refs tail.text.items ≡ refs_text refs → IsReadAs name text start.version listed tail
         read_so tail refs e lines =
@@ -102,7 +101,7 @@ module _ (name : Kind → Bytes → Bytes) where
               count = start.count;
               behind = drop start.place text;
               starts = front.lines;
-              read = then ∙ ap (λ s. s >>= λ refs. Ok (record { records = rs; refs = refs })) e;
+              read = read_then ∙ ap (λ s. s >>= λ refs. Ok (record { records = rs; refs = refs })) e;
               heads = all.heads;
               places = subst (λ k. places_listed listed ≡ places_from start.version k rs) first all.places;
               stand = all.stand;

@@ -1,5 +1,5 @@
 -- How what is read of a plain text by pieces goes with the reading of the whole one. Source: this project's own format.
-use Rattle.std.specs.Prelude.{◌≡◌, ℕ, Option, Some, None, Result, Ok, Err, ⊤}
+use Rattle.std.specs.Prelude.{◌≡◌, ℕ, Option, Some, None, Err, ⊤}
 use Rattle.gx_model.specs.declared.store_faults.FileFault.{FileFault}
 use Rattle.gx_model.specs.Texts.{Bytes}
 use Rattle.gx_model.specs.Stores.StoreReading.{Stored}

@@ -1,6 +1,5 @@
 //! What is against a record, by what is known of those before it. Source: Pro Git, "Git Objects".
 
-ghost use Rattle.std.specs.Prelude.{◌≡◌};
 ghost use Rattle.gx_model.specs.declared.objects.Kind.TheVariants as kinds;
 ghost use Rattle.gx_object.specs.Entries.{shown};
 ghost use Rattle.gx_plain.specs.Held.{AreHeld, ChecksBody, FindsHeld, LooksAtEntry};

@@ -1,6 +1,6 @@
 //! The growing text of a plain one. Source: this project's own format.
 
-ghost use Rattle.std.specs.Prelude.{◌≡◌, IfSome};
+ghost use Rattle.std.specs.Prelude.{IfSome};
 ghost use Rattle.gx_kept.specs.Sending.{SendsNamed};
 ghost use Rattle.gx_plain.specs.Growing.{Grows};
 

@@ -1,6 +1,6 @@
 //! All records of a plain text, listed as they are read from the front.
 
-ghost use Rattle.std.specs.Prelude.{◌≡◌, IsTrue};
+ghost use Rattle.std.specs.Prelude.{◌≡◌};
 ghost use Rattle.gx_model.specs.Stores.StoreReading.{is_stated};
 ghost use Rattle.gx_object.specs.Parts.{bytes_if};
 ghost use Rattle.gx_plain.specs.Held.{AreHeld};

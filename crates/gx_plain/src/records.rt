@@ -1,6 +1,6 @@
 //! A record in a plain text: its line, and the body behind it. Source: this project's own format.
 
-ghost use Rattle.std.specs.Prelude.{◌≡◌, IfOk};
+ghost use Rattle.std.specs.Prelude.{IfOk};
 ghost use Rattle.gx_plain.specs.Records.{HasName, IsRoomOf, ReadsParts, TellsRecord};
 
 use crate::fill::read_front;

@@ -23,6 +23,8 @@ SECTION = re.compile(r"^ *(?:module _ .* where|(?:abbrev |unfoldable )?mutual)$"
 HEAD = re.compile(r"^(?:(?:abbrev|unfoldable|pub|record|data) )*(?P<name>[^\s:({]+)")
 MODIFIER = re.compile(r"^(?:abbrev|unfoldable|pub|record|data) ")
 CONSTRUCTOR = re.compile(r"^ +(?:pub )?(?P<name>[^\s:]+) : ")
+# a contract says the same whoever may call the function
+VISIBLE = re.compile(r"^pub(?:\([\w :]+\))? ")
 # the crate whose wrong bodies change definitions
 LAWS = "gx_model"
 TYPE = re.compile(r"^ *(?:pub(?:\([\w :]+\))? )?(?:struct|enum|trait|type) (?P<name>\w+)")
@@ -147,7 +149,8 @@ class Contracts:
             self.clauses[crate].append((f"{owner}: {clause.text}", scope))
             parts[owner].append(clause.text)
         for function in filter(lambda it: it.clauses, functions):
-            said = [function.head, *(clause.text for clause in function.clauses)]
+            head = VISIBLE.sub("", function.head)
+            said = [head, *(clause.text for clause in function.clauses)]
             self.clauses[crate].append((" ".join([function.owner, *said]), scope))
             if function.owner.startswith("trait "):
                 parts[function.owner] += said

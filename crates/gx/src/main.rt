@@ -3,6 +3,7 @@
 
 mod fault;
 mod looks;
+mod questions;
 mod run;
 mod salvaging;
 mod stores;

@@ -1,7 +1,7 @@
 //! What can be saved of a store file that is damaged.
 
 use crate::fault::RunFault;
-use crate::looks::{look_into, open_growing};
+use crate::looks::{growing_file, look_into};
 use crate::run::{Run, Subject};
 use crate::stores::files::{open_text, read_store};
 use crate::stores::next_text::NextText;
@@ -51,7 +51,7 @@ pub(crate) fn salvage_into(
 /// version is read as a whole, and nothing of it is lost.
 fn salvage_file(run: &Run<'_>, file: &str, state: RandomState) -> Result<Saved, RunFault> {
     let alloc = run.rt.alloc();
-    let Some(opened) = run.want_read(open_growing(run, file))? else {
+    let Some(opened) = growing_file(run, file)? else {
         let store = read_store(run, file)?;
         let salvaged = Salvaged {
             repo: open_text(run, store, state)?,
@@ -74,7 +74,7 @@ fn salvage_file(run: &Run<'_>, file: &str, state: RandomState) -> Result<Saved, 
 
 /// Salvages what stood before the last segment was appended.
 fn salvage_by_other_slot(run: &Run<'_>, file: &str, state: RandomState) -> Result<Saved, RunFault> {
-    let opened = run.want_read(open_growing(run, file))?;
+    let opened = growing_file(run, file)?;
     let Some(other) = opened.and_then(OtherSlot::new) else {
         return Err(RunFault::Damaged);
     };

@@ -5,8 +5,9 @@ mod version;
 
 use crate::fault::RunFault;
 use crate::run::{Run, Subject, Way};
-use commands::run_line;
+use commands::{run_line, tell_refusal};
 use gx_cli::{CliFault, LineFault, read_line};
+use std::alloc::AllocError;
 use std::env::Args;
 use std::io::{self, ErrorKind};
 use std::process::ExitCode;
@@ -23,8 +24,8 @@ const VERSION: &str = "--version";
 
 /// Runs the command of the arguments behind the program's name. One that isn't text is a command line that isn't accepted.
 pub(crate) fn run_arguments(rt: &HostRuntime, args: io::Result<Args>) -> ExitCode {
-    match run_collected(rt, args) {
-        Ok(status) => status,
+    match collected(rt, args) {
+        Ok(args) => run_words(rt, &args),
         Err(error) if error.kind() == ErrorKind::InvalidData => {
             let _ = eprintln!(rt; "error: an argument isn't UTF-8");
             ExitCode::from(2)
@@ -33,33 +34,41 @@ pub(crate) fn run_arguments(rt: &HostRuntime, args: io::Result<Args>) -> ExitCod
     }
 }
 
-fn run_collected(rt: &HostRuntime, args: io::Result<Args>) -> io::Result<ExitCode> {
-    let args: Vec<String> = args?.collect(rt.alloc())?;
+/// The arguments, each of them text.
+fn collected(rt: &HostRuntime, args: io::Result<Args>) -> io::Result<Vec<String>> {
+    Ok(args?.collect(rt.alloc())?)
+}
+
+/// Runs the command of a line's words, behind those for the program itself, which stand in front.
+fn run_words(rt: &HostRuntime, args: &[String]) -> ExitCode {
+    let Ok(all) = words_of(rt, args) else {
+        return refuse(&Run::new(rt, false), CliFault::OutOfMemory);
+    };
+    let all = all.as_slice();
+    if is_first(all, VERSION) && all.len() == 1 {
+        return tell_text(&Run::new(rt, false), tell_version(rt));
+    }
+    let explains = is_first(all, EXPLAIN);
+    let words = if explains { behind_first(all) } else { all };
+    let run = Run::new(rt, explains);
+    match WAYS.iter().find(|way| is_first(words, way.0)) {
+        Some((_, way)) => run_command(&run.by_way(Some(*way)), behind_first(words)),
+        None => run_command(&run, words),
+    }
+}
+
+/// The words behind the program's name.
+fn words_of<'a>(rt: &HostRuntime, args: &'a [String]) -> Result<Vec<&'a str>, AllocError> {
     let mut words = Vec::new(rt.alloc());
     for arg in args.iter().skip(1) {
         words.push(arg.as_str())?;
     }
-    Ok(run_words(rt, &words))
+    Ok(words)
 }
 
-/// Runs the command of a line's words, behind those for the program itself, which stand in front.
-fn run_words(rt: &HostRuntime, words: &[&str]) -> ExitCode {
-    if is_first(words, EXPLAIN) {
-        run_in_way(Run::new(rt, true), words.get(1..).unwrap_or(&[]))
-    } else if is_first(words, VERSION) && words.len() == 1 {
-        tell_text(&Run::new(rt, false), tell_version(rt))
-    } else {
-        run_in_way(Run::new(rt, false), words)
-    }
-}
-
-/// Runs the command of a line's words, in the way that a word in front of it asks for.
-fn run_in_way(run: Run<'_>, words: &[&str]) -> ExitCode {
-    let way = WAYS.iter().find(|way| is_first(words, way.0));
-    match way {
-        Some((_, way)) => run_command(&run.by_way(Some(*way)), words.get(1..).unwrap_or(&[])),
-        None => run_command(&run, words),
-    }
+/// The words behind the first one.
+fn behind_first<'a, 'b>(words: &'a [&'b str]) -> &'a [&'b str] {
+    words.get(1..).unwrap_or(&[])
 }
 
 fn is_first(words: &[&str], word: &str) -> bool {
@@ -69,7 +78,10 @@ fn is_first(words: &[&str], word: &str) -> bool {
 /// Runs the command of a line's words. Help goes to standard output, and why a line isn't accepted to standard error.
 fn run_command(run: &Run<'_>, words: &[&str]) -> ExitCode {
     match read_line(run.rt.alloc(), words) {
-        Ok(line) => run_line(run, &line),
+        Ok(line) => match run_line(run, &line) {
+            Ok(status) => ExitCode::from(status),
+            Err(fault) => tell_refusal(run, &line, &fault),
+        },
         Err(LineFault::OutOfMemory) => refuse(run, CliFault::OutOfMemory),
         Err(LineFault::Status { status: 0, text }) => tell_text(run, print!(run.rt; "{text}")),
         Err(LineFault::Status { status, text }) => {

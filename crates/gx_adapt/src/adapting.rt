@@ -154,7 +154,8 @@ fn send_kept_block<W: Sink, A: Allocator + Copy>(
     sink: &mut W,
     bytes: &[u8],
 ) -> Result<(), AdaptFault>
-    ensures sends { PutsIf (item_text (Data bytes.now)) (W.taken sink.old) (W.taken sink.new) result }
+    ensures sends { PutsIf (item_text (Data bytes.now)) (W.taken sink.old)
+        (W.taken sink.new) result }
 {
     text.clear();
     put_announcement(text, bytes.len())?;

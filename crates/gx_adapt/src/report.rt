@@ -63,7 +63,8 @@ impl Report {
     /// Counts a line, of which this becomes, and which names a blob or a tag for a tag, or doesn't.
     pub(crate) fn add_line(&mut self, line: &[u8], lot: Lot<'_>, of_blob_or_tag: bool)
         requires room { HasRoom self.old }
-        ensures added { self.new ≡ counted (shown_lot lot.entry) of_blob_or_tag (Line line.now) self.old }
+        ensures added { self.new
+            ≡ counted (shown_lot lot.entry) of_blob_or_tag (Line line.now) self.old }
     {
         self.add_change(lot);
         if is_signature_line(line) {

@@ -19,7 +19,8 @@ pub(crate) fn put_line<A: Allocator + Copy>(
     line: &[u8],
     lot: Lot<'_>,
 ) -> Result<(), AllocError>
-    ensures { GrowsBy out.old out.new (items_text (lines_for line.now (shown_lot lot.entry))) result }
+    ensures { GrowsBy out.old out.new
+        (items_text (lines_for line.now (shown_lot lot.entry))) result }
 {
     match lot {
         Lot::Deletion | Lot::Marks | Lot::Feature | Lot::Signature | Lot::Unfinished => {

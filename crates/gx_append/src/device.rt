@@ -26,7 +26,8 @@ pub trait Device: ReadAt {
     /// Writes bytes from a place on, over what is there and behind the end.
     fn write_at(&mut self, at: u64, bytes: &[u8]) -> io::Result<()>
         ensures written { Writes at bytes.now result (Self.text self.old) (Self.text self.new) }
-        ensures left { Follows (Torn at (length bytes.now)) (may_leave self.old) (may_leave self.new) }
+        ensures left { Follows (Torn at (length bytes.now)) (may_leave self.old)
+            (may_leave self.new) }
         ensures time { Elapses moment left_since may_leave self.old self.new }
         ensures cause { FailsFor (Self.text self.old) (faults self.old) (faults self.new) result };
 

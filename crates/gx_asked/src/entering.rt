@@ -77,8 +77,10 @@ impl<A: Allocator + Copy> Asked<A> {
         changes: &[Change<A>],
     ) -> Result<(), AskedFault>
         ensures kept { Keeps self.old self.new }
-        ensures asked { OnOk result (AllByRecursion (AsksChange self.new) (map shown_change changes.now)) }
-        ensures fault { IfErr result (IsWhy (AllByRecursion IsOtherChange (map shown_change changes.now))) }
+        ensures asked { OnOk result
+            (AllByRecursion (AsksChange self.new) (map shown_change changes.now)) }
+        ensures fault { IfErr result
+            (IsWhy (AllByRecursion IsOtherChange (map shown_change changes.now))) }
     {
         for change in changes {
             self.enter_change(namer, change)?;

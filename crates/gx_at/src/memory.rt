@@ -24,7 +24,8 @@ impl<'a> ReadAt for TextAt<'a> {
         ensures bytes { ReadsAt (Some self.now.text.now) at room.new result }
         ensures read { IsOk result }
         ensures all { IfOk result (λ n.
-            n ≡ min (min (length self.now.text.now - at) (max self.now.piece 1)) (length room.old)) }
+            n ≡ min (min (length self.now.text.now - at) (max self.now.piece 1))
+            (length room.old)) }
     {
         if at >= self.text.len() as u64 {
             return Ok(0);

@@ -93,7 +93,8 @@ fn answer_object<N: Namer, W: Sink, A: Allocator + Copy>(
 ) -> Result<(), BatchFault>
     requires { IsNamed (N.name_of repo.now.0) repo.now.1 (Object kind name.now) }
     ensures { Sent
-        (object_text (N.name_of repo.now.0) check format.now.parts.items (value_at repo.now.1 name.now))
+        (object_text (N.name_of repo.now.0) check format.now.parts.items
+        (value_at repo.now.1 name.now))
         (W.taken sink.old) (W.taken sink.new) result }
 {
     let body = body_of(repo, name);

@@ -27,7 +27,8 @@ pub struct Revisions<'a, N: Namer, A: Allocator> {
 }
 
 impl<'a, N: Namer, A: Allocator + Copy> Answerer<A> for Revisions<'a, N, A> {
-    ghost answer_to = { λ self. batch_answer (N.name_of self.repo.now.0) self.check self.format.now.parts.items (history_of self.repo.now.1) };
+    ghost answer_to = { λ self. batch_answer (N.name_of self.repo.now.0) self.check
+        self.format.now.parts.items (history_of self.repo.now.1) };
 
     fn answer<W: Sink>(
         &self,
@@ -66,7 +67,8 @@ pub fn batch<N: Namer, R: Source + Drop, W: Sink, A: Allocator + Copy>(
     source: R,
     sink: &mut W,
 ) -> Result<(), BatchFault>
-    ensures { Answers (batch_answer (N.name_of repo.now.0) check default_parts (history_of repo.now.1)) Lf
+    ensures { Answers (batch_answer (N.name_of repo.now.0) check default_parts
+        (history_of repo.now.1)) Lf
         (R.coming source) (W.taken sink.old) (W.taken sink.new) result }
 {
     let format = Format::usual(alloc)?;

@@ -149,7 +149,8 @@ fn add_parts<A: Allocator>(
     line: &mut Vec<u8, A>,
 ) -> Result<(), AllocError>
     ensures { OnOk result
-        (line.new.items ≡ line.old.items ++ flat_map (part_text name.now.bytes kind size) parts.now) }
+        (line.new.items ≡ line.old.items
+        ++ flat_map (part_text name.now.bytes kind size) parts.now) }
 {
     for part in parts {
         add_part(*part, name, kind, size, line)?;

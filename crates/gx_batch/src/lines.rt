@@ -126,7 +126,8 @@ fn take_part<A: Allocator>(
     requires { (at.old ≤ end) × (end ≤ length piece.now) }
     ensures within { at.new ≤ end }
     ensures takes { IfOk result (TakesPart byte
-        (slice_range piece.now at.old end) (slice_range piece.now at.new end) line.old.items line.new.items) }
+        (slice_range piece.now at.old end) (slice_range piece.now at.new end)
+        line.old.items line.new.items) }
     ensures refused { OnErr result (0 < length (slice_range piece.now at.old end)) }
     ensures stays { OnErr result (at.new ≡ at.old) }
 {

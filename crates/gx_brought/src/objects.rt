@@ -84,7 +84,8 @@ fn put<N: Namer, A: Allocator + Copy>(
     ensures namer { new.new.0 ≡ new.old.0 }
     ensures put { OnOk result
         (put new.old.1 (record_under name.now kind body.now) ≡ Some new.new.1) }
-    ensures taken { result ≡ Err faults.NotTaken → name.now.bytes ≡ N.name_of new.old.0 kind body.now
+    ensures taken { result ≡ Err faults.NotTaken → name.now.bytes
+        ≡ N.name_of new.old.0 kind body.now
         → put new.old.1 (record_under name.now kind body.now) ≡ None }
     ensures held { result ≡ Err faults.NameHeld → ⊥ }
     ensures told { result ≡ Err faults.Damaged → ⊥ }

@@ -9,7 +9,8 @@ ghost use Rattle.gx_model.specs.Texts.{Bytes, byte_cmp};
 ghost use Rattle.gx_ref_lines.specs.Refs.{shown_refs};
 
 use gx_object::{Name, Namer};
-use gx_ref_lines::{RefLines, put_ref};
+use gx_objects::put_ref;
+use gx_ref_lines::RefLines;
 use gx_repo::Repo;
 use std::alloc::{AllocError, Allocator};
 

@@ -28,7 +28,8 @@ pub(crate) fn file<N: Namer, A: Allocator + Copy>(
     revision: &[u8],
     path: &[u8],
 ) -> Answer<A>
-    ensures { Answers (file_answer (N.name_of repo.now.0) (history_of repo.now.1) revision.now path.now)
+    ensures { Answers (file_answer (N.name_of repo.now.0) (history_of repo.now.1)
+        revision.now path.now)
         result }
 {
     match look_at(alloc, repo, revision, path) {
@@ -95,7 +96,8 @@ fn put_ref<A: Allocator>(
     name: &[u8],
     object: &Name,
 ) -> Result<(), AllocError>
-    ensures { OnOk result (text.new.items ≡ text.old.items ++ stored_ref (name.now, object.now.bytes)) }
+    ensures { OnOk result (text.new.items ≡ text.old.items
+        ++ stored_ref (name.now, object.now.bytes)) }
 {
     text.extend_from_slice(object.hex().as_slice())?;
     text.push(b' ')?;
@@ -112,7 +114,8 @@ pub(crate) fn commits<N: Namer, A: Allocator + Copy>(
     repo: &Repo<N, A>,
     words: &[Range<A>],
 ) -> Answer<A>
-    ensures { AnswersWalk (N.name_of repo.now.0) (history_of repo.now.1) (map shown_range words.now) result }
+    ensures { AnswersWalk (N.name_of repo.now.0) (history_of repo.now.1)
+        (map shown_range words.now) result }
 {
     match walk(alloc, repo, words) {
         Ok(names) => given_names(alloc, &names),
@@ -132,7 +135,8 @@ fn given_names<A: Allocator + Copy>(alloc: A, names: &[Name]) -> Answer<A>
 }
 
 fn put_names<A: Allocator + Copy>(alloc: A, names: &[Name]) -> Result<Vec<u8, A>, AllocError>
-    ensures { IfOk result (λ text. text.items ≡ flat_map (λ name. digits_line name.bytes) names.now) }
+    ensures { IfOk result (λ text. text.items
+        ≡ flat_map (λ name. digits_line name.bytes) names.now) }
 {
     let mut text = Vec::new(alloc);
     for name in names {
@@ -160,7 +164,8 @@ pub(crate) fn object<N: Namer, A: Allocator + Copy>(
     repo: &Repo<N, A>,
     revision: &[u8],
 ) -> Answer<A>
-    ensures { Answers (object_answer (N.name_of repo.now.0) (history_of repo.now.1) revision.now) result }
+    ensures { Answers (object_answer (N.name_of repo.now.0) (history_of repo.now.1) revision.now)
+        result }
 {
     match Revision::eval_text(alloc, repo, revision) {
         Ok(Shown::Object(kind, name)) => given_body(alloc, kind, body_of(repo, &name)),
@@ -200,7 +205,8 @@ pub(crate) fn name<N: Namer, A: Allocator + Copy>(
     repo: &Repo<N, A>,
     revision: &[u8],
 ) -> Answer<A>
-    ensures { Answers (name_answer (N.name_of repo.now.0) (history_of repo.now.1) revision.now) result }
+    ensures { Answers (name_answer (N.name_of repo.now.0) (history_of repo.now.1) revision.now)
+        result }
 {
     match Revision::eval_text(alloc, repo, revision) {
         Ok(Shown::Object(kind, name)) => given_digits(alloc, kind, &name),

@@ -38,7 +38,8 @@ pub(crate) fn commit_field<N: Namer, A: Allocator + Copy>(
     revision: &[u8],
     number: u32,
 ) -> Answer<A>
-    ensures { AnswersField (N.name_of repo.now.0) (history_of repo.now.1) revision.now number result }
+    ensures { AnswersField (N.name_of repo.now.0) (history_of repo.now.1)
+        revision.now number result }
 {
     match numbered(number) {
         Some(field) => field_of(alloc, repo, revision, field),
@@ -67,7 +68,8 @@ fn field_of<N: Namer, A: Allocator + Copy>(
     revision: &[u8],
     field: Field,
 ) -> Answer<A>
-    ensures { AnswersText (field_given (N.name_of repo.now.0) (history_of repo.now.1) revision.now field) result }
+    ensures { AnswersText (field_given (N.name_of repo.now.0) (history_of repo.now.1)
+        revision.now field) result }
 {
     match read_field(alloc, repo, revision, field) {
         Ok(text) => Answer::given(text, 0),
@@ -81,7 +83,8 @@ fn read_field<N: Namer, A: Allocator + Copy>(
     revision: &[u8],
     field: Field,
 ) -> Result<Vec<u8, A>, RevFault>
-    ensures { Gives fault_of (λ text. text.items) result (field_given (N.name_of repo.now.0) (history_of repo.now.1) revision.now field) }
+    ensures { Gives fault_of (λ text. text.items) result
+        (field_given (N.name_of repo.now.0) (history_of repo.now.1) revision.now field) }
 {
     let revision = Revision::read(alloc, revision)?;
     let commit = commit(repo, &revision)?;

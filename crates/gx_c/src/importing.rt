@@ -29,7 +29,8 @@ pub(crate) fn import<N: Namer, A: Allocator + Copy>(
     force: bool,
 ) -> Answer<A>
     ensures namer { repo.new.0 ≡ repo.old.0 }
-    ensures imported { AnswersImport N.name_of (features_of done force) repo.old repo.new stream.now result }
+    ensures imported { AnswersImport N.name_of (features_of done force) repo.old
+        repo.new stream.now result }
     ensures sound { IsSound (N.name_of repo.old.0) repo.new.1 }
 {
     let mut lines = Growing::new(alloc);

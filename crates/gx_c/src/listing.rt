@@ -25,7 +25,8 @@ pub(crate) fn ls<N: Namer, A: Allocator + Copy>(
     repo: &Repo<N, A>,
     revision: &[u8],
 ) -> Answer<A>
-    ensures { AnswersText (listing_of (N.name_of repo.now.0) (history_of repo.now.1) revision.now) result }
+    ensures { AnswersText (listing_of (N.name_of repo.now.0) (history_of repo.now.1) revision.now)
+        result }
 {
     match listing(alloc, repo, revision) {
         Ok(text) => Answer::given(text, 0),

@@ -48,7 +48,8 @@ pub extern "C" fn ginlarch_range(alloc: Global, store: &mut Store, closed: bool)
 /// How many bytes the last call answered.
 #[unsafe(no_mangle)]
 pub extern "C" fn ginlarch_length(alloc: Global, store: &mut Store) -> usize
-    ensures { Reads (λ opened. result ≡ length opened.answer.bytes.items) (result ≡ 0) store.old store.new }
+    ensures { Reads (λ opened. result ≡ length opened.answer.bytes.items) (result ≡ 0)
+        store.old store.new }
 {
     let Some(opened) = taken(alloc, store) else {
         return 0;
@@ -67,7 +68,8 @@ pub extern "C" fn ginlarch_read(
     from: usize,
     room: &mut [u8],
 ) -> usize
-    ensures { Copies (λ opened. drop from opened.answer.bytes.items) room.old room.new result store.old store.new }
+    ensures { Copies (λ opened. drop from opened.answer.bytes.items) room.old room.new result
+        store.old store.new }
 {
     let Some(opened) = taken(alloc, store) else {
         return 0;
@@ -106,7 +108,8 @@ pub extern "C" fn ginlarch_count(alloc: Global, store: &mut Store) -> u64
 /// Copies the word of why the last call was refused, as far as there is room, and answers how many bytes that are.
 #[unsafe(no_mangle)]
 pub extern "C" fn ginlarch_why(alloc: Global, store: &mut Store, room: &mut [u8]) -> usize
-    ensures { Copies (λ opened. word_of_why opened.answer.why) room.old room.new result store.old store.new }
+    ensures { Copies (λ opened. word_of_why opened.answer.why) room.old room.new result
+        store.old store.new }
 {
     let Some(opened) = taken(alloc, store) else {
         return 0;

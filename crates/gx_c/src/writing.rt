@@ -61,7 +61,8 @@ pub(crate) fn changes<N: Namer, A: Allocator + Copy>(
     repo: &Repo<N, A>,
     closed: bool,
 ) -> Answer<A>
-    ensures { AnswersText (Ok (changes_text (N.name_of repo.now.0) closed (history_of repo.now.1))) result }
+    ensures { AnswersText (Ok (changes_text (N.name_of repo.now.0) closed (history_of repo.now.1)))
+        result }
 {
     let mut text = Growing::new(alloc);
     match export_changes(alloc, repo, &mut text, closed) {
@@ -80,7 +81,8 @@ pub(crate) fn range<N: Namer, A: Allocator + Copy>(
     words: &[Range<A>],
     closed: bool,
 ) -> Answer<A>
-    ensures { AnswersRange (N.name_of repo.now.0) (history_of repo.now.1) closed (map shown_range words.now) result }
+    ensures { AnswersRange (N.name_of repo.now.0) (history_of repo.now.1) closed
+        (map shown_range words.now) result }
 {
     let mut text = Growing::new(alloc);
     match export_range(alloc, repo, words, &mut text, closed) {
@@ -103,7 +105,8 @@ pub(crate) fn tar<N: Namer, A: Allocator + Copy>(
     revision: &[u8],
     prefix: &[u8],
 ) -> Answer<A>
-    ensures { AnswersText (archive_answer (N.name_of repo.now.0) (history_of repo.now.1) revision.now prefix.now) result }
+    ensures { AnswersText (archive_answer (N.name_of repo.now.0) (history_of repo.now.1)
+        revision.now prefix.now) result }
 {
     match Revision::read(alloc, revision) {
         Ok(revision) => tar_of(alloc, repo, &revision, prefix),
@@ -117,7 +120,8 @@ fn tar_of<N: Namer, A: Allocator + Copy>(
     revision: &Revision<A>,
     prefix: &[u8],
 ) -> Answer<A>
-    ensures { AnswersText (archive_of (N.name_of repo.now.0) (history_of repo.now.1) revision.now prefix.now) result }
+    ensures { AnswersText (archive_of (N.name_of repo.now.0) (history_of repo.now.1) revision.now
+        prefix.now) result }
 {
     let mut text = Growing::new(alloc);
     match archive(alloc, repo, revision, prefix, &mut text) {

@@ -121,7 +121,8 @@ fn write_head<A: Allocator + Copy, W: Sink>(
     ensures { (r : Records) (ws : List Value)
         → HasWritten r ws written.old
         → Adds ws (root_items branch.now (length commit.now.parents)
-        ++ head_items branch.now (suc (length ws)) commit.now.text) written.old written.new result r }
+        ++ head_items branch.now (suc (length ws)) commit.now.text) written.old
+        written.new result r }
 {
     write_root(&mut written.output, branch, commit)?;
     let mark = written.next_mark();

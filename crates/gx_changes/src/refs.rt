@@ -28,7 +28,8 @@ pub(crate) fn write_refs<O: Objects, A: Allocator + Copy, W: Sink>(
 ) -> Result<(), SendFault>
     requires refs { IfSome (O.told objects.now) (AreTips (O.stands objects.now) refs.now) }
     ensures adds { IfSome (O.told objects.now) (AddsItems (λ r ws. items_of (map (ref_by
-        (named_in (O.name_of objects.now) ws)) (targets r refs.now))) written.old written.new result) }
+        (named_in (O.name_of objects.now) ws)) (targets r refs.now))) written.old
+        written.new result) }
     ensures fault { IsOnTheWay (O.told objects.now) result }
 {
     for tip in refs {
@@ -46,7 +47,8 @@ fn write_ref<O: Objects, A: Allocator + Copy, W: Sink>(
 ) -> Result<(), SendFault>
     requires tip { IfSome (O.told objects.now) (λ r. IsTip (O.stands objects.now) r tip.now) }
     ensures adds { IfSome (O.told objects.now) (AddsItems (λ r ws. command_items (ref_by
-        (named_in (O.name_of objects.now) ws) (tip.now.name.now, target_in (value_at r tip.now.object))))
+        (named_in (O.name_of objects.now) ws)
+        (tip.now.name.now, target_in (value_at r tip.now.object))))
         written.old written.new result) }
     ensures fault { IsOnTheWay (O.told objects.now) result }
 {

@@ -76,7 +76,8 @@ fn write_text<O: Objects, A: Allocator + Copy, W: Sink>(
 ) -> Result<(), SendFault>
     requires refs { IfSome (O.told objects.now) (AreTips (O.stands objects.now) refs.now) }
     requires commits { IfSome (O.told objects.now) (λ r. AreCommits r commits.now) }
-    requires branches { IfSome (O.told objects.now) (λ r. FindsBranches refs.now commits.now r branches.now) }
+    requires branches { IfSome (O.told objects.now)
+        (λ r. FindsBranches refs.now commits.now r branches.now) }
     requires written { (r : Records) → HasWritten r [] written.old }
     ensures adds { IfSome (O.told objects.now) (λ r. Adds (all_changes (commits_sent r commits.now))
         (opening closed ++ (items_of (commits_with_changes (O.name_of objects.now)

@@ -8,7 +8,7 @@ use Rattle.gx_model.specs.Texts.Sinks.{Taken}
 use Rattle.gx_text.specs.Devices.{Coming}
 use Rattle.gx_import.specs.Explaining.{TellsNothing}
 use Rattle.gx_import.specs.declared.explanation.Explanation.{Explanation}
-use Rattle.gx_line.specs.declared.command_line.ExportForm.TheVariants.{Changes}
+use Rattle.gx_asks.specs.declared.question.ExportForm.TheVariants.{Changes}
 use Rattle.gx_cli.specs.Checking.{ReturnsCopy, TellsBack}
 use Rattle.gx_cli.specs.Explained.{ExplainsCommand}
 use Rattle.gx_cli.specs.Headline.{RoundTrips}

@@ -10,7 +10,7 @@ use Rattle.gx_batch.specs.declared.ending.LineEnding.{LineEnding}
 use Rattle.gx_batch.specs.declared.fault.FormatFault.{FormatFault}
 use Rattle.gx_batch.specs.declared.fault.FormatFault.TheVariants as format
 use Rattle.gx_batch.specs.declared.format.Part.{Part}
-use Rattle.gx_line.specs.declared.command_line.BatchForm.{BatchForm}
+use Rattle.gx_asks.specs.declared.question.BatchForm.{BatchForm}
 use Rattle.gx_cli.specs.Gathering.{of_format}
 use Rattle.gx_cli.specs.Serving.{AnswersBatch, AnswersLines, EndsAnswered, EndsOpened, IsRefused, ReadsParts}
 use Rattle.gx_cli.specs.declared.fault.CliFault.{CliFault}

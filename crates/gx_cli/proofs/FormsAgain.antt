@@ -36,8 +36,8 @@ use Rattle.gx_model.specs.Laws.RefusedReplays.{checkpoints_in, is_checkpoint}
 use Rattle.gx_import.specs.Stopping.{StopsReplay}
 use Rattle.gx_import.specs.declared.fault.ImportFault.{ImportFault}
 use Rattle.gx_import.specs.declared.report.Report.{Report}
-use Rattle.gx_line.specs.declared.command_line.ExportForm.{ExportForm}
-use Rattle.gx_line.specs.declared.command_line.ExportForm.TheVariants.{Changes, FullTree}
+use Rattle.gx_asks.specs.declared.question.ExportForm.{ExportForm}
+use Rattle.gx_asks.specs.declared.question.ExportForm.TheVariants.{Changes, FullTree}
 use Rattle.gx_cli.specs.Again.{FormsAreImported, GivesForm, LeaveForm}
 
 -- a source that ends after some bytes

@@ -10,7 +10,7 @@ use Rattle.gx_stream.specs.Heard.{heard}
 use Rattle.gx_text.specs.Devices.{Coming}
 use Rattle.gx_batch.specs.Lines.{lines_from}
 use Rattle.gx_batch.specs.declared.ending.LineEnding.TheVariants.{Lf}
-use Rattle.gx_line.specs.declared.command_line.LogOptions.{LogOptions}
+use Rattle.gx_asks.specs.declared.question.LogOptions.{LogOptions}
 use Rattle.gx_cli.specs.Answers.{IsRefusal, Prints}
 use Rattle.gx_cli.specs.Gathering.{AreLines, GathersLines}
 use Rattle.gx_cli.specs.Logs.{LogsFrom, LogsRead}

@@ -15,7 +15,7 @@ use Rattle.gx_import.specs.Retelling.{IsOfOneReplay}
 use Rattle.gx_import.specs.declared.explanation.Explanation.{Explanation}
 use Rattle.gx_import.specs.declared.fault.ImportFault.{ImportFault}
 use Rattle.gx_import.specs.declared.report.Report.{Report}
-use Rattle.gx_line.specs.declared.command_line.ExportForm.{ExportForm}
+use Rattle.gx_asks.specs.declared.question.ExportForm.{ExportForm}
 use Rattle.gx_cli.specs.Checking.{TellsBack}
 use Rattle.gx_cli.specs.Headline.{ComesBackOr}
 use Rattle.gx_cli.specs.Retold.{RetellsAlone, RetellsRefused, RetellsReported, RetellsStored, RetellsTrip}

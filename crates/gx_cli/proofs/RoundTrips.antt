@@ -26,8 +26,8 @@ use Rattle.gx_import.specs.declared.fault.ImportFault.{ImportFault}
 use Rattle.gx_export.specs.Outputs.{StopsAt, most}
 use Rattle.gx_export.specs.declared.fault.ExportFault.{ExportFault}
 use Rattle.gx_export.specs.declared.fault.ExportFault.TheVariants.{WriteFailed}
-use Rattle.gx_line.specs.declared.command_line.ExportForm.{ExportForm}
-use Rattle.gx_line.specs.declared.command_line.ExportForm.TheVariants.{Changes, FullTree}
+use Rattle.gx_asks.specs.declared.question.ExportForm.{ExportForm}
+use Rattle.gx_asks.specs.declared.question.ExportForm.TheVariants.{Changes, FullTree}
 use Rattle.gx_cli.specs.Again.{FormsAreImported, LeaveForm}
 use Rattle.gx_cli.specs.Explained.{ExplainsCommand}
 use Rattle.gx_cli.specs.Forms.{ExportsAs, text_as}

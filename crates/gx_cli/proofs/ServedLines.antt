@@ -1,68 +1,57 @@
 -- Commands that read a store's text first, told apart from those that don't, and those that ask from those that leave a text.
-use Rattle.std.proofs.Common.{◌≡◌, ℕ, Bool, Bor, Global, Option, None, Vec, refl}
-use Rattle.std.specs.Prelude.{IsSome}
+use Rattle.std.proofs.Common.{◌≡◌, Bool, Bor, Option, None, refl}
+use Rattle.std.specs.Prelude.{ℕ, IsSome}
 use Rattle.gx_model.specs.declared.objects.Kind.{Kind}
 use Rattle.gx_model.specs.Texts.{Bytes}
 use Rattle.gx_model.specs.Texts.Sinks.{Taken}
-use Rattle.gx_model.specs.Histories.{Records}
 use Rattle.gx_model.specs.Stores.StoreReading.{store_of}
 use Rattle.gx_text.specs.Devices.{Coming}
-use Rattle.gx_line.specs.declared.command_line.BatchForm.{BatchForm}
+use Rattle.gx_asks.specs.declared.change.Change.{Change}
+use Rattle.gx_asks.specs.declared.change.Change.TheVariants as changes
+use Rattle.gx_asks.specs.declared.question.BatchForm.{BatchForm}
+use Rattle.gx_asks.specs.declared.question.Question.{Question}
+use Rattle.gx_asks.specs.declared.question.Question.TheVariants as questions
+use Rattle.gx_asks.specs.declared.trial.Trial.{Trial}
 use Rattle.gx_line.specs.declared.command_line.Line.{Line}
 use Rattle.gx_line.specs.declared.command_line.Line.TheVariants as line
-use Rattle.gx_line.specs.declared.command_line.RefChange.{RefChange}
-use Rattle.gx_cli.specs.Serving.{EndsAnswered, EndsOpened, IsAnswered, IsRefused, Serves, ServesExported, ServesOpened, without_room}
+use Rattle.gx_cli.specs.Serving.{ChangesExported, ChangesOpened, EndsAnswered, EndsOpened, IsAnswered, IsRefused, Serves, ServesChange, ServesQuestion, room_of_change, without_room}
 use Rattle.gx_cli.specs.declared.fault.CliFault.TheVariants.{ReadFailed}
 use Rattle.gx_cli.specs.declared.serving.Outcome.{Outcome}
 
 module _ (name : Kind → Bytes → Bytes) {A : Type 0} (o : Outcome A) (coming : Option Coming) (was now : Option Taken) where
-  -- a command that leaves no text is answered
-  pub asked_opened : (l : Line) (r : Records) → ((file : Bor Bytes) (words : Vec (Bor Bytes) Global) (stdin : Bool) (wait : Option ℕ) → l ≡ line.Drop file words stdin wait → ⊥)
-      → ((file : Bor Bytes) (report : Bool) (keep : Option (Bor Bytes)) (wait : Option ℕ) → l ≡ line.Gc file report keep wait → ⊥)
-      → ((file : Bor Bytes) (change : Option RefChange) (force : Bool) (wait : Option ℕ) → l ≡ line.SetRef file change force wait → ⊥) → EndsAnswered (IsAnswered name l r coming was now) o → ServesOpened name l r coming was now o
-  asked_opened (line.Drop file words stdin wait) r d g s h = absurd (d file words stdin wait refl)
-  asked_opened (line.Gc file report keep wait) r d g s h = absurd (g file report keep wait refl)
-  asked_opened (line.SetRef file change force wait) r d g s h = absurd (s file change force wait refl)
-  asked_opened l r d g s h = h
+  -- a question that is no batch is answered of the text that is read
+  pub question_served : (q : Question) (store : Bytes) → ((form : BatchForm) (format : Option (Bor Bytes)) (nul : Bool) → q ≡ questions.Batch form format nul → ⊥)
+      → EndsOpened (store_of name store) (λ r. EndsAnswered (IsAnswered name q r coming was now) o) was now o → ServesQuestion name q store coming was now o
+  question_served (questions.Batch form format nul) store m h = absurd (m form format nul refl)
+  question_served q store m h = h
 
-  -- a command that reads a store's text, and neither imports into it nor answers lines of it, reads it first
-  pub opened_served : (l : Line) (store : Bytes) → IsSome (without_room l) → ((file : Bor Bytes) (done force report explain : Bool) (wait : Option ℕ) → l ≡ line.Import file done force report explain wait → ⊥)
-      → ((form : BatchForm) (format : Option (Bor Bytes)) (nul : Bool) (file : Bor Bytes) → l ≡ line.Batch form format nul file → ⊥)
-      → EndsOpened (store_of name store) (λ r. ServesOpened name l r coming was now o) was now o → Serves name l store coming was now o
-  opened_served line.Blobs store s i m h = absurd (cc s)
-  opened_served (line.Try word done force explain) store s i m h = absurd (cc s)
-  opened_served (line.Check done force explain) store s i m h = absurd (cc s)
-  opened_served (line.Adapt drops) store s i m h = absurd (cc s)
-  opened_served (line.Where command) store s i m h = absurd (cc s)
-  opened_served (line.WhereFault done force) store s i m h = absurd (cc s)
-  opened_served (line.Init file growing wait) store s i m h = absurd (cc s)
-  opened_served (line.Grow file wait) store s i m h = absurd (cc s)
-  opened_served (line.Verify file salvage) store s i m h = absurd (cc s)
-  opened_served (line.Push file push done report explain wait) store s i m h = absurd (cc s)
-  opened_served (line.Put file stamp wait) store s i m h = absurd (cc s)
-  opened_served (line.Import file done force report explain wait) store s i m h = absurd (i file done force report explain wait refl)
-  opened_served (line.Batch form format nul file) store s i m h = absurd (m form format nul file refl)
-  opened_served l store s i m h = h
+  -- a change that reads a text, and imports nothing into it, reads it first
+  pub change_served : (c : Change) (store : Bytes) → IsSome (room_of_change c) → ((done force report explain : Bool) → c ≡ changes.Import done force report explain → ⊥)
+      → EndsOpened (store_of name store) (λ r. ChangesOpened name c r coming o × (now ≡ was)) was now o → ServesChange name c store coming was now o
+  change_served (changes.Init growing) store s i h = absurd (cc s)
+  change_served changes.Grow store s i h = absurd (cc s)
+  change_served (changes.Push push done report explain) store s i h = absurd (cc s)
+  change_served (changes.Put stamp) store s i h = absurd (cc s)
+  change_served (changes.Import done force report explain) store s i h = absurd (i done force report explain refl)
+  change_served c store s i h = h
 
-  -- a command that has no use for one, and reads what isn't here, is refused
-  pub refused_served : (l : Line) (store : Bytes) → without_room l ≡ None → (l ≡ line.Blobs → ⊥) → ((word : Bor Bytes) (done force explain : Bool) → l ≡ line.Try word done force explain → ⊥)
-      → ((done force explain : Bool) → l ≡ line.Check done force explain → ⊥) → ((done force : Bool) → l ≡ line.WhereFault done force → ⊥) → ((drops : Bool) → l ≡ line.Adapt drops → ⊥) → ((command : ℕ) → l ≡ line.Where command → ⊥)
-      → ((file : Bor Bytes) (growing : Bool) (wait : Option ℕ) → l ≡ line.Init file growing wait → ⊥)
-      → IsRefused ReadFailed o × (now ≡ was) → Serves name l store coming was now o
-  refused_served line.Blobs store e b t k f a w i h = absurd (b refl)
-  refused_served (line.Try word done force explain) store e b t k f a w i h = absurd (t word done force explain refl)
-  refused_served (line.Check done force explain) store e b t k f a w i h = absurd (k done force explain refl)
-  refused_served (line.WhereFault done force) store e b t k f a w i h = absurd (f done force refl)
-  refused_served (line.Adapt drops) store e b t k f a w i h = absurd (a drops refl)
-  refused_served (line.Where command) store e b t k f a w i h = absurd (w command refl)
-  refused_served (line.Init file growing wait) store e b t k f a w i h = absurd (i file growing wait refl)
-  refused_served (line.Push file push done report explain wait) store e b t k f a w i h = h
-  refused_served (line.Put file stamp wait) store e b t k f a w i h = h
-  refused_served (line.Grow file wait) store e b t k f a w i h = h
-  refused_served (line.Verify file salvage) store e b t k f a w i h = h
-  refused_served _ store e b t k f a w i h = absurd (cc e)
+  -- a change that has no use for a text, and reads what isn't here, is refused
+  pub change_refused : (c : Change) (store : Bytes) → room_of_change c ≡ None → ((growing : Bool) → c ≡ changes.Init growing → ⊥) → IsRefused ReadFailed o × (now ≡ was) → ServesChange name c store coming was now o
+  change_refused (changes.Init growing) store e i h = absurd (i growing refl)
+  change_refused changes.Grow store e i h = h
+  change_refused (changes.Push push done report explain) store e i h = h
+  change_refused (changes.Put stamp) store e i h = h
+  change_refused _ store e i h = absurd (cc e)
 
-  -- and of what it makes of an export, nothing is told
-  pub other_again : (l : Line) (store : Bytes) → ((file : Bor Bytes) (done force report explain : Bool) (wait : Option ℕ) → l ≡ line.Import file done force report explain wait → ⊥) → ServesExported name l store coming o
-  other_again (line.Import file done force report explain wait) store i = absurd (i file done force report explain wait refl)
-  other_again l store i = tt
+  -- and so is a look at a file that isn't here
+  pub line_refused : (l : Line) (store : Bytes) → without_room l ≡ None → ((trial : Trial) → l ≡ line.Stream trial → ⊥)
+      → ((path : Bor Bytes) (wait : Option ℕ) (change : Change) → l ≡ line.Change path wait change → ⊥) → IsRefused ReadFailed o × (now ≡ was) → Serves name l store coming was now o
+  line_refused (line.Stream trial) store e s c h = absurd (s trial refl)
+  line_refused (line.Change path wait change) store e s c h = absurd (c path wait change refl)
+  line_refused (line.Ask path question) store e s c h = absurd (cc e)
+  line_refused (line.Verify path salvage) store e s c h = h
+
+  -- of what another change makes of an export nothing is told
+  pub other_again : (c : Change) (store : Bytes) → ((done force report explain : Bool) → c ≡ changes.Import done force report explain → ⊥) → ChangesExported name c store coming o
+  other_again (changes.Import done force report explain) store i = absurd (i done force report explain refl)
+  other_again c store i = tt

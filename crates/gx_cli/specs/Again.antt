@@ -16,8 +16,8 @@ use Rattle.gx_import.specs.Imports.{Imports}
 use Rattle.gx_import.specs.Stopping.{StopsReplay}
 use Rattle.gx_import.specs.declared.fault.ImportFault.{ImportFault}
 use Rattle.gx_import.specs.declared.report.Report.{Report}
-use Rattle.gx_line.specs.declared.command_line.ExportForm.{ExportForm}
-use Rattle.gx_line.specs.declared.command_line.ExportForm.TheVariants.{Changes, FullTree}
+use Rattle.gx_asks.specs.declared.question.ExportForm.{ExportForm}
+use Rattle.gx_asks.specs.declared.question.ExportForm.TheVariants.{Changes, FullTree}
 use Rattle.gx_cli.specs.Forms.{text_as}
 
 -- Features that leave the import of an export in this form as it is. All files are exported with `done`; of changes, `done` is

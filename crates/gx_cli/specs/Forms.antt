@@ -18,8 +18,8 @@ use Rattle.gx_export.specs.declared.fault.ExportFault.{ExportFault}
 use Rattle.gx_print.specs.Stored.{all_words, commits_listed, of_word}
 use Rattle.gx_cli.specs.declared.fault.CliFault.{CliFault}
 use Rattle.gx_cli.specs.declared.fault.CliFault.TheVariants.{Export, OutOfMemory, Revision}
-use Rattle.gx_line.specs.declared.command_line.ExportForm.{ExportForm}
-use Rattle.gx_line.specs.declared.command_line.ExportForm.TheVariants.{Changes, FullTree}
+use Rattle.gx_asks.specs.declared.question.ExportForm.{ExportForm}
+use Rattle.gx_asks.specs.declared.question.ExportForm.TheVariants.{Changes, FullTree}
 
 module _ (name : Kind → Bytes → Bytes) where
   -- the text of a history's export in a form

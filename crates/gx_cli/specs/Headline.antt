@@ -16,7 +16,7 @@ use Rattle.gx_import.specs.declared.report.Report.{Report}
 use Rattle.gx_import.specs.declared.fault.ImportFault.{ImportFault}
 use Rattle.gx_model.specs.declared.faults.Fault.TheVariants as kind
 use Rattle.gx_export.specs.Outputs.{most}
-use Rattle.gx_line.specs.declared.command_line.ExportForm.{ExportForm}
+use Rattle.gx_asks.specs.declared.question.ExportForm.{ExportForm}
 use Rattle.gx_cli.specs.Forms.{text_as}
 use Rattle.gx_cli.specs.Questions.{Replies}
 use Rattle.gx_cli.specs.declared.fault.CliFault.{CliFault}

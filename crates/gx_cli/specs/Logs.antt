@@ -17,7 +17,7 @@ use Rattle.gx_object.specs.declared.name.Name.{Name}
 use Rattle.gx_repo.specs.Repositories.{Repository}
 use Rattle.gx_rev.specs.Objects.{commit_at}
 use Rattle.gx_rev.specs.Reached.{is_wanted}
-use Rattle.gx_line.specs.declared.command_line.LogOptions.{LogOptions}
+use Rattle.gx_asks.specs.declared.question.LogOptions.{LogOptions}
 use Rattle.gx_cli.specs.Answers.{Prints}
 use Rattle.gx_cli.specs.Gathering.{OfLines}
 use Rattle.gx_print.specs.Logs.{entry_of, log_text}

@@ -30,12 +30,18 @@ use Rattle.gx_export.specs.declared.fault.ExportFault.{ExportFault}
 use Rattle.gx_model.specs.declared.store_faults.FileFault.{FileFault}
 use Rattle.gx_model.specs.declared.store_faults.FileFault.TheVariants as file
 use Rattle.gx_blobs.specs.declared.blob_names.BlobsFault.{BlobsFault}
-use Rattle.gx_line.specs.declared.command_line.BatchForm.{BatchForm}
-use Rattle.gx_line.specs.declared.command_line.BatchForm.TheVariants as form
-use Rattle.gx_line.specs.declared.command_line.ExportForm.{ExportForm}
+use Rattle.gx_asks.specs.declared.question.BatchForm.{BatchForm}
+use Rattle.gx_asks.specs.declared.question.BatchForm.TheVariants as form
+use Rattle.gx_asks.specs.declared.question.ExportForm.{ExportForm}
+use Rattle.gx_asks.specs.declared.change.Change.{Change}
+use Rattle.gx_asks.specs.declared.change.Change.TheVariants as changes
+use Rattle.gx_asks.specs.declared.question.Question.{Question}
+use Rattle.gx_asks.specs.declared.question.Question.TheVariants as questions
+use Rattle.gx_asks.specs.declared.trial.Trial.{Trial}
+use Rattle.gx_asks.specs.declared.trial.Trial.TheVariants as trials
 use Rattle.gx_line.specs.declared.command_line.Line.{Line}
 use Rattle.gx_line.specs.declared.command_line.Line.TheVariants as line
-use Rattle.gx_line.specs.declared.command_line.RefChange.{RefChange}
+use Rattle.gx_asks.specs.declared.change.RefChange.{RefChange}
 use Rattle.gx_cli.specs.declared.fault.CliFault.{CliFault}
 use Rattle.gx_cli.specs.declared.fault.CliFault.TheVariants.{BadFormat, Blobs, Export, OutOfMemory, ReadFailed, Store}
 use Rattle.gx_cli.specs.declared.serving.Outcome.{Outcome}
@@ -113,21 +119,25 @@ line_answer name form.Bytes parts repository = answered_by name false parts (his
 line_answer name form.Check parts repository = answered_by name true parts (history_of repository)
 line_answer name form.Commands parts repository = command_answer name parts repository
 
--- why a command is refused where there is no memory for its store's text; none where it has no use for one
+-- why a question is refused where there is no memory for its store's text
+abbrev pub room_of_question : Question → CliFault
+room_of_question (questions.Batch form format nul) = OutOfMemory
+room_of_question question = Store file.OutOfMemory
+
+-- why a change is; none where it has no use for one
+abbrev pub room_of_change : Change → Option CliFault
+room_of_change (changes.Init growing) = None
+room_of_change changes.Grow = None
+room_of_change (changes.Push push done report explain) = None
+room_of_change (changes.Put stamp) = None
+room_of_change change = Some (Store file.OutOfMemory)
+
+-- why a command is
 abbrev pub without_room : Line → Option CliFault
-without_room line.Blobs = None
-without_room (line.Try word done force explain) = None
-without_room (line.Check done force explain) = None
-without_room (line.Adapt drops) = None
-without_room (line.Where command) = None
-without_room (line.WhereFault done force) = None
-without_room (line.Init file growing wait) = None
-without_room (line.Grow file wait) = None
-without_room (line.Verify file salvage) = None
-without_room (line.Push file push done report explain wait) = None
-without_room (line.Put file stamp wait) = None
-without_room (line.Batch form format nul file) = Some OutOfMemory
-without_room _ = Some (Store file.OutOfMemory)
+without_room (line.Ask path question) = Some (room_of_question question)
+without_room (line.Change path wait change) = room_of_change change
+without_room (line.Stream trial) = None
+without_room (line.Verify path salvage) = None
 
 -- a format of these parts was read, or the text that was read is none; memory runs out only for one
 abbrev pub ReadsParts : {A : Type 0} → Option (List Part) → Result (Format A) CliFault → Type 0
@@ -151,17 +161,17 @@ module _ (name : Kind → Bytes → Bytes) where
       × Answers (line_answer name form parts repository) ending coming was now answer
       × (result ≡ result_map_both (λ done. done) of_batch answer)
 
-  -- what is answered to what a line asks of a repository; to one that asks nothing, nothing
-  abbrev pub IsAnswered : Line → Records → Option Coming → Option Taken → Option Taken → Result (Unit {0}) CliFault → Type 0
-  IsAnswered (line.Show file word) r coming was now answer = Prints (show_text name (history_of r) word.now) was now answer
-  IsAnswered (line.Ls recursive file word) r coming was now answer = Prints (list_text name recursive (history_of r) word.now) was now answer
-  IsAnswered (line.Archive prefix file word) r coming was now answer = Prints (tar_text name prefix.now (history_of r) word.now) was now answer
-  IsAnswered (line.Refs file) r coming was now answer = Prints (Ok (refs_text r)) was now answer
-  IsAnswered (line.RevParse file words) r coming was now answer = Prints (names_text name (history_of r) (lent_texts words.items)) was now answer
-  IsAnswered (line.Log options file words) r coming was now answer = LogsFrom name options options.stdin r (lent_texts words.items) coming was now answer
-  IsAnswered (line.Export form file) r coming was now answer = SendsExport name form r was now answer
-  IsAnswered (line.ExportRange done file words) r coming was now answer = SendsRange name done r (lent_texts words.items) was now answer
-  IsAnswered line r coming was now answer = (answer ≡ Ok tt) × (now ≡ was)
+  -- what is answered to a question of a repository; to a batch, whose lines come from a source, nothing
+  abbrev pub IsAnswered : Question → Records → Option Coming → Option Taken → Option Taken → Result (Unit {0}) CliFault → Type 0
+  IsAnswered (questions.Show word) r coming was now answer = Prints (show_text name (history_of r) word.now) was now answer
+  IsAnswered (questions.Ls recursive word) r coming was now answer = Prints (list_text name recursive (history_of r) word.now) was now answer
+  IsAnswered (questions.Archive prefix word) r coming was now answer = Prints (tar_text name prefix.now (history_of r) word.now) was now answer
+  IsAnswered questions.Refs r coming was now answer = Prints (Ok (refs_text r)) was now answer
+  IsAnswered (questions.Names words) r coming was now answer = Prints (names_text name (history_of r) (lent_texts words.items)) was now answer
+  IsAnswered (questions.Log options words) r coming was now answer = LogsFrom name options options.stdin r (lent_texts words.items) coming was now answer
+  IsAnswered (questions.Export form) r coming was now answer = SendsExport name form r was now answer
+  IsAnswered (questions.ExportRange done words) r coming was now answer = SendsRange name done r (lent_texts words.items) was now answer
+  IsAnswered (questions.Batch form format nul) r coming was now answer = (answer ≡ Ok tt) × (now ≡ was)
 
 module _ (name : Kind → Bytes → Bytes) {A : Type 0} where
   -- ---- the commands that leave a store text
@@ -214,34 +224,52 @@ module _ (name : Kind → Bytes → Bytes) {A : Type 0} where
 
   -- ---- all commands
 
-  -- how a command ends over the repository of a store that was read
-  abbrev pub ServesOpened : Line → Records → Option Coming → Option Taken → Option Taken → Outcome A → Type 0
-  ServesOpened (line.Drop file words stdin wait) r coming was now o = DropsText stdin r (lent_texts words.items) coming o × (now ≡ was)
-  ServesOpened (line.SetRef file change forced wait) r coming was now o = SetsText forced r change coming o × (now ≡ was)
-  ServesOpened (line.Gc file report keep wait) r coming was now o = EndsCollected (is_some keep) r o × (now ≡ was)
-  ServesOpened line r coming was now o = EndsAnswered (IsAnswered name line r coming was now) o
+  -- how a change ends over the repository of a store that was read
+  abbrev pub ChangesOpened : Change → Records → Option Coming → Outcome A → Type 0
+  ChangesOpened (changes.Drop words stdin) r coming o = DropsText stdin r (lent_texts words.items) coming o
+  ChangesOpened (changes.SetRef change forced) r coming o = SetsText forced r change coming o
+  ChangesOpened (changes.Gc report keep) r coming o = EndsCollected (is_some keep) r o
+  ChangesOpened change r coming o = IsRefused ReadFailed o
+
+  -- how a change of a store's text ends
+  abbrev pub ServesChange : Change → Bytes → Option Coming → Option Taken → Option Taken → Outcome A → Type 0
+  ServesChange (changes.Init false) store coming was now o = IsWritten name empty_repository o × (now ≡ was)
+  ServesChange (changes.Init true) store coming was now o = IsRefused ReadFailed o × (now ≡ was)
+  ServesChange changes.Grow store coming was now o = IsRefused ReadFailed o × (now ≡ was)
+  ServesChange (changes.Push push done report explain) store coming was now o = IsRefused ReadFailed o × (now ≡ was)
+  ServesChange (changes.Put stamp) store coming was now o = IsRefused ReadFailed o × (now ≡ was)
+  ServesChange (changes.Import done force report explain) store coming was now o = ImportsText (features_of done force) store coming was now o
+  ServesChange change store coming was now o = EndsOpened (store_of name store) (λ r. ChangesOpened change r coming o × (now ≡ was)) was now o
+
+  -- how a question to a store's text ends
+  abbrev pub ServesQuestion : Question → Bytes → Option Coming → Option Taken → Option Taken → Outcome A → Type 0
+  ServesQuestion (questions.Batch form format nul) store coming was now o = AnswersLines form (format_parts format) (ending_of nul) store coming was now o
+  ServesQuestion question store coming was now o = EndsOpened (store_of name store) (λ r. EndsAnswered (IsAnswered name question r coming was now) o) was now o
+
+  -- how it ends that a stream is tried
+  abbrev pub ServesStream : Trial → Option Coming → Option Taken → Option Taken → Outcome A → Type 0
+  ServesStream trials.Blobs coming was now o =
+      (answer : Result ℕ BlobsFault) × PrintsBlobs name (option_map items_from coming) was now answer × IsOutcome (result_map_both (λ count. count) Blobs answer) o
+  ServesStream (trials.Try word done force explain) coming was now o =
+      EndsAnswered (Tries name (features_of done force) coming word.now was now) o
+  ServesStream (trials.Check done force explain) coming was now o = EndsAnswered (Checks name (features_of done force) coming was now) o
+  ServesStream (trials.Adapt drops) coming was now o = (answer : Result (Adapted A) CliFault) × AdaptsStream drops coming was now answer × EndsAdapted answer o
+  ServesStream (trials.Where command) coming was now o = EndsAnswered (PlacesFrom command coming was now) o
+  ServesStream (trials.WhereFault done force) coming was now o = EndsAnswered (FindsFault name (features_of done force) coming) o × (now ≡ was)
 
   -- what a command does to the sink, and how it ends
   abbrev pub Serves : Line → Bytes → Option Coming → Option Taken → Option Taken → Outcome A → Type 0
-  Serves line.Blobs store coming was now o =
-      (answer : Result ℕ BlobsFault) × PrintsBlobs name (option_map items_from coming) was now answer × IsOutcome (result_map_both (λ count. count) Blobs answer) o
-  Serves (line.Try word done force explain) store coming was now o =
-      EndsAnswered (Tries name (features_of done force) coming word.now was now) o
-  Serves (line.Check done force explain) store coming was now o = EndsAnswered (Checks name (features_of done force) coming was now) o
-  Serves (line.Adapt drops) store coming was now o = (answer : Result (Adapted A) CliFault) × AdaptsStream drops coming was now answer × EndsAdapted answer o
-  Serves (line.Where command) store coming was now o = EndsAnswered (PlacesFrom command coming was now) o
-  Serves (line.WhereFault done force) store coming was now o = EndsAnswered (FindsFault name (features_of done force) coming) o × (now ≡ was)
-  Serves (line.Batch form format nul file) store coming was now o = AnswersLines form (format_parts format) (ending_of nul) store coming was now o
-  Serves (line.Init file false wait) store coming was now o = IsWritten name empty_repository o × (now ≡ was)
-  Serves (line.Init file true wait) store coming was now o = IsRefused ReadFailed o × (now ≡ was)
-  Serves (line.Grow file wait) store coming was now o = IsRefused ReadFailed o × (now ≡ was)
-  Serves (line.Verify file salvage) store coming was now o = IsRefused ReadFailed o × (now ≡ was)
-  Serves (line.Push file push done report explain wait) store coming was now o = IsRefused ReadFailed o × (now ≡ was)
-  Serves (line.Put file stamp wait) store coming was now o = IsRefused ReadFailed o × (now ≡ was)
-  Serves (line.Import file done force report explain wait) store coming was now o = ImportsText (features_of done force) store coming was now o
-  Serves line store coming was now o = EndsOpened (store_of name store) (λ r. ServesOpened line r coming was now o) was now o
+  Serves (line.Ask path question) store coming was now o = ServesQuestion question store coming was now o
+  Serves (line.Change path wait change) store coming was now o = ServesChange change store coming was now o
+  Serves (line.Stream trial) store coming was now o = ServesStream trial coming was now o
+  Serves (line.Verify path salvage) store coming was now o = IsRefused ReadFailed o × (now ≡ was)
 
   -- the import of an export, in any form, into an empty store makes that repository again, as far as its refs reach
+  abbrev pub ChangesExported : Change → Bytes → Option Coming → Outcome A → Type 0
+  ChangesExported (changes.Import done force report explain) store coming o = ImportsTextAgain (features_of done force) store coming o
+  ChangesExported change store coming o = ⊤
+
+  -- so does a command that imports
   abbrev pub ServesExported : Line → Bytes → Option Coming → Outcome A → Type 0
-  ServesExported (line.Import file done force report explain wait) store coming o = ImportsTextAgain (features_of done force) store coming o
+  ServesExported (line.Change path wait change) store coming o = ChangesExported change store coming o
   ServesExported line store coming o = ⊤

@@ -14,7 +14,7 @@ use Rattle.gx_text.specs.Devices.{Coming}
 use Rattle.gx_push.specs.Lines.{Refusal}
 use Rattle.gx_push.specs.Settings.{set_refs}
 use Rattle.gx_push.specs.declared.fault.RefFault.TheVariants.{BadLine}
-use Rattle.gx_line.specs.declared.command_line.RefChange.{RefChange}
+use Rattle.gx_asks.specs.declared.change.RefChange.{RefChange}
 use Rattle.gx_cli.specs.Gathering.{OfLines}
 use Rattle.gx_cli.specs.declared.fault.CliFault.{CliFault}
 use Rattle.gx_cli.specs.declared.fault.CliFault.TheVariants.{OutOfMemory, ReadFailed, Ref, Store}

@@ -19,7 +19,7 @@ use Rattle.gx_import.specs.declared.fault.ImportFault.{ImportFault}
 use Rattle.gx_model.specs.declared.faults.Fault.TheVariants as kind
 use Rattle.gx_model.specs.declared.store_faults.FileFault.{FileFault}
 use Rattle.gx_model.specs.declared.store_faults.FileFault.TheVariants as file
-use Rattle.gx_line.specs.declared.command_line.ExportForm.{ExportForm}
+use Rattle.gx_asks.specs.declared.question.ExportForm.{ExportForm}
 use Rattle.gx_cli.specs.Again.{GivesForm, LeaveForm}
 use Rattle.gx_cli.specs.declared.fault.CliFault.{CliFault}
 use Rattle.gx_cli.specs.declared.fault.CliFault.TheVariants.{Import, Store}

@@ -8,8 +8,7 @@ ghost use Rattle.gx_cli.specs.Gathering.{AdaptsStream, texts_of};
 use crate::serving::{Outcome, refused};
 use crate::{Adapted, CliFault};
 use gx_adapt::adapt;
-use gx_print::put_printed;
-use gx_text::{Sink, Source};
+use gx_text::{Sink, Source, put_printed};
 use std::alloc::{AllocError, Allocator};
 
 /// Sends a stream with the lines changed that are read otherwise here than by git, and answers how many they are, and which lines

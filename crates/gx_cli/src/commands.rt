@@ -51,7 +51,8 @@ pub(crate) struct Commands<'a, N: Namer, A: Allocator> {
 }
 
 impl<'a, N: Namer, A: Allocator + Copy> Answerer<A> for Commands<'a, N, A> {
-    ghost answer_to = { λ self. command_answer (N.name_of self.repo.now.0) self.format.now.parts.items self.repo.now.1 };
+    ghost answer_to = { λ self. command_answer (N.name_of self.repo.now.0)
+        self.format.now.parts.items self.repo.now.1 };
 
     fn answer<W: Sink>(
         &self,

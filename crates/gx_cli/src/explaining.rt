@@ -5,8 +5,7 @@ ghost use Rattle.std.specs.Fmt.{decimal};
 ghost use Rattle.gx_cli.specs.ExplainedLines.{asked_line, asked_text, change_line, explanation_text, item_line, loss_line, place_head};
 
 use gx_import::{Asked, Explanation, RefLoss};
-use gx_print::put_printed;
-use gx_text::TreePath;
+use gx_text::{TreePath, put_printed};
 use itoa::Buffer;
 use std::alloc::{AllocError, Allocator};
 

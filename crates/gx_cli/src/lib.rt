@@ -46,11 +46,10 @@ pub use explaining::{explanation_lines, item_line};
 pub use fault::CliFault;
 pub use gc::{collect_opened, collect_store, collect_store_keeping, names_in};
 pub use gx_adapt::{Adapted, Report as AdaptReport};
+pub use gx_asks::{BatchForm, Change, ExportForm, LogFormat, LogOptions, RefChange, Trial};
 pub use gx_blobs::{BlobsFault, BlobsKind, blobs};
 pub use gx_import::{Asked, Explanation, ImportFault, ImportKind, RefLoss, Report as ImportReport};
-pub use gx_line::{
-    BatchForm, ExportForm, Line, LineFault, LogFormat, LogOptions, RefChange, read_line,
-};
+pub use gx_line::{Line, LineFault, read_line};
 pub use gx_model::Features;
 pub use gx_print::printed_path;
 pub use gx_push::{Pushed, RefFault};

@@ -36,8 +36,10 @@ pub fn push_store<N: Namer + Drop, R: Source + Drop, W: Sink, A: Allocator + Cop
 ) -> Result<Pushed<N, A>, CliFault>
     ensures namer { IfOk result (λ pushed. pushed.repo.0 ≡ namer) }
     ensures pushed { PushesStored (N.name_of namer) done (store_of (N.name_of namer) store.items)
-        (texts lines.now) (R.coming source) (W.taken sink.old) (W.taken sink.new) (answer_of result) }
-    ensures explained { ExplainsPushed (N.name_of namer) done (store_of (N.name_of namer) store.items)
+        (texts lines.now) (R.coming source) (W.taken sink.old) (W.taken sink.new)
+        (answer_of result) }
+    ensures explained { ExplainsPushed (N.name_of namer) done
+        (store_of (N.name_of namer) store.items)
         (R.coming source) (answer_of result) told.new }
     ensures retold { R.coming source ≡ None
         → RetellsPushed (N.name_of namer) done (store_of (N.name_of namer) store.items)
@@ -66,7 +68,8 @@ pub fn push_opened<N: Namer + Drop, R: Source + Drop, W: Sink, A: Allocator + Co
 ) -> Result<Pushed<N, A>, CliFault>
     ensures namer { IfOk result (λ pushed. pushed.repo.0 ≡ repo.0) }
     ensures pushed { PushesStored (N.name_of repo.0) done (Ok repo.1)
-        (texts lines.now) (R.coming source) (W.taken sink.old) (W.taken sink.new) (answer_of result) }
+        (texts lines.now) (R.coming source) (W.taken sink.old) (W.taken sink.new)
+        (answer_of result) }
     ensures explained { ExplainsPushed (N.name_of repo.0) done (Ok repo.1)
         (R.coming source) (answer_of result) told.new }
     ensures retold { R.coming source ≡ None → RetellsPushed (N.name_of repo.0) done (Ok repo.1)

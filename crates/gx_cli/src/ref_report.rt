@@ -63,7 +63,8 @@ pub fn report_opened<N: Namer + Drop, R: Source + Drop, W: Sink, A: Allocator + 
 ) -> (Option<(Repo<N, A>, Vec<u8, A>)>, Result<Report, CliFault>)
     ensures explained { ExplainsCommand (N.name_of repo.0) features repo.1
         (R.coming source) result.1 told.new }
-    ensures retold { R.coming source ≡ None → RetellsReported (N.name_of repo.0) features (Ok repo.1)
+    ensures retold { R.coming source ≡ None
+        → RetellsReported (N.name_of repo.0) features (Ok repo.1)
         (W.taken sink.old) (W.taken sink.new) result told.new }
     ensures reported { ReportsStored N.name_of repo.0 features (Ok repo.1) (R.coming source)
         (W.taken sink.old) (W.taken sink.new) result }

@@ -10,9 +10,9 @@ ghost use Rattle.gx_cli.specs.RefusedPush.{TellsRefused, refused_text, want_text
 use crate::CliFault;
 use crate::opening::open;
 use gx_object::{Name, Namer};
-use gx_print::put_printed;
 use gx_push::{Want, want_in};
 use gx_repo::Repo;
+use gx_text::put_printed;
 use std::alloc::{AllocError, Allocator};
 use std::hash::RandomState;
 

@@ -1,19 +1,20 @@
 //! What a command does with the store's bytes, its input and its output.
 
-ghost use Rattle.std.specs.Prelude.{◌≡◌, [], Result, IsSome, None, Some, ℕ};
+ghost use Rattle.std.specs.Prelude.{◌≡◌, [], Option, Result, IsSome, None, Some, ℕ};
 ghost use Rattle.std.specs.Result.{result_map_both};
 ghost use Rattle.gx_blobs.specs.Naming.{NamesBlobs};
 ghost use Rattle.gx_blobs.specs.declared.blob_names.BlobsFault.{BlobsFault};
-ghost use Rattle.gx_cli.specs.Serving.{IsOutcome, IsRefused, Serves, ServesExported, features_of, without_room};
+ghost use Rattle.gx_model.specs.Texts.Sinks.{Taken};
+ghost use Rattle.gx_text.specs.Devices.{Coming};
+ghost use Rattle.gx_cli.specs.Serving.{IsOutcome, IsRefused, Serves, ServesChange, ServesExported, ServesStream, features_of, room_of_change, room_of_question, without_room};
 ghost use Rattle.gx_cli.specs.declared.fault.CliFault.TheVariants.{Blobs};
 
 use crate::adapt::{adapt_ended, adapt_stream};
-use crate::batch::batch_stored;
-use crate::import::import_text;
 use crate::next_text::init;
-use crate::stored::serve_stored;
+use crate::stored::{serve_change, serve_question};
 use crate::where_place::print_place;
 use crate::{CliFault, Line, blobs, check_stream, find_fault, try_revision};
+use gx_asks::{Change, Question, Trial};
 use gx_file::FileFault;
 use gx_import::Explanation;
 use gx_model::Features;
@@ -104,11 +105,34 @@ fn serve_alone<N: Namer + Drop, R: Source + Drop, W: Sink, A: Allocator + Copy>(
     ensures { Serves (N.name_of namer) line.now [] (R.coming source)
         (W.taken sink.old) (W.taken sink.new) result }
 {
+    match line {
+        Line::Stream(trial) => serve_stream(alloc, namer, trial, source, sink, state),
+        Line::Change {
+            file: _,
+            wait: _,
+            change,
+        } => change_alone(alloc, namer, change, state),
+        _ => refused(CliFault::ReadFailed),
+    }
+}
+
+/// Does what [`serve`] does with a stream that is tried.
+fn serve_stream<N: Namer + Drop, R: Source + Drop, W: Sink, A: Allocator + Copy>(
+    alloc: A,
+    namer: N,
+    trial: &Trial<'_>,
+    source: R,
+    sink: &mut W,
+    state: RandomState,
+) -> Outcome<A>
+    ensures { ServesStream (N.name_of namer) trial.now (R.coming source)
+        (W.taken sink.old) (W.taken sink.new) result }
+{
     let mut told = Explanation::none();
     let told = &mut told;
-    match line {
-        Line::Blobs => outcome_of(blobs_alone(alloc, namer, source, sink, state)),
-        Line::Try {
+    match trial {
+        Trial::Blobs => outcome_of(blobs_alone(alloc, namer, source, sink, state)),
+        Trial::Try {
             revision,
             done,
             force,
@@ -118,7 +142,7 @@ fn serve_alone<N: Namer + Drop, R: Source + Drop, W: Sink, A: Allocator + Copy>(
             let word = revision.as_bytes();
             outcome_of(try_revision(alloc, namer, word, source, sink, features, state, told))
         }
-        Line::Check {
+        Trial::Check {
             done,
             force,
             explain: _,
@@ -126,19 +150,30 @@ fn serve_alone<N: Namer + Drop, R: Source + Drop, W: Sink, A: Allocator + Copy>(
             let features = features_of(*done, *force);
             outcome_of(check_stream(alloc, namer, source, sink, features, state, told))
         }
-        Line::WhereFault { done, force } => {
+        Trial::WhereFault { done, force } => {
             let features = features_of(*done, *force);
             outcome_of(find_fault(alloc, namer, source, features, state, told))
         }
-        Line::Adapt { drop_signatures } => {
+        Trial::Adapt { drop_signatures } => {
             adapt_ended(adapt_stream(alloc, source, sink, *drop_signatures))
         }
-        Line::Where(command) => outcome_of(print_place(alloc, *command, source, sink)),
-        Line::Init {
-            file: _,
-            growing,
-            wait: _,
-        } => {
+        Trial::Where(command) => outcome_of(print_place(alloc, *command, source, sink)),
+    }
+}
+
+/// Does what [`serve`] does with a change that has no use for a store's text.
+fn change_alone<N: Namer + Drop, A: Allocator + Copy>(
+    alloc: A,
+    namer: N,
+    change: &Change<'_>,
+    state: RandomState,
+) -> Outcome<A>
+    requires { room_of_change change.now ≡ None }
+    ensures { (coming : Option Coming) (was : Option Taken)
+        → ServesChange (N.name_of namer) change.now [] coming was was result }
+{
+    match change {
+        Change::Init { growing } => {
             if *growing {
                 refused(CliFault::ReadFailed)
             } else {
@@ -165,26 +200,15 @@ fn serve_text<N: Namer + Drop, R: Source + Drop, W: Sink, A: Allocator + Copy>(
     ensures again { ServesExported (N.name_of namer) line.now store.items (R.coming source) result }
 {
     match line {
-        Line::Import {
-            file: _,
-            done,
-            force,
-            report: _,
-            explain: _,
-            wait: _,
-        } => {
-            let features = features_of(*done, *force);
-            import_text(alloc, namer, store, source, sink, features, state)
+        Line::Ask { file: _, question } => {
+            serve_question(alloc, namer, question, store, source, sink, state)
         }
-        Line::Batch {
-            form,
-            format,
-            nul,
+        Line::Change {
             file: _,
-        } => batch_stored(
-            alloc, namer, *form, *format, *nul, store, source, sink, state,
-        ),
-        _ => serve_stored(alloc, namer, line, store, source, sink, state),
+            wait: _,
+            change,
+        } => serve_change(alloc, namer, change, store, source, sink, state),
+        _ => unreachable!(),
     }
 }
 
@@ -216,24 +240,38 @@ fn without_room(line: &Line<'_>) -> Option<CliFault>
     ensures { result ≡ without_room line.now }
 {
     match line {
-        Line::Blobs
-        | Line::Try { .. }
-        | Line::Check { .. }
-        | Line::Adapt { .. }
-        | Line::Where(_)
-        | Line::WhereFault { .. }
-        | Line::Init { .. }
-        | Line::Grow { .. }
-        | Line::Verify { .. }
-        | Line::Push { .. }
-        | Line::Put { .. } => None,
-        Line::Batch { .. } => Some(CliFault::OutOfMemory),
+        Line::Ask { file: _, question } => Some(room_of_question(question)),
+        Line::Change {
+            file: _,
+            wait: _,
+            change,
+        } => room_of_change(change),
+        Line::Stream(_) | Line::Verify { .. } => None,
+    }
+}
+
+/// Why a question is refused where there is no memory for its store's text.
+fn room_of_question(question: &Question<'_>) -> CliFault
+    ensures { result ≡ room_of_question question.now }
+{
+    match question {
+        Question::Batch { .. } => CliFault::OutOfMemory,
+        _ => CliFault::Store(FileFault::OutOfMemory),
+    }
+}
+
+/// Why a change is refused where there is no memory for its store's text; none where it has no use for one.
+fn room_of_change(change: &Change<'_>) -> Option<CliFault>
+    ensures { result ≡ room_of_change change.now }
+{
+    match change {
+        Change::Init { .. } | Change::Grow | Change::Push { .. } | Change::Put { .. } => None,
         _ => Some(CliFault::Store(FileFault::OutOfMemory)),
     }
 }
 
-/// The features that a line asks for.
-fn features_of(done: bool, force: bool) -> Features
+/// The features that a command asks for.
+pub(crate) fn features_of(done: bool, force: bool) -> Features
     ensures { result ≡ features_of done force }
 {
     Features { done, force }

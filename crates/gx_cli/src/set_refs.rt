@@ -10,7 +10,7 @@ ghost use Rattle.gx_cli.specs.Setting.{IsSet, SetsFrom, SetsStored, change_line,
 use crate::CliFault;
 use crate::lines::lines_from;
 use crate::opening::open;
-use gx_line::RefChange;
+use gx_asks::RefChange;
 use gx_object::Namer;
 use gx_push::{RefFault, set_refs};
 use gx_repo::Repo;
@@ -57,7 +57,8 @@ pub fn set_told<N: Namer + Drop, R: Source + Drop, A: Allocator + Copy>(
     forced: bool,
 ) -> Result<Repo<N, A>, CliFault>
     ensures namer { IfOk result (λ left. left.0 ≡ repo.0) }
-    ensures set { SetsFrom (N.name_of repo.0) forced repo.1 change.entry (R.coming source) (shown_left result) }
+    ensures set { SetsFrom (N.name_of repo.0) forced repo.1 change.entry (R.coming source)
+        (shown_left result) }
 {
     match change {
         Some(change) => set_one(alloc, repo, change, forced),
@@ -76,7 +77,8 @@ fn set_one<N: Namer + Drop, A: Allocator + Copy>(
     forced: bool,
 ) -> Result<Repo<N, A>, CliFault>
     ensures namer { IfOk result (λ left. left.0 ≡ repo.0) }
-    ensures set { IsSet (N.name_of repo.0) repo.1 (changed_refs forced repo.1 change.entry) (shown_left result) }
+    ensures set { IsSet (N.name_of repo.0) repo.1 (changed_refs forced repo.1 change.entry)
+        (shown_left result) }
 {
     if is_divided(change) {
         return Err(CliFault::Ref {
@@ -97,7 +99,8 @@ fn set_lines<N: Namer + Drop, A: Allocator + Copy>(
     forced: bool,
 ) -> Result<Repo<N, A>, CliFault>
     ensures namer { IfOk result (λ left. left.0 ≡ repo.0) }
-    ensures set { IsSet (N.name_of repo.0) repo.1 (set_refs forced repo.1 (texts lines.now)) (shown_left result) }
+    ensures set { IsSet (N.name_of repo.0) repo.1 (set_refs forced repo.1 (texts lines.now))
+        (shown_left result) }
 {
     match set_refs(alloc, repo, lines, forced) {
         Ok(left) => Ok(left),

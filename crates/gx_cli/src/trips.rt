@@ -76,7 +76,8 @@ pub fn round_trip<N: Namer + Copy + Drop, A: Allocator + Copy, R: Source + Drop,
     ensures retold { R.coming source ≡ None → RetellsTrip (N.name_of namer) options.now.features
         repo.old.1 repo.new.1 (W.taken sink.old) (W.taken sink.new) result told.new }
     ensures again { IfOk result (λ trip. trip.again.0 ≡ namer) }
-    ensures back { RoundTrips (N.name_of namer) options.now.form options.now.features options.now.question
+    ensures back { RoundTrips (N.name_of namer) options.now.form options.now.features
+        options.now.question
         repo.old.1 repo.new.1 (R.coming source) (W.taken sink.old) (W.taken sink.new) result }
 {
     match import_explained(alloc, repo, source, sink, options.features, told) {

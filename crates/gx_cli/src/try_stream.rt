@@ -66,7 +66,8 @@ pub fn import_alone<N: Namer + Drop, A: Allocator + Copy, R: Source + Drop, W: S
     ensures explained { ExplainsAnswer (N.name_of namer) features empty_repository
         (R.coming source) result told.new }
     ensures retold { IfErr result (λ fault. R.coming source ≡ None
-        → RetellsRefused (N.name_of namer) features (W.taken sink.old) (W.taken sink.new) fault told.new) }
+        → RetellsRefused (N.name_of namer) features (W.taken sink.old)
+        (W.taken sink.new) fault told.new) }
     ensures namer { IfOk result (λ repo. repo.0 ≡ namer) }
     ensures replayed { ImportsAlone (N.name_of namer) features (R.coming source)
         (W.taken sink.old) (W.taken sink.new) result }

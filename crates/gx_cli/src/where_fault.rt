@@ -31,7 +31,8 @@ pub fn find_fault<N: Namer + Drop, A: Allocator + Copy, R: Source + Drop>(
 ) -> Result<(), CliFault>
     ensures explained { ExplainsCommand (N.name_of namer) features empty_repository
         (R.coming source) result told.new }
-    ensures retold { R.coming source ≡ None → RetellsFound (N.name_of namer) features result told.new }
+    ensures retold { R.coming source ≡ None
+        → RetellsFound (N.name_of namer) features result told.new }
     ensures found { FindsFault (N.name_of namer) features (R.coming source) result }
 {
     let mut progress = Growing::new(alloc);

@@ -73,7 +73,8 @@ impl<R: Source, A: Allocator + Copy> Ahead<R, A> {
         F: FnOnce(Item<'_>) -> Result<Option<T>, CommandFault>,
         requires { F.IsAlwaysCallable read }
         ensures takes { Takes (F.post read) (to_come self.old) (to_come self.new) result }
-        ensures explains { ExplainsTaken (F.post read) (MayBeAhead self.old) (MayBeAhead self.new) result }
+        ensures explains { ExplainsTaken (F.post read) (MayBeAhead self.old)
+            (MayBeAhead self.new) result }
         ensures falls { Falls (most self.old) (most self.new) result }
     {
         if let Some(held) = &self.held {
@@ -118,8 +119,10 @@ impl<R: Source, A: Allocator + Copy> Ahead<R, A> {
     where
         F: FnOnce(&[u8]) -> Result<T, CommandFault>,
         requires { F.IsAlwaysCallable read }
-        ensures takes { TakesLine word.now (F.post read) (to_come self.old) (to_come self.new) result }
-        ensures explains { ExplainsLine word.now (F.post read) (MayBeAhead self.old) (MayBeAhead self.new) result }
+        ensures takes { TakesLine word.now (F.post read) (to_come self.old)
+            (to_come self.new) result }
+        ensures explains { ExplainsLine word.now (F.post read) (MayBeAhead self.old)
+            (MayBeAhead self.new) result }
         ensures falls { Falls (most self.old) (most self.new) result }
     {
         self.hold_block()?;

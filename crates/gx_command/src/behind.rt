@@ -62,7 +62,8 @@ impl<R: Source, A: Allocator + Copy> Ahead<R, A> {
     /// Reads so many commands from the first on. Answers whether there are so many.
     fn pass_commands(&mut self, commands: u64) -> Result<bool, BehindFault>
         ensures passes { Passes commands (to_come self.old) (to_come self.new) result }
-        ensures explains { ExplainsPasses commands (MayBeAhead self.old) (MayBeAhead self.new) result }
+        ensures explains { ExplainsPasses commands (MayBeAhead self.old)
+            (MayBeAhead self.new) result }
         ensures falls { OnOk result (most self.new ≤ most self.old) }
     {
         let mut state = State::at_start(Features::none());

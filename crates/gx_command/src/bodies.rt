@@ -57,8 +57,10 @@ impl<R: Source, A: Allocator + Copy> Ahead<R, A> {
     }
 
     pub(crate) fn commit(&mut self, branch: RefName<A>) -> Result<Commit<A>, CommandFault>
-        ensures reads { ReadsOn shown_commit (commit_at branch.bytes.items) self.old self.new result }
-        ensures explains { ExplainsOn shown_commit (commit_at branch.bytes.items) self.old self.new result }
+        ensures reads { ReadsOn shown_commit (commit_at branch.bytes.items)
+            self.old self.new result }
+        ensures explains { ExplainsOn shown_commit (commit_at branch.bytes.items)
+            self.old self.new result }
         ensures falls { FallsNot (most self.old) (most self.new) result }
     {
         let mark = self.mark()?;
@@ -133,7 +135,8 @@ impl<R: Source, A: Allocator + Copy> Ahead<R, A> {
 
     pub(crate) fn reset(&mut self, branch: RefName<A>) -> Result<Reset<A>, CommandFault>
         ensures reads { ReadsOn shown_reset (reset_at branch.bytes.items) self.old self.new result }
-        ensures explains { ExplainsOn shown_reset (reset_at branch.bytes.items) self.old self.new result }
+        ensures explains { ExplainsOn shown_reset (reset_at branch.bytes.items)
+            self.old self.new result }
         ensures falls { FallsNot (most self.old) (most self.new) result }
     {
         let from = self.commit_ish(b"from")?;
@@ -143,15 +146,18 @@ impl<R: Source, A: Allocator + Copy> Ahead<R, A> {
 
     fn mark(&mut self) -> Result<Option<u64>, CommandFault>
         ensures reads { ReadsPlain (optional (codes "mark") mark_of) self.old self.new result }
-        ensures explains { ExplainsOn (λ x. x) (optional (codes "mark") mark_of) self.old self.new result }
+        ensures explains { ExplainsOn (λ x. x) (optional (codes "mark") mark_of)
+            self.old self.new result }
         ensures falls { FallsNot (most self.old) (most self.new) result }
     {
         self.optional(b"mark", read_mark)
     }
 
     fn skip_oid(&mut self) -> Result<Option<()>, CommandFault>
-        ensures reads { ReadsPlain (optional (codes "original-oid") any_text) self.old self.new result }
-        ensures explains { ExplainsOn (λ x. x) (optional (codes "original-oid") any_text) self.old self.new result }
+        ensures reads { ReadsPlain (optional (codes "original-oid") any_text)
+            self.old self.new result }
+        ensures explains { ExplainsOn (λ x. x) (optional (codes "original-oid") any_text)
+            self.old self.new result }
         ensures falls { FallsNot (most self.old) (most self.new) result }
     {
         self.optional(b"original-oid", |_text| Ok(()))
@@ -159,7 +165,8 @@ impl<R: Source, A: Allocator + Copy> Ahead<R, A> {
 
     fn ident(&mut self, word: &[u8]) -> Result<Option<Identity<A>>, CommandFault>
         ensures reads { ReadsLine shown_ident word.now ident_of self.old self.new result }
-        ensures explains { ExplainsOn (option_map shown_ident) (optional word.now ident_of) self.old self.new result }
+        ensures explains { ExplainsOn (option_map shown_ident) (optional word.now ident_of)
+            self.old self.new result }
         ensures falls { FallsNot (most self.old) (most self.new) result }
     {
         let alloc = self.alloc;
@@ -168,15 +175,18 @@ impl<R: Source, A: Allocator + Copy> Ahead<R, A> {
 
     fn needed_ident(&mut self, word: &[u8]) -> Result<Identity<A>, CommandFault>
         ensures reads { ReadsOn shown_ident (needed word.now ident_of) self.old self.new result }
-        ensures explains { ExplainsOn shown_ident (needed word.now ident_of) self.old self.new result }
+        ensures explains { ExplainsOn shown_ident (needed word.now ident_of)
+            self.old self.new result }
         ensures falls { FallsNot (most self.old) (most self.new) result }
     {
         self.ident(word)?.ok_or(CommandFault::BadLine)
     }
 
     fn encoding(&mut self) -> Result<Option<Encoding<A>>, CommandFault>
-        ensures reads { ReadsLine shown_encoding (codes "encoding") encoding_of self.old self.new result }
-        ensures explains { ExplainsOn (option_map shown_encoding) (optional (codes "encoding") encoding_of) self.old self.new result }
+        ensures reads { ReadsLine shown_encoding (codes "encoding") encoding_of
+            self.old self.new result }
+        ensures explains { ExplainsOn (option_map shown_encoding)
+            (optional (codes "encoding") encoding_of) self.old self.new result }
         ensures falls { FallsNot (most self.old) (most self.new) result }
     {
         let alloc = self.alloc;
@@ -185,7 +195,8 @@ impl<R: Source, A: Allocator + Copy> Ahead<R, A> {
 
     fn commit_ish(&mut self, word: &[u8]) -> Result<Option<CommitIsh<A>>, CommandFault>
         ensures reads { ReadsLine shown_commit_ish word.now commit_ish_of self.old self.new result }
-        ensures explains { ExplainsOn (option_map shown_commit_ish) (optional word.now commit_ish_of) self.old self.new result }
+        ensures explains { ExplainsOn (option_map shown_commit_ish)
+            (optional word.now commit_ish_of) self.old self.new result }
         ensures falls { Falls (most self.old) (most self.new) result }
     {
         let alloc = self.alloc;
@@ -193,8 +204,10 @@ impl<R: Source, A: Allocator + Copy> Ahead<R, A> {
     }
 
     fn needed_commit_ish(&mut self, word: &[u8]) -> Result<CommitIsh<A>, CommandFault>
-        ensures reads { ReadsOn shown_commit_ish (needed word.now commit_ish_of) self.old self.new result }
-        ensures explains { ExplainsOn shown_commit_ish (needed word.now commit_ish_of) self.old self.new result }
+        ensures reads { ReadsOn shown_commit_ish (needed word.now commit_ish_of)
+            self.old self.new result }
+        ensures explains { ExplainsOn shown_commit_ish (needed word.now commit_ish_of)
+            self.old self.new result }
         ensures falls { FallsNot (most self.old) (most self.new) result }
     {
         self.commit_ish(word)?.ok_or(CommandFault::BadLine)
@@ -203,8 +216,10 @@ impl<R: Source, A: Allocator + Copy> Ahead<R, A> {
     /// The commits that are merged, of all the lines that name one.
     #[tactic(auto, unfolding(crate::specs::Explaining::Explains))]
     fn merges(&mut self) -> Result<Vec<CommitIsh<A>, A>, CommandFault>
-        ensures reads { ReadsOn (λ v. map shown_commit_ish v.items) merges self.old self.new result }
-        ensures explains { ExplainsOn (λ v. map shown_commit_ish v.items) merges self.old self.new result }
+        ensures reads { ReadsOn (λ v. map shown_commit_ish v.items) merges
+            self.old self.new result }
+        ensures explains { ExplainsOn (λ v. map shown_commit_ish v.items) merges
+            self.old self.new result }
         ensures falls { FallsNot (most self.old) (most self.new) result }
     {
         let mut merges = Vec::new(self.alloc);
@@ -217,7 +232,8 @@ impl<R: Source, A: Allocator + Copy> Ahead<R, A> {
     #[tactic(auto, unfolding(crate::specs::Explaining::Explains))]
     fn changes(&mut self) -> Result<Vec<Change<A>, A>, CommandFault>
         ensures reads { ReadsOn (λ v. map shown_change v.items) changes self.old self.new result }
-        ensures explains { ExplainsOn (λ v. map shown_change v.items) changes self.old self.new result }
+        ensures explains { ExplainsOn (λ v. map shown_change v.items) changes
+            self.old self.new result }
         ensures falls { FallsNot (most self.old) (most self.new) result }
     {
         let mut changes = Vec::new(self.alloc);
@@ -231,7 +247,8 @@ impl<R: Source, A: Allocator + Copy> Ahead<R, A> {
     #[tactic(auto, unfolding(crate::specs::Explaining::Explains))]
     fn change(&mut self) -> Result<Option<Change<A>>, CommandFault>
         ensures reads { ReadsOn (option_map shown_change) next_change self.old self.new result }
-        ensures explains { ExplainsOn (option_map shown_change) next_change self.old self.new result }
+        ensures explains { ExplainsOn (option_map shown_change) next_change
+            self.old self.new result }
         ensures falls { Falls (most self.old) (most self.new) result }
     {
         match self.change_line()? {
@@ -245,7 +262,8 @@ impl<R: Source, A: Allocator + Copy> Ahead<R, A> {
     #[tactic(auto, unfolding(crate::specs::Explaining::Explains))]
     fn modify(&mut self, line: ModifyLine<A>) -> Result<Modify<A>, CommandFault>
         ensures reads { ReadsOn shown_modify (completed_modify line) self.old self.new result }
-        ensures explains { ExplainsOn shown_modify (completed_modify line) self.old self.new result }
+        ensures explains { ExplainsOn shown_modify (completed_modify line)
+            self.old self.new result }
         ensures falls { FallsNot (most self.old) (most self.new) result }
     {
         let ModifyLine { mode, place, path } = line;
@@ -259,8 +277,10 @@ impl<R: Source, A: Allocator + Copy> Ahead<R, A> {
 
     #[tactic(auto, unfolding(crate::specs::Explaining::Explains))]
     fn data_ref(&mut self, place: Place) -> Result<DataRef<A>, CommandFault>
-        ensures reads { ReadsOn shown_data (bytes_from (shown_where place)) self.old self.new result }
-        ensures explains { ExplainsOn shown_data (bytes_from (shown_where place)) self.old self.new result }
+        ensures reads { ReadsOn shown_data (bytes_from (shown_where place))
+            self.old self.new result }
+        ensures explains { ExplainsOn shown_data (bytes_from (shown_where place))
+            self.old self.new result }
         ensures suits { IfOk result (IsSuitedAs place) }
         ensures falls { FallsNot (most self.old) (most self.new) result }
     {
@@ -273,7 +293,8 @@ impl<R: Source, A: Allocator + Copy> Ahead<R, A> {
 
     fn change_line(&mut self) -> Result<Option<ChangeLine<A>>, CommandFault>
         ensures takes { TakesChange (to_come self.old) (to_come self.new) result }
-        ensures explains { ExplainsFrom begun_change next_change (MayBeAhead self.old) (MayBeAhead self.new) result }
+        ensures explains { ExplainsFrom begun_change next_change (MayBeAhead self.old)
+            (MayBeAhead self.new) result }
         ensures falls { Falls (most self.old) (most self.new) result }
     {
         let alloc = self.alloc;

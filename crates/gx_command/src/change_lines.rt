@@ -136,7 +136,8 @@ fn check_suits(mode: Mode, place: Place) -> Result<(), CommandFault>
 #[tactic(auto, unfolding(gx_model::specs::Streams::Lines::last_path))]
 fn read_last_path<A: Allocator + Copy>(alloc: A, text: &[u8]) -> Result<TreePath<A>, CommandFault>
     ensures path { Gives fault_of (λ path. path) result (last_path text.now) }
-    ensures memory { is_quoted text.now ≡ false → IsErrOf result OutOfMemory → IsOk (last_path text.now) }
+    ensures memory { is_quoted text.now ≡ false → IsErrOf result OutOfMemory
+        → IsOk (last_path text.now) }
 {
     if !is_quoted(text) {
         return Ok(TreePath::read(alloc, text)?);

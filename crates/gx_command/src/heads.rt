@@ -45,8 +45,10 @@ pub(crate) enum Start<A: Allocator> {
 impl<R: Source, A: Allocator + Copy> Ahead<R, A> {
     /// The next command, or `None` at the end of the items. Only options came before it, or `is_early` is false.
     pub(crate) fn command(&mut self, is_early: bool) -> Result<Option<Command<A>>, CommandFault>
-        ensures reads { ReadsOn (option_map shown_command) (first is_early) self.old self.new result }
-        ensures explains { ExplainsOn (option_map shown_command) (first is_early) self.old self.new result }
+        ensures reads { ReadsOn (option_map shown_command) (first is_early)
+            self.old self.new result }
+        ensures explains { ExplainsOn (option_map shown_command) (first is_early)
+            self.old self.new result }
         ensures falls { Falls (most self.old) (most self.new) result }
     {
         match self.head(is_early)? {
@@ -74,7 +76,8 @@ impl<R: Source, A: Allocator + Copy> Ahead<R, A> {
     /// The head of the next command, past empty lines.
     fn head(&mut self, is_early: bool) -> Result<Option<Head<A>>, CommandFault>
         ensures takes { TakesHead is_early (to_come self.old) (to_come self.new) result }
-        ensures explains { ExplainsFrom begun_there (first is_early) (MayBeAhead self.old) (MayBeAhead self.new) result }
+        ensures explains { ExplainsFrom begun_there (first is_early) (MayBeAhead self.old)
+            (MayBeAhead self.new) result }
         ensures falls { Falls (most self.old) (most self.new) result }
     {
         loop {
@@ -88,7 +91,8 @@ impl<R: Source, A: Allocator + Copy> Ahead<R, A> {
 
     fn start(&mut self, is_early: bool) -> Result<Option<Start<A>>, CommandFault>
         ensures takes { TakesStart is_early (to_come self.old) (to_come self.new) result }
-        ensures explains { ExplainsFrom (started is_early) (first is_early) (MayBeAhead self.old) (MayBeAhead self.new) result }
+        ensures explains { ExplainsFrom (started is_early) (first is_early) (MayBeAhead self.old)
+            (MayBeAhead self.new) result }
         ensures falls { Falls (most self.old) (most self.new) result }
     {
         let alloc = self.alloc;
@@ -121,7 +125,8 @@ fn read_head<A: Allocator + Copy>(
     is_early: bool,
     words: Words<'_>,
 ) -> Result<Head<A>, CommandFault>
-    ensures begins { (s : Stream) → Begins s result (command_at is_early (shown_words words.entry) s) }
+    ensures begins { (s : Stream)
+        → Begins s result (command_at is_early (shown_words words.entry) s) }
     ensures memory { IsErrOf result OutOfMemory → BeginsCommand is_early (shown_words words.entry) }
 {
     if words.is(b"blob") {
@@ -144,7 +149,8 @@ fn read_whole<A: Allocator + Copy>(
     words: Words<'_>,
 ) -> Result<Command<A>, CommandFault>
     requires { MayBeWhole (shown_words words) }
-    ensures begins { (s : Stream) → BeginsWhole s result (command_at is_early (shown_words words.entry) s) }
+    ensures begins { (s : Stream)
+        → BeginsWhole s result (command_at is_early (shown_words words.entry) s) }
     ensures memory { IsErrOf result OutOfMemory → BeginsCommand is_early (shown_words words.entry) }
 {
     if words.is(b"checkpoint") {
@@ -180,8 +186,10 @@ fn read_option<A: Allocator + Copy>(
     is_early: bool,
     words: Words<'_>,
 ) -> Result<Command<A>, CommandFault>
-    ensures reads { Gives fault_of shown_command result (option_of is_early (shown_words words.entry)) }
-    ensures memory { IsErrOf result OutOfMemory → IsOk (option_of is_early (shown_words words.entry)) }
+    ensures reads { Gives fault_of shown_command result
+        (option_of is_early (shown_words words.entry)) }
+    ensures memory { IsErrOf result OutOfMemory
+        → IsOk (option_of is_early (shown_words words.entry)) }
 {
     let text = early_rest(is_early, words)?;
     Ok(Command::OptionLine(Vec::from_slice(alloc, text)?))
@@ -189,7 +197,8 @@ fn read_option<A: Allocator + Copy>(
 
 /// The rest of an option, which stands before every other command.
 fn early_rest<'a>(is_early: bool, words: Words<'a>) -> Result<&'a [u8], CommandFault>
-    ensures rest { Gives fault_of lent_bytes result (early_rest is_early (shown_words words.entry)) }
+    ensures rest { Gives fault_of lent_bytes result
+        (early_rest is_early (shown_words words.entry)) }
     ensures memory { NeedsNoMemory CommandFault.OutOfMemory result }
 {
     let rest = words.rest()?;
@@ -208,7 +217,8 @@ fn is_left_out(words: Words<'_>) -> bool
 }
 
 fn read_feature(is_early: bool, words: Words<'_>) -> Result<Feature, CommandFault>
-    ensures reads { Gives fault_of (λ f. f) result (early_feature is_early (shown_words words.entry)) }
+    ensures reads { Gives fault_of (λ f. f) result
+        (early_feature is_early (shown_words words.entry)) }
     ensures memory { NeedsNoMemory CommandFault.OutOfMemory result }
 {
     let text = early_rest(is_early, words)?;

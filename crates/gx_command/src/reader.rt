@@ -49,7 +49,8 @@ impl<R: Source, A: Allocator> Model for CommandReader<R, A> {
 
     ghost Value = { Seen };
 
-    ghost view = { λ r. seen_commands r.state (to_come r.ahead) (most r.ahead) (option_map shown_held_item r.ahead.held) r.ahead.items };
+    ghost view = { λ r. seen_commands r.state (to_come r.ahead) (most r.ahead)
+        (option_map shown_held_item r.ahead.held) r.ahead.items };
 }
 
 impl<R: Source, A: Allocator + Copy> CommandReader<R, A> {
@@ -58,7 +59,8 @@ impl<R: Source, A: Allocator + Copy> CommandReader<R, A> {
         ensures commands { result.commands ≡ option_map commands_from (R.coming source) }
         ensures most { result.most ≡ 2 ^ 63 - 1 }
         ensures over { result.over ≡ None }
-        ensures explains { (commands : Commands) → MayCome result commands → AreOfItems no_features commands }
+        ensures explains { (commands : Commands) → MayCome result commands
+            → AreOfItems no_features commands }
     {
         CommandReader::asking(alloc, source, Features::none())
     }
@@ -67,10 +69,12 @@ impl<R: Source, A: Allocator + Copy> CommandReader<R, A> {
     /// come first are early, and no command is added. Takes no memory and constant time, and nothing is pulled yet.
     /// Source: git-fast-import(1), "--done".
     pub fn asking(alloc: A, source: R, features: Features) -> CommandReader<R, A>
-        ensures commands { result.commands ≡ option_map (commands_asked_from features) (R.coming source) }
+        ensures commands { result.commands
+            ≡ option_map (commands_asked_from features) (R.coming source) }
         ensures most { result.most ≡ 2 ^ 63 - 1 }
         ensures over { result.over ≡ None }
-        ensures explains { (commands : Commands) → MayCome result commands → AreOfItems features commands }
+        ensures explains { (commands : Commands) → MayCome result commands
+            → AreOfItems features commands }
     {
         CommandReader {
             ahead: Ahead::new(alloc, source),
@@ -125,8 +129,10 @@ pub(crate) fn next_command<R: Source, A: Allocator + Copy>(
     ahead: &mut Ahead<R, A>,
     options: Options,
 ) -> Result<Option<Command<A>>, CommandFault>
-    ensures reads { ReadsOn (option_map shown_command) (next_after options) ahead.old ahead.new result }
-    ensures explains { ExplainsOn (option_map shown_command) (next_after options) ahead.old ahead.new result }
+    ensures reads { ReadsOn (option_map shown_command) (next_after options)
+        ahead.old ahead.new result }
+    ensures explains { ExplainsOn (option_map shown_command) (next_after options)
+        ahead.old ahead.new result }
     ensures falls { FallsAhead (most ahead.old) (most ahead.new) result }
 {
     match ahead.command(options.are_all)? {

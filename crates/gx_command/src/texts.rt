@@ -60,7 +60,8 @@ impl<A: Allocator + Copy> RefName<A> {
 
     /// The ref that a line with these words names.
     pub(crate) fn read(alloc: A, words: Words<'_>) -> Result<RefName<A>, CommandFault>
-        ensures name { Gives fault_of (λ it. it.bytes.items) result (ref_named (shown_words words.entry)) }
+        ensures name { Gives fault_of (λ it. it.bytes.items) result
+            (ref_named (shown_words words.entry)) }
         ensures memory { IsErrOf result OutOfMemory → IsOk (ref_named (shown_words words.entry)) }
     {
         let text = words.rest()?;
@@ -77,7 +78,8 @@ impl<A: Allocator + Copy> TagName<A> {
 
     /// The name of a tag that a line with these words names.
     pub(crate) fn read(alloc: A, words: Words<'_>) -> Result<TagName<A>, CommandFault>
-        ensures name { Gives fault_of (λ name. name.bytes.items) result (name_at (shown_words words.entry)) }
+        ensures name { Gives fault_of (λ name. name.bytes.items) result
+            (name_at (shown_words words.entry)) }
         ensures memory { IsErrOf result OutOfMemory → IsOk (name_at (shown_words words.entry)) }
     {
         let text = words.rest()?;
@@ -99,7 +101,8 @@ fn is_tag_name(text: &[u8]) -> bool
 
 impl<A: Allocator + Copy> Identity<A> {
     pub(crate) fn read(alloc: A, text: &[u8]) -> Result<Identity<A>, CommandFault>
-        ensures ident { Gives fault_of (λ identity. identity.bytes.items) result (ident_of text.now) }
+        ensures ident { Gives fault_of (λ identity. identity.bytes.items) result
+            (ident_of text.now) }
         ensures memory { IsErrOf result OutOfMemory → IsOk (ident_of text.now) }
     {
         let ident = Ident::read(text)?;
@@ -110,7 +113,8 @@ impl<A: Allocator + Copy> Identity<A> {
 
 impl<A: Allocator + Copy> Encoding<A> {
     pub(crate) fn read(alloc: A, text: &[u8]) -> Result<Encoding<A>, CommandFault>
-        ensures encoding { Gives fault_of (λ encoding. encoding.name.items) result (encoding_of text.now) }
+        ensures encoding { Gives fault_of (λ encoding. encoding.name.items) result
+            (encoding_of text.now) }
         ensures memory { IsErrOf result OutOfMemory → IsOk (encoding_of text.now) }
     {
         if !is_encoding(text) {

@@ -4,6 +4,7 @@ use crate::growths::refused_growths;
 use crate::limits::stops_everywhere;
 use crate::steps::{Step, words_of};
 use crate::texts::text;
+use gx_asks::{Change, Question};
 use gx_cli::{CliFault, Line, Outcome, read_line, serve, serve_owned};
 use gx_object::Sha1Namer;
 use gx_text::{Bytes, Held, Sink, Source};
@@ -33,9 +34,11 @@ pub(crate) fn tried(
     state: RandomState,
 ) -> bool {
     if step.words == NO_REVISION {
-        let line = Line::RevParse {
+        let line = Line::Ask {
             file: "store",
-            revisions: Vec::new(alloc),
+            question: Question::Names {
+                revisions: Vec::new(alloc),
+            },
         };
         return line_tried(alloc, &line, step, store, task, state);
     }
@@ -122,13 +125,15 @@ pub(crate) fn stored(alloc: Global, stream: &[u8], state: RandomState) -> Option
     let Ok(mut sink) = Held::new(alloc, 64) else {
         return None;
     };
-    let line = Line::Import {
+    let line = Line::Change {
         file: "store",
-        done: false,
-        force: false,
-        report: false,
-        explain: false,
         wait: None,
+        change: Change::Import {
+            done: false,
+            force: false,
+            report: false,
+            explain: false,
+        },
     };
     let source = Bytes::new(stream, 4096, false);
     ran(alloc, &line, text("empty"), source, &mut sink, state).store

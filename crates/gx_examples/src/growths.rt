@@ -3,6 +3,7 @@
 use crate::commands::ran_on;
 use crate::steps::Step;
 use gx_adapt::AdaptFault;
+use gx_asks::{Question, Trial};
 use gx_cli::{BlobsKind, CliFault, Line};
 use gx_devices::Refusing;
 use gx_export::ExportFault;
@@ -72,7 +73,7 @@ fn is_refused_at<'a, B: Allocator>(
 /// The status of a command that isn't refused: that of `adapt` tells of the file of marks that the rough lines ask for.
 fn status_of(line: &Line<'_>, step: &Step<'_>) -> u8 {
     let asks_for_marks = step.input.starts_with(b"feature export-marks=");
-    if asks_for_marks && matches!(line, Line::Adapt { .. }) {
+    if asks_for_marks && matches!(line, Line::Stream(Trial::Adapt { .. })) {
         3
     } else {
         0
@@ -81,26 +82,21 @@ fn status_of(line: &Line<'_>, step: &Step<'_>) -> u8 {
 
 /// Whether memory ran out, as this command says it.
 fn is_memory(line: &Line<'_>, fault: CliFault) -> bool {
-    let is_export = matches!(line, Line::Export { form: _, file: _ });
-    let is_refs = matches!(line, Line::Refs { file: _ });
-    let has_store = !matches!(
+    let is_export = matches!(
         line,
-        Line::Blobs
-            | Line::Try {
-                revision: _,
-                done: _,
-                force: _,
-                explain: _
-            }
-            | Line::Check {
-                done: _,
-                force: _,
-                explain: _
-            }
-            | Line::Adapt { drop_signatures: _ }
-            | Line::Where(_)
-            | Line::WhereFault { done: _, force: _ }
+        Line::Ask {
+            question: Question::Export(_),
+            ..
+        }
     );
+    let is_refs = matches!(
+        line,
+        Line::Ask {
+            question: Question::Refs,
+            ..
+        }
+    );
+    let has_store = !matches!(line, Line::Stream(_));
     match fault {
         CliFault::OutOfMemory => !is_export && !is_refs,
         CliFault::Import(fault) => !is_export && fault.kind == ImportKind::OutOfMemory,
@@ -117,21 +113,13 @@ fn is_memory(line: &Line<'_>, fault: CliFault) -> bool {
 /// batch, and nothing for others.
 fn is_left(line: &Line<'_>, printed: &[u8], whole: &[u8]) -> bool {
     match line {
-        Line::Blobs
-        | Line::Try {
-            revision: _,
-            done: _,
-            force: _,
-            explain: _,
-        }
-        | Line::Check {
-            done: _,
-            force: _,
-            explain: _,
-        }
-        | Line::Adapt { drop_signatures: _ } => whole.starts_with(printed),
-        Line::Export { form: _, file: _ } => whole.starts_with(printed),
-        Line::Batch { .. } => whole.starts_with(printed),
+        Line::Stream(
+            Trial::Blobs | Trial::Try { .. } | Trial::Check { .. } | Trial::Adapt { .. },
+        ) => whole.starts_with(printed),
+        Line::Ask {
+            question: Question::Export(_) | Question::Batch { .. },
+            ..
+        } => whole.starts_with(printed),
         _ => printed.is_empty(),
     }
 }

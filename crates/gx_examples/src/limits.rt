@@ -3,6 +3,7 @@
 use crate::commands::{Task, ran, stored, tried};
 use crate::steps::{Step, step_of};
 use gx_adapt::AdaptFault;
+use gx_asks::{Question, Trial};
 use gx_cli::{BlobsFault, BlobsKind, CliFault, Line};
 use gx_export::ExportFault;
 use gx_import::{ImportFault, ImportKind};
@@ -134,28 +135,22 @@ fn stops_at(
 /// Why a command that prints this is refused whose sink has room for so many bytes: a try's import may be in its progress.
 fn refusal_at(line: &Line<'_>, printed: &[u8], room: usize) -> CliFault {
     match line {
-        Line::Export { form: _, file: _ } => CliFault::Export(ExportFault::WriteFailed {
+        Line::Ask {
+            question: Question::Export(_),
+            ..
+        } => CliFault::Export(ExportFault::WriteFailed {
             written: room as u64,
         }),
-        Line::Adapt { drop_signatures: _ } => CliFault::Adapt(AdaptFault::WriteFailed),
-        Line::Try {
-            revision: _,
-            done: _,
-            force: _,
-            explain: _,
-        }
-        | Line::Check {
-            done: _,
-            force: _,
-            explain: _,
-        } if room < 11 && printed.starts_with(b"progress x\n") => {
+        Line::Stream(Trial::Adapt { .. }) => CliFault::Adapt(AdaptFault::WriteFailed),
+        Line::Stream(Trial::Try { .. } | Trial::Check { .. })
+            if room < 11 && printed.starts_with(b"progress x\n") => {
             CliFault::Import(ImportFault {
                 command: 1,
                 kind: ImportKind::WriteFailed,
                 checkpoints: 0,
             })
         }
-        Line::Blobs => CliFault::Blobs(BlobsFault {
+        Line::Stream(Trial::Blobs) => CliFault::Blobs(BlobsFault {
             command: (room as u64 / 41).saturating_add(1),
             kind: BlobsKind::WriteFailed,
         }),

@@ -7,95 +7,95 @@ use std::alloc::Global;
 
 /// Words with bars between them, and the line that they give, as it prints for debugging.
 const LINES: &str = "
-$ blobs % Blobs
-$ try|main % Try { revision: \"main\", done: false, force: false, explain: false }
-$ try|--done|--|-x % Try { revision: \"-x\", done: true, force: false, explain: false }
-$ try|--explain|x % Try { revision: \"x\", done: false, force: false, explain: true }
-$ check % Check { done: false, force: false, explain: false }
-$ check|--done % Check { done: true, force: false, explain: false }
-$ check|--explain|--force % Check { done: false, force: true, explain: true }
-$ adapt % Adapt { drop_signatures: false }
-$ adapt|--drop-signatures % Adapt { drop_signatures: true }
-$ where|7 % Where(7)
-$ where|18446744073709551615 % Where(18446744073709551615)
-$ where|--fault % WhereFault { done: false, force: false }
-$ where|--done|--fault % WhereFault { done: true, force: false }
-$ where|--fault|--force|--done % WhereFault { done: true, force: true }
-$ init|f % Init { file: \"f\", growing: false, wait: None }
-$ init|--growing|f % Init { file: \"f\", growing: true, wait: None }
-$ grow|f|--wait=2 % Grow { file: \"f\", wait: Some(2) }
+$ blobs % Stream(Blobs)
+$ try|main % Stream(Try { revision: \"main\", done: false, force: false, explain: false })
+$ try|--done|--|-x % Stream(Try { revision: \"-x\", done: true, force: false, explain: false })
+$ try|--explain|x % Stream(Try { revision: \"x\", done: false, force: false, explain: true })
+$ check % Stream(Check { done: false, force: false, explain: false })
+$ check|--done % Stream(Check { done: true, force: false, explain: false })
+$ check|--explain|--force % Stream(Check { done: false, force: true, explain: true })
+$ adapt % Stream(Adapt { drop_signatures: false })
+$ adapt|--drop-signatures % Stream(Adapt { drop_signatures: true })
+$ where|7 % Stream(Where(7))
+$ where|18446744073709551615 % Stream(Where(18446744073709551615))
+$ where|--fault % Stream(WhereFault { done: false, force: false })
+$ where|--done|--fault % Stream(WhereFault { done: true, force: false })
+$ where|--fault|--force|--done % Stream(WhereFault { done: true, force: true })
+$ init|f % Change { file: \"f\", wait: None, change: Init { growing: false } }
+$ init|--growing|f % Change { file: \"f\", wait: None, change: Init { growing: true } }
+$ grow|f|--wait=2 % Change { file: \"f\", wait: Some(2), change: Grow }
 $ verify|f % Verify { file: \"f\", salvage: None }
-$ import|f % Import { file: \"f\", done: false, force: false, report: false, explain: false, wait: None }
-$ import|--force|f|--done % Import { file: \"f\", done: true, force: true, report: false, explain: false, wait: None }
-$ import|f|--report % Import { file: \"f\", done: false, force: false, report: true, explain: false, wait: None }
-$ import|f|--explain % Import { file: \"f\", done: false, force: false, report: false, explain: true, wait: None }
-$ import|--wait|3|f % Import { file: \"f\", done: false, force: false, report: false, explain: false, wait: Some(3) }
-$ import|--push=p|f|--done % Push { file: \"f\", push: \"p\", done: true, report: false, explain: false, wait: None }
-$ put|f|--expect-stamp=new % Put { file: \"f\", stamp: \"new\", wait: None }
-$ drop|f|refs/heads/a|b % Drop { file: \"f\", refs: [\"refs/heads/a\", \"b\"], stdin: false, wait: None }
-$ drop|f|--stdin % Drop { file: \"f\", refs: [], stdin: true, wait: None }
-$ drop|--stdin|f|a % Drop { file: \"f\", refs: [\"a\"], stdin: true, wait: None }
-$ gc|f % Gc { file: \"f\", report: false, keep: None, wait: None }
-$ gc|--report|f % Gc { file: \"f\", report: true, keep: None, wait: None }
-$ gc|--keep|k|f|--wait=0 % Gc { file: \"f\", report: false, keep: Some(\"k\"), wait: Some(0) }
-$ export|f % Export { form: FullTree, file: \"f\" }
-$ export|--changes|f % Export { form: Changes { done: true }, file: \"f\" }
-$ export|f|--no-done|--changes % Export { form: Changes { done: false }, file: \"f\" }
-$ export|--changes|f|a..b % ExportRange { done: true, file: \"f\", ranges: [\"a..b\"] }
-$ export|f|^a|--no-done|b|--changes % ExportRange { done: false, file: \"f\", ranges: [\"^a\", \"b\"] }
-$ export|--changes|--|f|-x|--no-done % ExportRange { done: true, file: \"f\", ranges: [\"-x\", \"--no-done\"] }
-$ show|f|main:a b % Show { file: \"f\", revision: \"main:a b\" }
-$ show|-|x % Show { file: \"-\", revision: \"x\" }
-$ ls|f|x % Ls { recursive: false, file: \"f\", revision: \"x\" }
-$ ls|-r|f|x % Ls { recursive: true, file: \"f\", revision: \"x\" }
-$ ls|f|x|--recursive % Ls { recursive: true, file: \"f\", revision: \"x\" }
-$ archive|f|x % Archive { prefix: \"\", file: \"f\", revision: \"x\" }
-$ archive|--prefix=p/|f|x % Archive { prefix: \"p/\", file: \"f\", revision: \"x\" }
-$ archive|f|x|--prefix|p % Archive { prefix: \"p\", file: \"f\", revision: \"x\" }
-$ batch|f % Batch { form: Bytes, format: None, nul: false, file: \"f\" }
-$ batch|--check|f % Batch { form: Check, format: None, nul: false, file: \"f\" }
-$ batch|f|--command|-z % Batch { form: Commands, format: None, nul: true, file: \"f\" }
-$ batch|--check|--format=a b|f % Batch { form: Check, format: Some(\"a b\"), nul: false, file: \"f\" }
-$ batch|-z|--format||f % Batch { form: Bytes, format: Some(\"\"), nul: true, file: \"f\" }
-$ refs|f % Refs { file: \"f\" }
+$ import|f % Change { file: \"f\", wait: None, change: Import { done: false, force: false, report: false, explain: false } }
+$ import|--force|f|--done % Change { file: \"f\", wait: None, change: Import { done: true, force: true, report: false, explain: false } }
+$ import|f|--report % Change { file: \"f\", wait: None, change: Import { done: false, force: false, report: true, explain: false } }
+$ import|f|--explain % Change { file: \"f\", wait: None, change: Import { done: false, force: false, report: false, explain: true } }
+$ import|--wait|3|f % Change { file: \"f\", wait: Some(3), change: Import { done: false, force: false, report: false, explain: false } }
+$ import|--push=p|f|--done % Change { file: \"f\", wait: None, change: Push { push: \"p\", done: true, report: false, explain: false } }
+$ put|f|--expect-stamp=new % Change { file: \"f\", wait: None, change: Put { stamp: \"new\" } }
+$ drop|f|refs/heads/a|b % Change { file: \"f\", wait: None, change: Drop { refs: [\"refs/heads/a\", \"b\"], stdin: false } }
+$ drop|f|--stdin % Change { file: \"f\", wait: None, change: Drop { refs: [], stdin: true } }
+$ drop|--stdin|f|a % Change { file: \"f\", wait: None, change: Drop { refs: [\"a\"], stdin: true } }
+$ gc|f % Change { file: \"f\", wait: None, change: Gc { report: false, keep: None } }
+$ gc|--report|f % Change { file: \"f\", wait: None, change: Gc { report: true, keep: None } }
+$ gc|--keep|k|f|--wait=0 % Change { file: \"f\", wait: Some(0), change: Gc { report: false, keep: Some(\"k\") } }
+$ export|f % Ask { file: \"f\", question: Export(FullTree) }
+$ export|--changes|f % Ask { file: \"f\", question: Export(Changes { done: true }) }
+$ export|f|--no-done|--changes % Ask { file: \"f\", question: Export(Changes { done: false }) }
+$ export|--changes|f|a..b % Ask { file: \"f\", question: ExportRange { done: true, ranges: [\"a..b\"] } }
+$ export|f|^a|--no-done|b|--changes % Ask { file: \"f\", question: ExportRange { done: false, ranges: [\"^a\", \"b\"] } }
+$ export|--changes|--|f|-x|--no-done % Ask { file: \"f\", question: ExportRange { done: true, ranges: [\"-x\", \"--no-done\"] } }
+$ show|f|main:a b % Ask { file: \"f\", question: Show { revision: \"main:a b\" } }
+$ show|-|x % Ask { file: \"-\", question: Show { revision: \"x\" } }
+$ ls|f|x % Ask { file: \"f\", question: Ls { recursive: false, revision: \"x\" } }
+$ ls|-r|f|x % Ask { file: \"f\", question: Ls { recursive: true, revision: \"x\" } }
+$ ls|f|x|--recursive % Ask { file: \"f\", question: Ls { recursive: true, revision: \"x\" } }
+$ archive|f|x % Ask { file: \"f\", question: Archive { prefix: \"\", revision: \"x\" } }
+$ archive|--prefix=p/|f|x % Ask { file: \"f\", question: Archive { prefix: \"p/\", revision: \"x\" } }
+$ archive|f|x|--prefix|p % Ask { file: \"f\", question: Archive { prefix: \"p\", revision: \"x\" } }
+$ batch|f % Ask { file: \"f\", question: Batch { form: Bytes, format: None, nul: false } }
+$ batch|--check|f % Ask { file: \"f\", question: Batch { form: Check, format: None, nul: false } }
+$ batch|f|--command|-z % Ask { file: \"f\", question: Batch { form: Commands, format: None, nul: true } }
+$ batch|--check|--format=a b|f % Ask { file: \"f\", question: Batch { form: Check, format: Some(\"a b\"), nul: false } }
+$ batch|-z|--format||f % Ask { file: \"f\", question: Batch { form: Bytes, format: Some(\"\"), nul: true } }
+$ refs|f % Ask { file: \"f\", question: Refs }
 ";
 
 /// The same of `log`.
 const LOGS: &str = "
-$ log|f|main % Log { options: LogOptions { reverse: false, max_count: None, parents: false, all: false, stdin: false, format: Names }, file: \"f\", ranges: [\"main\"] }
-$ log|f|^main % Log { options: LogOptions { reverse: false, max_count: None, parents: false, all: false, stdin: false, format: Names }, file: \"f\", ranges: [\"^main\"] }
-$ log|f|b|a..b|r^! % Log { options: LogOptions { reverse: false, max_count: None, parents: false, all: false, stdin: false, format: Names }, file: \"f\", ranges: [\"b\", \"a..b\", \"r^!\"] }
-$ log|f|--|-x|--|^main % Log { options: LogOptions { reverse: false, max_count: None, parents: false, all: false, stdin: false, format: Names }, file: \"f\", ranges: [\"-x\", \"--\", \"^main\"] }
-$ log|--reverse|f|a % Log { options: LogOptions { reverse: true, max_count: None, parents: false, all: false, stdin: false, format: Names }, file: \"f\", ranges: [\"a\"] }
-$ log|f|a|--parents|b % Log { options: LogOptions { reverse: false, max_count: None, parents: true, all: false, stdin: false, format: Names }, file: \"f\", ranges: [\"a\", \"b\"] }
-$ log|--reverse|--max-count|3|--parents|f|a % Log { options: LogOptions { reverse: true, max_count: Some(3), parents: true, all: false, stdin: false, format: Names }, file: \"f\", ranges: [\"a\"] }
-$ log|--max-count=3|f|a|--parents|--reverse % Log { options: LogOptions { reverse: true, max_count: Some(3), parents: true, all: false, stdin: false, format: Names }, file: \"f\", ranges: [\"a\"] }
-$ log|--max-count|0|f|a % Log { options: LogOptions { reverse: false, max_count: Some(0), parents: false, all: false, stdin: false, format: Names }, file: \"f\", ranges: [\"a\"] }
-$ log|--max-count|007|f|a % Log { options: LogOptions { reverse: false, max_count: Some(7), parents: false, all: false, stdin: false, format: Names }, file: \"f\", ranges: [\"a\"] }
-$ log|--max-count|+4|f|a % Log { options: LogOptions { reverse: false, max_count: Some(4), parents: false, all: false, stdin: false, format: Names }, file: \"f\", ranges: [\"a\"] }
-$ log|--max-count|18446744073709551615|f|a % Log { options: LogOptions { reverse: false, max_count: Some(18446744073709551615), parents: false, all: false, stdin: false, format: Names }, file: \"f\", ranges: [\"a\"] }
+$ log|f|main % Ask { file: \"f\", question: Log { options: LogOptions { reverse: false, max_count: None, parents: false, all: false, stdin: false, format: Names }, ranges: [\"main\"] } }
+$ log|f|^main % Ask { file: \"f\", question: Log { options: LogOptions { reverse: false, max_count: None, parents: false, all: false, stdin: false, format: Names }, ranges: [\"^main\"] } }
+$ log|f|b|a..b|r^! % Ask { file: \"f\", question: Log { options: LogOptions { reverse: false, max_count: None, parents: false, all: false, stdin: false, format: Names }, ranges: [\"b\", \"a..b\", \"r^!\"] } }
+$ log|f|--|-x|--|^main % Ask { file: \"f\", question: Log { options: LogOptions { reverse: false, max_count: None, parents: false, all: false, stdin: false, format: Names }, ranges: [\"-x\", \"--\", \"^main\"] } }
+$ log|--reverse|f|a % Ask { file: \"f\", question: Log { options: LogOptions { reverse: true, max_count: None, parents: false, all: false, stdin: false, format: Names }, ranges: [\"a\"] } }
+$ log|f|a|--parents|b % Ask { file: \"f\", question: Log { options: LogOptions { reverse: false, max_count: None, parents: true, all: false, stdin: false, format: Names }, ranges: [\"a\", \"b\"] } }
+$ log|--reverse|--max-count|3|--parents|f|a % Ask { file: \"f\", question: Log { options: LogOptions { reverse: true, max_count: Some(3), parents: true, all: false, stdin: false, format: Names }, ranges: [\"a\"] } }
+$ log|--max-count=3|f|a|--parents|--reverse % Ask { file: \"f\", question: Log { options: LogOptions { reverse: true, max_count: Some(3), parents: true, all: false, stdin: false, format: Names }, ranges: [\"a\"] } }
+$ log|--max-count|0|f|a % Ask { file: \"f\", question: Log { options: LogOptions { reverse: false, max_count: Some(0), parents: false, all: false, stdin: false, format: Names }, ranges: [\"a\"] } }
+$ log|--max-count|007|f|a % Ask { file: \"f\", question: Log { options: LogOptions { reverse: false, max_count: Some(7), parents: false, all: false, stdin: false, format: Names }, ranges: [\"a\"] } }
+$ log|--max-count|+4|f|a % Ask { file: \"f\", question: Log { options: LogOptions { reverse: false, max_count: Some(4), parents: false, all: false, stdin: false, format: Names }, ranges: [\"a\"] } }
+$ log|--max-count|18446744073709551615|f|a % Ask { file: \"f\", question: Log { options: LogOptions { reverse: false, max_count: Some(18446744073709551615), parents: false, all: false, stdin: false, format: Names }, ranges: [\"a\"] } }
 ";
 
 /// The same with its choices of words and of a format.
 const CHOICES: &str = "
-$ log|--all|f % Log { options: LogOptions { reverse: false, max_count: None, parents: false, all: true, stdin: false, format: Names }, file: \"f\", ranges: [] }
-$ log|f|a|--all % Log { options: LogOptions { reverse: false, max_count: None, parents: false, all: true, stdin: false, format: Names }, file: \"f\", ranges: [\"a\"] }
-$ log|--stdin|f % Log { options: LogOptions { reverse: false, max_count: None, parents: false, all: false, stdin: true, format: Names }, file: \"f\", ranges: [] }
-$ log|--stdin|f|^a % Log { options: LogOptions { reverse: false, max_count: None, parents: false, all: false, stdin: true, format: Names }, file: \"f\", ranges: [\"^a\"] }
-$ log|-n|3|f|a % Log { options: LogOptions { reverse: false, max_count: Some(3), parents: false, all: false, stdin: false, format: Names }, file: \"f\", ranges: [\"a\"] }
-$ log|-n3|f|a % Log { options: LogOptions { reverse: false, max_count: Some(3), parents: false, all: false, stdin: false, format: Names }, file: \"f\", ranges: [\"a\"] }
-$ log|--format=oneline|f|a % Log { options: LogOptions { reverse: false, max_count: None, parents: false, all: false, stdin: false, format: Oneline }, file: \"f\", ranges: [\"a\"] }
-$ log|--format|raw|f|a % Log { options: LogOptions { reverse: false, max_count: None, parents: false, all: false, stdin: false, format: Raw }, file: \"f\", ranges: [\"a\"] }
-$ log|f|a|--format=subject % Log { options: LogOptions { reverse: false, max_count: None, parents: false, all: false, stdin: false, format: Subject }, file: \"f\", ranges: [\"a\"] }
-$ log|--format=author|f|a % Log { options: LogOptions { reverse: false, max_count: None, parents: false, all: false, stdin: false, format: Author }, file: \"f\", ranges: [\"a\"] }
-$ log|--format=dates|--reverse|f|a % Log { options: LogOptions { reverse: true, max_count: None, parents: false, all: false, stdin: false, format: Dates }, file: \"f\", ranges: [\"a\"] }
+$ log|--all|f % Ask { file: \"f\", question: Log { options: LogOptions { reverse: false, max_count: None, parents: false, all: true, stdin: false, format: Names }, ranges: [] } }
+$ log|f|a|--all % Ask { file: \"f\", question: Log { options: LogOptions { reverse: false, max_count: None, parents: false, all: true, stdin: false, format: Names }, ranges: [\"a\"] } }
+$ log|--stdin|f % Ask { file: \"f\", question: Log { options: LogOptions { reverse: false, max_count: None, parents: false, all: false, stdin: true, format: Names }, ranges: [] } }
+$ log|--stdin|f|^a % Ask { file: \"f\", question: Log { options: LogOptions { reverse: false, max_count: None, parents: false, all: false, stdin: true, format: Names }, ranges: [\"^a\"] } }
+$ log|-n|3|f|a % Ask { file: \"f\", question: Log { options: LogOptions { reverse: false, max_count: Some(3), parents: false, all: false, stdin: false, format: Names }, ranges: [\"a\"] } }
+$ log|-n3|f|a % Ask { file: \"f\", question: Log { options: LogOptions { reverse: false, max_count: Some(3), parents: false, all: false, stdin: false, format: Names }, ranges: [\"a\"] } }
+$ log|--format=oneline|f|a % Ask { file: \"f\", question: Log { options: LogOptions { reverse: false, max_count: None, parents: false, all: false, stdin: false, format: Oneline }, ranges: [\"a\"] } }
+$ log|--format|raw|f|a % Ask { file: \"f\", question: Log { options: LogOptions { reverse: false, max_count: None, parents: false, all: false, stdin: false, format: Raw }, ranges: [\"a\"] } }
+$ log|f|a|--format=subject % Ask { file: \"f\", question: Log { options: LogOptions { reverse: false, max_count: None, parents: false, all: false, stdin: false, format: Subject }, ranges: [\"a\"] } }
+$ log|--format=author|f|a % Ask { file: \"f\", question: Log { options: LogOptions { reverse: false, max_count: None, parents: false, all: false, stdin: false, format: Author }, ranges: [\"a\"] } }
+$ log|--format=dates|--reverse|f|a % Ask { file: \"f\", question: Log { options: LogOptions { reverse: true, max_count: None, parents: false, all: false, stdin: false, format: Dates }, ranges: [\"a\"] } }
 ";
 
 /// The same of `rev-parse`, whose revisions stay in their order.
 const REVISIONS: &str = "
-$ rev-parse|f|main % RevParse { file: \"f\", revisions: [\"main\"] }
-$ rev-parse|f|b|a^{tree}|b % RevParse { file: \"f\", revisions: [\"b\", \"a^{tree}\", \"b\"] }
-$ rev-parse|f|--|-x % RevParse { file: \"f\", revisions: [\"-x\"] }
+$ rev-parse|f|main % Ask { file: \"f\", question: Names { revisions: [\"main\"] } }
+$ rev-parse|f|b|a^{tree}|b % Ask { file: \"f\", question: Names { revisions: [\"b\", \"a^{tree}\", \"b\"] } }
+$ rev-parse|f|--|-x % Ask { file: \"f\", question: Names { revisions: [\"-x\"] } }
 ";
 
 /// Words that end with status two.

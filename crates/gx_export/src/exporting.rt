@@ -90,7 +90,8 @@ fn write_commits<N: Namer, A: Allocator + Copy, W: Sink>(
 ) -> Result<(), ExportFault>
     requires { IsToBegin repo.now.1 reached.now written.old }
     ensures { let commits = reached_commits (history_of repo.now.1) in Adds repo.now.1
-        (all_written commits) (items_of (commit_commands [] commits)) written.old written.new result }
+        (all_written commits) (items_of (commit_commands [] commits)) written.old
+        written.new result }
 {
     let mut lines = Lines::new(alloc);
     for place in 0..reached.len() {

@@ -81,7 +81,8 @@ pub fn export_range<N: Namer, A: Allocator + Copy, W: Sink>(
     sink: &mut W,
     closed: bool,
 ) -> Result<(), RangeFault>
-    ensures range { ExportsRange (N.name_of repo.now.0) closed repo.now.1 (map shown_range words.now)
+    ensures range { ExportsRange (N.name_of repo.now.0) closed repo.now.1
+        (map shown_range words.now)
         (W.taken sink.old) (W.taken sink.new) result }
     ensures first { RefusalsComeFirst (N.name_of repo.now.0) (history_of repo.now.1)
         (map shown_range words.now) result }
@@ -274,7 +275,8 @@ fn write_refs<N: Namer, A: Allocator + Copy, W: Sink>(
     requires targets { AreTargets repo.now.1 refs.now }
     requires written { (ws : List Value) × HasWritten repo.now.1 ws written.old }
     ensures adds { AddsItems repo.now.1 (λ ws. items_of (map (ref_by (named_in (N.name_of
-        repo.now.0) ws)) (targets repo.now.1 (shown_tips refs.now)))) written.old written.new result }
+        repo.now.0) ws)) (targets repo.now.1 (shown_tips refs.now)))) written.old
+        written.new result }
     ensures memory { NeedsNoMemory ExportFault.OutOfMemory result }
 {
     for tip in refs {

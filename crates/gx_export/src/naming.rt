@@ -32,7 +32,8 @@ pub(crate) fn commit_ish<N: Namer, A: Allocator + Copy, W: Sink>(
     requires long { length written.now.marks.items ≡ length (values_of repo.now.1) }
     ensures { (ws : List Value)
         → AreNumbers (values_of repo.now.1) ws written.now.marks.items
-        → shown_commit result ≡ named_in (N.name_of repo.now.0) ws (commit_at repo.now.1 commit.now) }
+        → shown_commit result ≡ named_in (N.name_of repo.now.0) ws
+        (commit_at repo.now.1 commit.now) }
 {
     repo.sound();
     let mark = mark_of(repo, written, commit);

@@ -36,7 +36,8 @@ impl<'a> Model for Pairs<'a> {
 
     ghost use Rattle.gx_export.specs.Pairs.{entry_order, left_from, side_by_side};
 
-    ghost view = { λ it. side_by_side entry_order (left_from it.old it.olds) (left_from it.new it.news) };
+    ghost view = { λ it. side_by_side entry_order (left_from it.old it.olds)
+        (left_from it.new it.news) };
 }
 
 impl<'a> Pairs<'a> {

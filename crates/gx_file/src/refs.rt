@@ -54,7 +54,8 @@ fn gather<'a, A: Allocator + Copy>(
     text: &'a [u8],
 ) -> Result<&'a [u8], FileFault>
     requires { changes.now.items ≡ [] }
-    ensures refs { Gathers (gathered count None text.now) (map shown_update changes.new.items) result }
+    ensures refs { Gathers (gathered count None text.now)
+        (map shown_update changes.new.items) result }
     ensures memory { WantsWhere result
         (RunsOutBehind count text.now (map shown_update changes.new.items)) }
 {

@@ -77,7 +77,8 @@ pub fn send_record<W: Sink>(
     kind: Kind,
     body: &[u8],
 ) -> Result<(), Failed>
-    ensures text { Sent (record_called name.now kind body.now) (W.taken sink.old) (W.taken sink.new) result }
+    ensures text { Sent (record_called name.now kind body.now) (W.taken sink.old)
+        (W.taken sink.new) result }
     ensures length { length body.now < 2 ^ 64 }
 {
     send_body(sink, kind.word().as_bytes(), name, body)
@@ -85,7 +86,8 @@ pub fn send_record<W: Sink>(
 
 /// Sends a body behind its line, which begins with this word.
 fn send_body<W: Sink>(sink: &mut W, word: &[u8], name: &Name, body: &[u8]) -> Result<(), Failed>
-    ensures text { Sent (line word.now (length_text Two (length body.now) name.now.bytes) ++ body.now ++ 10 ∷ [])
+    ensures text { Sent (line word.now (length_text Two (length body.now) name.now.bytes)
+        ++ body.now ++ 10 ∷ [])
         (W.taken sink.old) (W.taken sink.new) result }
     ensures length { length body.now < 2 ^ 64 }
 {
@@ -123,7 +125,8 @@ pub fn send_refs<N: Namer, A: Allocator + Copy, W: Sink>(
 
 /// Sends a ref's line.
 fn send_ref<W: Sink>(sink: &mut W, name: &[u8], object: &Name) -> Result<(), Failed>
-    ensures { Sent (stored_ref (name.now, object.now.bytes)) (W.taken sink.old) (W.taken sink.new) result }
+    ensures { Sent (stored_ref (name.now, object.now.bytes)) (W.taken sink.old)
+        (W.taken sink.new) result }
 {
     let digits = object.hex();
     send_all(sink, &[digits.as_slice(), b" ", name, b"\n"])
@@ -131,7 +134,8 @@ fn send_ref<W: Sink>(sink: &mut W, name: &[u8], object: &Name) -> Result<(), Fai
 
 /// Sends a line with a word and a number.
 pub fn send_count<W: Sink>(sink: &mut W, word: &[u8], count: usize) -> Result<(), Failed>
-    ensures { Sent (line word.now (number_text count)) (W.taken sink.old) (W.taken sink.new) result }
+    ensures { Sent (line word.now (number_text count)) (W.taken sink.old)
+        (W.taken sink.new) result }
 {
     let mut digits = Buffer::new();
     send_all(sink, &[word, b" ", digits.format(count).as_bytes(), b"\n"])

@@ -2,7 +2,8 @@
 
 use gx_left_refs::{LeftRefs, left_refs};
 use gx_object::Name;
-use gx_ref_lines::{RefLines, put_ref, ref_names};
+use gx_objects::put_ref;
+use gx_ref_lines::{RefLines, ref_names};
 use gx_repo::DropFault;
 use std::alloc::Global;
 use std::test::Fail;

@@ -38,7 +38,8 @@ pub fn read_table(count: u64, text: &[u8]) -> Result<(&[u8], &[u8]), FileFault>
 
 /// How many bytes so many rows and their digests have, where these are fewer than 2^64.
 fn table_length(count: u64) -> Option<u64>
-    ensures { MatchOption result (2 ^ 64 ≤ table_length count) (λ length. length ≡ table_length count) }
+    ensures { MatchOption result (2 ^ 64 ≤ table_length count)
+        (λ length. length ≡ table_length count) }
 {
     let rows = count.checked_mul(ROW)?;
     let pages = rows.checked_add(16_379)? / 16_380;
@@ -50,7 +51,8 @@ fn table_length(count: u64) -> Option<u64>
 /// Cost: the rows are hashed. Takes no memory. Source: this project's own format.
 pub fn standing_rows<'a>(text: &'a [u8], run: &Run) -> Option<&'a [u8]>
     ensures { MatchOption result (has_table sha256 text.now (shown_run run.now) ≡ false)
-        (λ rows. (has_table sha256 text.now (shown_run run.now) ≡ true) × (rows.now ≡ run_bytes text.now (shown_run run.now))) }
+        (λ rows. (has_table sha256 text.now (shown_run run.now) ≡ true)
+        × (rows.now ≡ run_bytes text.now (shown_run run.now))) }
 {
     let (rows, digests) = table_at(text, run.place, run.count)?;
     if digest_of(digests) != run.digest {

@@ -4,15 +4,14 @@ ghost use Rattle.std.specs.Option.{option_map};
 ghost use Rattle.gx_model.specs.Faults.{NeedsNoMemory};
 ghost use Rattle.gx_model.specs.Records.Growth.{record_named};
 ghost use Rattle.gx_model.specs.Stores.StoreReading.{is_target, next_ref, next_refs};
-ghost use Rattle.gx_repo.specs.Refs.{TellsOwnRef};
 ghost use Rattle.gx_lines.specs.Reads.{Reads};
 ghost use Rattle.gx_text.specs.Lent.{lent_pair};
 ghost use Rattle.gx_growing_segments.specs.Seen.{name_and_rest, refs_at};
 
 use gx_file::{is_after, read_ref};
 use gx_lines::FileFault;
-use gx_object::{Kind, Name, Namer, decode_tag};
-use gx_repo::Repo;
+use gx_object::{Name, Namer};
+use gx_repo::{Repo, is_target};
 use std::alloc::Allocator;
 
 /// Looks at the refs that come next, so many of them, and answers what follows them. None is set.
@@ -46,7 +45,7 @@ fn check_ref<'a, N: Namer, A: Allocator + Copy>(
     ensures memory { NeedsNoMemory FileFault.OutOfMemory result }
 {
     let (change, rest) = read_ref(text)?;
-    if !is_target(repo, change.name, &change.target) {
+    if !may_hold(repo, change.name, &change.target) {
         return Err(FileFault::BadRef);
     }
     if !is_after(last, change.name) {
@@ -56,25 +55,11 @@ fn check_ref<'a, N: Namer, A: Allocator + Copy>(
 }
 
 /// Whether a ref may hold this: a commit, or a tag whose own name makes the ref's.
-fn is_target<N: Namer, A: Allocator + Copy>(repo: &Repo<N, A>, name: &[u8], target: &Name) -> bool
+fn may_hold<N: Namer, A: Allocator + Copy>(repo: &Repo<N, A>, name: &[u8], target: &Name) -> bool
     ensures { result ≡ is_target name.now (record_named repo.now.1.records target.now.bytes) }
 {
     match repo.store().get(target) {
-        Some((Kind::Commit, _)) => true,
-        Some((Kind::Tag, body)) => is_own_ref(name, body),
-        _ => false,
-    }
-}
-
-/// Whether a ref's name is made by the own name of the tag with this body.
-fn is_own_ref(name: &[u8], body: &[u8]) -> bool
-    ensures { TellsOwnRef name.now body.now result }
-{
-    let Ok(tag) = decode_tag(body) else {
-        return false;
-    };
-    match name.strip_prefix(b"refs/tags/") {
-        Some(rest) => rest == tag.name(),
+        Some((kind, body)) => is_target(name, kind, body),
         None => false,
     }
 }

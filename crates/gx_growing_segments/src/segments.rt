@@ -50,7 +50,8 @@ pub fn read_segments<'a, N: Namer, A: Allocator + Copy>(
     ensures refs { repo.new.1.refs ≡ [] }
     ensures aligned { OnOk result (length places.new.items ≡ length repo.new.1.records) }
     ensures segments { Reads (seen_with repo.new.1.records places.new.items) result
-        (next_segments (N.name_of repo.old.0) (length whole.now) (length whole.now) no_front text.now) }
+        (next_segments (N.name_of repo.old.0) (length whole.now) (length whole.now)
+        no_front text.now) }
     ensures told { IfOk result (HasRefs repo.new.1.records) }
     ensures within { IfOk result (λ tail. length tail.text.now ≤ length whole.now) }
 {
@@ -108,7 +109,8 @@ fn read_records<'a, N: Namer, A: Allocator + Copy>(
     ensures records { ReadsRecords N.name_of repo.old repo.new Version.Two count text.now result }
     ensures placed { OnOk result (rows_of repo.new.1.records places.new.items
         ≡ rows_of repo.old.1.records places.old.items
-        ++ placed (length whole.now - length text.now) (drop (length repo.old.1.records) repo.new.1.records)) }
+        ++ placed (length whole.now - length text.now)
+        (drop (length repo.old.1.records) repo.new.1.records)) }
     ensures left { IfOk result (λ rest. EndsWith whole.now rest.now) }
     ensures shorter { IfOk result (λ rest. length rest.now ≤ length text.now) }
 {
@@ -127,7 +129,8 @@ fn read_tail<'a, N: Namer, A: Allocator + Copy>(
     repo: &Repo<N, A>,
     text: &'a [u8],
 ) -> Result<(Tail<'a, A>, &'a [u8]), FileFault>
-    ensures tail { Reads (shown_next_tail repo.now.1.records) result (next_tail repo.now.1.records text.now) }
+    ensures tail { Reads (shown_next_tail repo.now.1.records) result
+        (next_tail repo.now.1.records text.now) }
     ensures text { IfOk result (λ parts. parts.0.text.now ≡ text.now) }
     ensures told { IfOk result (λ parts. HasRefs repo.now.1.records parts.0) }
     ensures behind { IfOk result (λ parts. EndsWith text.now parts.1.now) }

@@ -24,7 +24,8 @@ pub(crate) fn apply_blob<N: Namer, A: Allocator + Copy>(
     ensures loaded { tables.new.loaded ≡ tables.old.loaded }
     ensures only { OnlyAdds repo.old repo.new }
     ensures hidden { HidesNoBlob N.name_of repo.old blob result }
-    ensures steps { Makes N.name_of repo.old repo.new tables.old tables.new (shown_blob blob) result }
+    ensures steps { Makes N.name_of repo.old repo.new tables.old tables.new
+        (shown_blob blob) result }
 {
     repo.sound();
     puts_add_values();

@@ -37,7 +37,8 @@ pub(crate) fn change_all<N: Namer, A: Allocator + Copy>(
     requires unasked { told.now.asked ≡ None }
     ensures only { OnlyAdds repo.old repo.new }
     ensures home { IfOk result (λ _. StayAtHome N.name_of repo.old repo.new files.old files.new) }
-    ensures steps { EditsAll N.name_of repo.old repo.new tables.now files.old files.new changes result }
+    ensures steps { EditsAll N.name_of repo.old repo.new tables.now files.old
+        files.new changes result }
     ensures told { TellsEdits N.name_of repo.old tables.now files.old changes result told.new }
     ensures asked { AskedByEdits N.name_of repo.old tables.now files.old changes result told.new }
     ensures loss { told.new.loss ≡ told.old.loss }

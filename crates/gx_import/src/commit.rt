@@ -117,7 +117,8 @@ fn changed_files<N: Namer, A: Allocator + Copy>(
     ensures homes { IfOk result (λ _. HasTipsAtHome N.name_of (repo.old.0, repo.new.1) tables.new) }
     ensures home { IfOk result (IsAtHome (N.name_of repo.old.0) repo.new.1.records) }
     ensures only { OnlyAdds repo.old repo.new }
-    ensures steps { EditsFrom N.name_of repo.old repo.new tables.old tables.new first changes result }
+    ensures steps { EditsFrom N.name_of repo.old repo.new tables.old tables.new
+        first changes result }
     ensures told { TellsEditsFrom N.name_of repo.old tables.old first changes result told.new }
     ensures asked { AskedByEditsFrom N.name_of repo.old tables.old first changes result told.new }
     ensures loss { told.new.loss ≡ told.old.loss }
@@ -140,7 +141,8 @@ fn set_mark_and_branch<A: Allocator + Copy>(
     files: PathTree<A>,
 ) -> Result<(), ImportKind>
     ensures homes { OnOk result (KeepsTipsAtHomeWith tables.old tables.new files) }
-    ensures steps { OnOk result (SetsCommit tables.old tables.new mark branch.bytes.items name files) }
+    ensures steps { OnOk result
+        (SetsCommit tables.old tables.new mark branch.bytes.items name files) }
     ensures fault { IfErr result (λ fault. fault ≡ OutOfMemory) }
 {
     let kind = Kind::Commit;
@@ -241,7 +243,8 @@ fn add<N: Namer, A: Allocator + Copy>(
     ensures home { IfOk result (λ _. IsAtHome (N.name_of repo.old.0) repo.new.1.records files.new) }
     ensures only { OnlyAdds repo.old repo.new }
     ensures files { files.new.files ≡ files.old.files }
-    ensures steps { AddsWithTrees N.name_of repo.old repo.new files.old parents.now commit.now result }
+    ensures steps { AddsWithTrees N.name_of repo.old repo.new files.old
+        parents.now commit.now result }
 {
     repo.sound();
     trees_add_file_maps();

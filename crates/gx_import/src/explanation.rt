@@ -75,7 +75,8 @@ impl<A: Allocator + Copy> Asked<A> {
 
     /// What the commit-ish of a line refers to, where there is such a line. Takes no memory.
     pub(crate) fn of_line(commit_ish: Option<CommitIsh<A>>) -> Option<Asked<A>>
-        ensures { option_map shown_asked result ≡ option_map of_commit_ish (option_map shown_commit_ish commit_ish) }
+        ensures { option_map shown_asked result
+            ≡ option_map of_commit_ish (option_map shown_commit_ish commit_ish) }
     {
         match commit_ish {
             Some(commit_ish) => Some(Asked::of_commit_ish(commit_ish)),

@@ -57,7 +57,8 @@ pub fn import<N: Namer, A: Allocator + Copy, R: Source + Drop, W: Sink>(
     ensures namer { repo.new.0 ≡ repo.old.0 }
     ensures replayed { ImportsAsked N.name_of W.taken no_features repo.old repo.new
         (R.coming source) sink.old sink.new result }
-    ensures stands { OnOk result (StandsAsked no_features N.name_of repo.old repo.new (R.coming source)) }
+    ensures stands { OnOk result
+        (StandsAsked no_features N.name_of repo.old repo.new (R.coming source)) }
     ensures extends { Extends repo.old.1.records repo.new.1.records }
     ensures sound { IsSound (N.name_of repo.old.0) repo.new.1 }
     ensures unchanged { IfErr result (λ fault. fault.checkpoints ≡ 0 → repo.new ≡ repo.old) }
@@ -82,15 +83,19 @@ pub fn import_asking<N: Namer, A: Allocator + Copy, R: Source + Drop, W: Sink>(
     features: Features,
 ) -> Result<Report, ImportFault>
     ensures namer { repo.new.0 ≡ repo.old.0 }
-    ensures replayed { ImportsAsked N.name_of W.taken features repo.old repo.new (R.coming source) sink.old sink.new result }
-    ensures stands { OnOk result (StandsAsked features N.name_of repo.old repo.new (R.coming source)) }
+    ensures replayed { ImportsAsked N.name_of W.taken features repo.old repo.new (R.coming source)
+        sink.old sink.new result }
+    ensures stands { OnOk result
+        (StandsAsked features N.name_of repo.old repo.new (R.coming source)) }
     ensures extends { Extends repo.old.1.records repo.new.1.records }
     ensures sound { IsSound (N.name_of repo.old.0) repo.new.1 }
     ensures unchanged { IfErr result (λ fault. fault.checkpoints ≡ 0 → repo.new ≡ repo.old) }
     ensures stopped { IfErr result (StopsAsked N.name_of features repo.old (R.coming source)) }
-    ensures exported { LeaveExports features → ImportsAnyExport N.name_of repo.old repo.new (R.coming source) result }
+    ensures exported { LeaveExports features
+        → ImportsAnyExport N.name_of repo.old repo.new (R.coming source) result }
     ensures gitlinks { KeepsNoNullGitlink repo.old.1 repo.new.1 }
-    ensures nulls { LeaveExports features → RefusesNullGitlink N.name_of repo.old (R.coming source) result }
+    ensures nulls { LeaveExports features
+        → RefusesNullGitlink N.name_of repo.old (R.coming source) result }
 {
     let mut told = Explanation::none();
     import_explained(alloc, repo, source, sink, features, &mut told)
@@ -113,19 +118,24 @@ pub fn import_explained<N: Namer, A: Allocator + Copy, R: Source + Drop, W: Sink
     told: &mut Explanation<A>,
 ) -> Result<Report, ImportFault>
     ensures namer { repo.new.0 ≡ repo.old.0 }
-    ensures replayed { ImportsAsked N.name_of W.taken features repo.old repo.new (R.coming source) sink.old sink.new result }
-    ensures explained { ExplainsAsked N.name_of features repo.old (R.coming source) result told.new }
+    ensures replayed { ImportsAsked N.name_of W.taken features repo.old repo.new (R.coming source)
+        sink.old sink.new result }
+    ensures explained { ExplainsAsked N.name_of features repo.old
+        (R.coming source) result told.new }
     ensures retold { R.coming source ≡ None
         → IsOfOneReplay features (N.name_of repo.old.0) repo.old.1 repo.new.1
         (W.taken sink.old) (W.taken sink.new) result told.new }
-    ensures stands { OnOk result (StandsAsked features N.name_of repo.old repo.new (R.coming source)) }
+    ensures stands { OnOk result
+        (StandsAsked features N.name_of repo.old repo.new (R.coming source)) }
     ensures extends { Extends repo.old.1.records repo.new.1.records }
     ensures sound { IsSound (N.name_of repo.old.0) repo.new.1 }
     ensures unchanged { IfErr result (λ fault. fault.checkpoints ≡ 0 → repo.new ≡ repo.old) }
     ensures stopped { IfErr result (StopsAsked N.name_of features repo.old (R.coming source)) }
-    ensures exported { LeaveExports features → ImportsAnyExport N.name_of repo.old repo.new (R.coming source) result }
+    ensures exported { LeaveExports features
+        → ImportsAnyExport N.name_of repo.old repo.new (R.coming source) result }
     ensures gitlinks { KeepsNoNullGitlink repo.old.1 repo.new.1 }
-    ensures nulls { LeaveExports features → RefusesNullGitlink N.name_of repo.old (R.coming source) result }
+    ensures nulls { LeaveExports features
+        → RefusesNullGitlink N.name_of repo.old (R.coming source) result }
 {
     histories_of_records();
     names_tell_values();
@@ -178,10 +188,14 @@ fn replay_into<N: Namer, A: Allocator + Copy, R: Source + Drop, W: Sink>(
     ensures namer { repo.new.0 ≡ repo.old.0 }
     ensures extends { Extends repo.old.1.records repo.new.1.records }
     ensures replayed { Imports features (N.name_of repo.old.0) repo.old.1
-        (left_by result checkpoints.new repo.new.1) (R.coming source) (W.taken sink.old) (W.taken sink.new) result }
-    ensures explained { ExplainsAsked N.name_of features repo.old (R.coming source) result told.new }
-    ensures retold { R.coming source ≡ None → IsOfOneReplay features (N.name_of repo.old.0) repo.old.1
-        (left_by result checkpoints.new repo.new.1) (W.taken sink.old) (W.taken sink.new) result told.new }
+        (left_by result checkpoints.new repo.new.1) (R.coming source) (W.taken sink.old)
+        (W.taken sink.new) result }
+    ensures explained { ExplainsAsked N.name_of features repo.old
+        (R.coming source) result told.new }
+    ensures retold { R.coming source ≡ None
+        → IsOfOneReplay features (N.name_of repo.old.0) repo.old.1
+        (left_by result checkpoints.new repo.new.1) (W.taken sink.old)
+        (W.taken sink.new) result told.new }
     ensures left { OnErr result (IsLeft repo.old.1 repo.new.1 checkpoints.new) }
     ensures counted { IfErr result (λ fault. fault.checkpoints ≡ checkpoints.new.count) }
     ensures gitlinks { KeepsNoNullGitlink repo.old.1 (left_by result checkpoints.new repo.new.1) }

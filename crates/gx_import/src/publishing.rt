@@ -101,10 +101,12 @@ fn append_branches<'a, N: Namer, A: Allocator + Copy>(
 ) -> Result<bool, AllocError>
     requires stands { StandsForSome N.name_of repo.now tables.now }
     requires blank { loss.now ≡ None }
-    ensures forward { TellsFastForward N.name_of repo.now tables.now (λ is_forward. is_forward) result }
+    ensures forward { TellsFastForward N.name_of repo.now tables.now
+        (λ is_forward. is_forward) result }
     ensures appended { AppendsMoved repo.now.1.refs (branch_changes tables.now.branches)
         changes.old changes.new result }
-    ensures loss { TellsWhoLoses N.name_of repo.now tables.now (λ is_forward. is_forward) result loss.new }
+    ensures loss { TellsWhoLoses N.name_of repo.now tables.now
+        (λ is_forward. is_forward) result loss.new }
 {
     repo.sound();
     let mut place = 0;
@@ -248,7 +250,8 @@ fn append_tag<'a, A: Allocator + Copy>(
     target: Name,
 ) -> Result<(), AllocError>
     ensures { OnOk result (Appends
-        (filter (is_due_by branches.now (option_map (λ n. n.bytes) held)) ((name.now, target.bytes) ∷ []))
+        (filter (is_due_by branches.now (option_map (λ n. n.bytes) held))
+        ((name.now, target.bytes) ∷ []))
         changes.old changes.new) }
 {
     if is_due(branches, name, held, target) {
@@ -264,7 +267,8 @@ fn is_due<A: Allocator + Copy>(
     held: Option<Name>,
     target: Name,
 ) -> bool
-    ensures { result ≡ is_due_by branches.now (option_map (λ n. n.bytes) held) (name.now, target.bytes) }
+    ensures { result ≡ is_due_by branches.now (option_map (λ n. n.bytes) held)
+        (name.now, target.bytes) }
 {
     // most tags stand still between two checkpoints
     if !is_at(held, target) {

@@ -46,10 +46,13 @@ pub(crate) fn replay_commands<N: Namer, A: Allocator + Copy, R: Source, W: Sink>
     ensures namer { repo.new.0 ≡ repo.old.0 }
     ensures extends { Extends repo.old.1.records repo.new.1.records }
     ensures count { IfOk result (λ commands. commands ≤ 2 ^ 63 - 1) }
-    ensures replayed { ReplaysRead N.name_of W.taken repo.old repo.new tables.old.is_forced tables.new
+    ensures replayed { ReplaysRead N.name_of W.taken repo.old repo.new
+        tables.old.is_forced tables.new
         checkpoints.new reader.old sink.old sink.new result }
-    ensures explained { ExplainsRead N.name_of repo.old tables.old.is_forced reader.old result told.new }
-    ensures retold { RetellsRead N.name_of W.taken repo.old repo.new tables.old.is_forced checkpoints.new
+    ensures explained { ExplainsRead N.name_of repo.old tables.old.is_forced
+        reader.old result told.new }
+    ensures retold { RetellsRead N.name_of W.taken repo.old repo.new
+        tables.old.is_forced checkpoints.new
         reader.old sink.old sink.new result told.new }
     ensures left { IsLeft repo.old.1 repo.new.1 checkpoints.new }
     ensures counted { IfErr result (λ fault. fault.checkpoints ≡ checkpoints.new.count) }

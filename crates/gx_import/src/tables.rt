@@ -60,7 +60,8 @@ impl<A: Allocator + Copy> Tables<A> {
         ensures others { self.new
             ≡ record self.old { branches = self.new.branches; at_hand = self.new.at_hand } }
         ensures branches { OnOk result (self.new.branches
-            ≡ put byte_cmp branch.items (tip_at commit files self.old.branches branch.items) self.old.branches) }
+            ≡ put byte_cmp branch.items (tip_at commit files self.old.branches branch.items)
+            self.old.branches) }
         ensures entered { OnOk result (IsEntered self.new.at_hand branch.items commit files) }
     {
         let was_published = self.forget_tip(branch.as_slice());

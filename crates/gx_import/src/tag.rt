@@ -70,7 +70,8 @@ fn make_tag<N: Namer, A: Allocator + Copy>(
     ensures branches { tables.new.branches ≡ tables.old.branches }
     ensures loaded { tables.new.loaded ≡ tables.old.loaded }
     ensures only { OnlyAdds repo.old repo.new }
-    ensures steps { Makes N.name_of repo.old repo.new tables.old tables.new (shown_tag tag.now) result }
+    ensures steps { Makes N.name_of repo.old repo.new tables.old tables.new
+        (shown_tag tag.now) result }
 {
     repo.sound();
     let name = add(repo, target, tag)?;

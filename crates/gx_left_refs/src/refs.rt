@@ -12,7 +12,8 @@ ghost use Rattle.gx_repo.specs.Dropping.{AreIn, Drops, HidesNoUnknown, IsAgainst
 ghost use Rattle.gx_text.specs.Lent.{lent_texts};
 
 use gx_object::Name;
-use gx_ref_lines::{RefLines, put_ref};
+use gx_objects::put_ref;
+use gx_ref_lines::RefLines;
 use gx_repo::DropFault;
 use std::alloc::{AllocError, Allocator};
 use std::collections::BTreeSet;

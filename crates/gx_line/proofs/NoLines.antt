@@ -5,9 +5,12 @@ use Rattle.std.proofs.lemmas.Slice.Eq.{bytes_eq-Decides}
 use Rattle.clap.specs.Words.{Row, Text, all_of}
 use Rattle.clap.specs.declared.error.kind.ErrorKind.{ErrorKind}
 use Rattle.clap.specs.declared.error.kind.ErrorKind.TheVariants as kind
-use Rattle.gx_line.specs.CommandLine.{HasCause, IsAnswer, IsFlag, IsRefused, Says}
+use Rattle.gx_asks.specs.declared.change.Change.TheVariants.{Grow}
+use Rattle.gx_asks.specs.declared.question.Question.TheVariants.{Export, ExportRange, Refs}
+use Rattle.gx_asks.specs.declared.trial.Trial.TheVariants.{Blobs}
+use Rattle.gx_line.specs.CommandLine.{Alters, Asks, HasCause, IsAnswer, IsFlag, IsRefused, Says, Tries}
 use Rattle.gx_line.specs.declared.command_line.Line.{Line}
-use Rattle.gx_line.specs.declared.command_line.Line.TheVariants.{Blobs, Export, ExportRange}
+use Rattle.gx_line.specs.declared.command_line.Line.TheVariants.{Ask, Change, Stream, Verify}
 use Rattle.gx_line.specs.declared.fault.LineFault.{LineFault}
 use Rattle.gx_line.specs.declared.fault.LineFault.TheVariants.{OutOfMemory, Status}
 
@@ -39,8 +42,13 @@ missing {X} {o} {x} e h = let bad : None ≡ Some x = sym e ∙ h in cc
 -- range words stand without --changes
 pub no_ranges : (rows : List Row) (ranges : List Text) → IsFlag (codes "changes") rows false → all_of (codes "range") rows ≡ Some ranges
     → (line : Line) → Says (codes "export") rows line → ⊥
-unfolding Says
-no_ranges rows ranges e some (Export form file) h = missing h.1.1.1 some
-no_ranges rows ranges e some (ExportRange done file words) h = e h.1.0.0
-no_ranges rows ranges e some Blobs h = differ h refl
-no_ranges rows ranges e some line h = differ h.0 refl
+unfolding Alters Asks Says Tries
+no_ranges rows ranges e some (Ask file (Export form)) h = missing h.1.1.1 some
+no_ranges rows ranges e some (Ask file (ExportRange done words)) h = e h.1.1.0.0
+no_ranges rows ranges e some (Ask file Refs) h = differ h.1 refl
+no_ranges rows ranges e some (Ask file question) h = differ h.1.0 refl
+no_ranges rows ranges e some (Change file wait Grow) h = differ h.1.1 refl
+no_ranges rows ranges e some (Change file wait change) h = differ h.1.1.0 refl
+no_ranges rows ranges e some (Stream Blobs) h = differ h refl
+no_ranges rows ranges e some (Stream trial) h = differ h.0 refl
+no_ranges rows ranges e some (Verify file salvage) h = differ h.0 refl

@@ -9,18 +9,24 @@ use Rattle.clap.specs.declared.builder.command.Command.TheViews.{out-Command as 
 use Rattle.clap.specs.declared.error.kind.ErrorKind.{ErrorKind}
 use Rattle.clap.specs.declared.error.kind.ErrorKind.TheVariants as kind
 use Rattle.gx_line.specs.Arguments as rules
-use Rattle.gx_line.specs.declared.command_line.BatchForm.{BatchForm}
-use Rattle.gx_line.specs.declared.command_line.BatchForm.TheVariants as form
-use Rattle.gx_line.specs.declared.command_line.ExportForm.{ExportForm}
-use Rattle.gx_line.specs.declared.command_line.ExportForm.TheVariants.{Changes, FullTree}
+use Rattle.gx_asks.specs.declared.change.Change.{Change as ChangeAsked}
+use Rattle.gx_asks.specs.declared.change.Change.TheVariants.{Init, Grow, Import, Push, Drop, SetRef, Put, Gc}
+use Rattle.gx_asks.specs.declared.change.RefChange.{RefChange}
+use Rattle.gx_asks.specs.declared.question.BatchForm.{BatchForm}
+use Rattle.gx_asks.specs.declared.question.BatchForm.TheVariants as form
+use Rattle.gx_asks.specs.declared.question.ExportForm.{ExportForm}
+use Rattle.gx_asks.specs.declared.question.ExportForm.TheVariants.{Changes, FullTree}
+use Rattle.gx_asks.specs.declared.question.LogFormat.{LogFormat}
+use Rattle.gx_asks.specs.declared.question.LogFormat.TheVariants.{Names, Oneline, Raw, Subject, Author, Dates}
+use Rattle.gx_asks.specs.declared.question.LogOptions.{LogOptions}
+use Rattle.gx_asks.specs.declared.question.Question.{Question}
+use Rattle.gx_asks.specs.declared.question.Question.TheVariants.{Refs, Show, Ls, Archive, Names as Named, Log, Batch, Export, ExportRange}
+use Rattle.gx_asks.specs.declared.trial.Trial.{Trial}
+use Rattle.gx_asks.specs.declared.trial.Trial.TheVariants.{Blobs, Try, Check, Adapt, Where, WhereFault}
 use Rattle.gx_line.specs.declared.command_line.Line.{Line}
-use Rattle.gx_line.specs.declared.command_line.Line.TheVariants.{Blobs, Try, Check, Adapt, Where, WhereFault, Init, Grow, Verify, Import, Push, Drop, SetRef, Put, Gc, Export, ExportRange, Show, Ls, Archive, Batch, Refs, Log, RevParse}
-use Rattle.gx_line.specs.declared.command_line.RefChange.{RefChange}
+use Rattle.gx_line.specs.declared.command_line.Line.TheVariants.{Ask, Change, Stream, Verify}
 use Rattle.gx_line.specs.declared.fault.LineFault.{LineFault}
 use Rattle.gx_line.specs.declared.fault.LineFault.TheVariants.{OutOfMemory, Status}
-use Rattle.gx_line.specs.declared.command_line.LogFormat.{LogFormat}
-use Rattle.gx_line.specs.declared.command_line.LogFormat.TheVariants.{Names, Oneline, Raw, Subject, Author, Dates}
-use Rattle.gx_line.specs.declared.command_line.LogOptions.{LogOptions}
 
 -- ---- commands
 
@@ -238,59 +244,58 @@ IsBatchForm rows form.Bytes = IsFlag (codes "check") rows false × IsFlag (codes
 IsBatchForm rows form.Check = IsFlag (codes "check") rows true × IsFlag (codes "command") rows false
 IsBatchForm rows form.Commands = IsFlag (codes "check") rows false × IsFlag (codes "command") rows true
 
+-- a question is the command `name` with the options and words that clap found for it
+unfoldable pub Asks : Text → List Row → Question → Type 0
+Asks name rows Refs = name ≡ codes "refs"
+Asks name rows (Show revision) = (name ≡ codes "show") × IsWord (codes "rev") rows revision
+Asks name rows (Ls recursive revision) = (name ≡ codes "ls") × (IsFlag (codes "recursive") rows recursive × IsWord (codes "rev") rows revision)
+Asks name rows (Archive prefix revision) = (name ≡ codes "archive") × (IsText (codes "prefix") rows prefix × IsWord (codes "rev") rows revision)
+Asks name rows (Named revisions) = (name ≡ codes "rev-parse") × AreWords (codes "rev") rows revisions.items
+Asks name rows (Log options ranges) = (name ≡ codes "log") × (AreLogOptions rows options × AreAnyWords (codes "range") rows ranges.items)
+Asks name rows (Batch form format nul) = (name ≡ codes "batch") × (IsBatchForm rows form
+    × (IsOption (codes "format") rows format × IsFlag (codes "nul") rows nul))
+Asks name rows (Export form) = (name ≡ codes "export") × (IsForm rows form × (all_of (codes "range") rows ≡ None))
+Asks name rows (ExportRange done ranges) = (name ≡ codes "export") × (IsForm rows (Changes done) × AreWords (codes "range") rows ranges.items)
+
+-- so is a change
+unfoldable pub Alters : Text → List Row → ChangeAsked → Type 0
+Alters name rows (Init growing) = (name ≡ codes "init") × IsFlag (codes "growing") rows growing
+Alters name rows Grow = name ≡ codes "grow"
+Alters name rows (Import done force report explain) = (name ≡ codes "import") × (AreFeatures rows done force
+    × (AreTold rows report explain × (first_of (codes "push") rows ≡ None)))
+Alters name rows (Push push done report explain) = (name ≡ codes "import") × (AreFeatures rows done false
+    × (AreTold rows report explain × IsWord (codes "push") rows push))
+Alters name rows (Drop refs stdin) = (name ≡ codes "drop") × (IsFlag (codes "stdin") rows stdin × AreAnyWords (codes "ref") rows refs.items)
+Alters name rows (SetRef change force) = (name ≡ codes "set-ref") × (IsRefChange rows change × IsFlag (codes "force") rows force)
+Alters name rows (Put stamp) = (name ≡ codes "put") × IsWord (codes "expect-stamp") rows stamp
+Alters name rows (Gc report keep) = (name ≡ codes "gc") × (IsFlag (codes "report") rows report × IsOption (codes "keep") rows keep)
+
+-- and what is asked of a stream
+unfoldable pub Tries : Text → List Row → Trial → Type 0
+Tries name rows Blobs = name ≡ codes "blobs"
+Tries name rows (Try revision done force explain) = (name ≡ codes "try") × (AreFeatures rows done force
+    × (IsFlag (codes "explain") rows explain × IsWord (codes "rev") rows revision))
+Tries name rows (Check done force explain) = (name ≡ codes "check")
+    × (AreFeatures rows done force × IsFlag (codes "explain") rows explain)
+Tries name rows (Adapt drop_signatures) = (name ≡ codes "adapt") × IsFlag (codes "drop-signatures") rows drop_signatures
+Tries name rows (Where command) = (name ≡ codes "where")
+    × (IsFlag (codes "fault") rows false × IsNumber (codes "number") rows (Some command))
+Tries name rows (WhereFault done force) = (name ≡ codes "where") × (IsFlag (codes "fault") rows true × AreFeatures rows done force)
+
 -- the line is the command `name` with the options and words that clap found for it
 unfoldable pub Says : Text → List Row → Line → Type 0
-Says name rows Blobs = name ≡ codes "blobs"
-Says name rows (Try revision done force explain) = (name ≡ codes "try") × (AreFeatures rows done force
-    × (IsFlag (codes "explain") rows explain × IsWord (codes "rev") rows revision))
-Says name rows (Check done force explain) = (name ≡ codes "check")
-    × (AreFeatures rows done force × IsFlag (codes "explain") rows explain)
-Says name rows (Adapt drop_signatures) = (name ≡ codes "adapt") × IsFlag (codes "drop-signatures") rows drop_signatures
-Says name rows (Where command) = (name ≡ codes "where")
-    × (IsFlag (codes "fault") rows false × IsNumber (codes "number") rows (Some command))
-Says name rows (WhereFault done force) = (name ≡ codes "where") × (IsFlag (codes "fault") rows true × AreFeatures rows done force)
-Says name rows (Init file growing wait) = (name ≡ codes "init") × (IsFlag (codes "growing") rows growing
-    × (IsWord (codes "file") rows file × IsWait rows wait))
-Says name rows (Grow file wait) = (name ≡ codes "grow") × (IsWord (codes "file") rows file × IsWait rows wait)
+Says name rows (Ask file question) = IsWord (codes "file") rows file × Asks name rows question
+Says name rows (Change file wait change) = IsWord (codes "file") rows file × (IsWait rows wait × Alters name rows change)
+Says name rows (Stream trial) = Tries name rows trial
 Says name rows (Verify file salvage) = (name ≡ codes "verify") × (IsOption (codes "salvage") rows salvage × IsWord (codes "file") rows file)
-Says name rows (Import file done force report explain wait) = (name ≡ codes "import") × (AreFeatures rows done force
-    × (AreTold rows report explain × (IsWord (codes "file") rows file × (IsWait rows wait × (first_of (codes "push") rows ≡ None)))))
-Says name rows (Push file push done report explain wait) = (name ≡ codes "import") × (AreFeatures rows done false
-    × (AreTold rows report explain × (IsWord (codes "file") rows file × (IsWait rows wait × IsWord (codes "push") rows push))))
-Says name rows (Drop file refs stdin wait) = (name ≡ codes "drop") × (IsFlag (codes "stdin") rows stdin
-    × (IsWord (codes "file") rows file × (AreAnyWords (codes "ref") rows refs.items × IsWait rows wait)))
-Says name rows (SetRef file change force wait) = (name ≡ codes "set-ref") × (IsRefChange rows change
-    × (IsFlag (codes "force") rows force × (IsWord (codes "file") rows file × IsWait rows wait)))
-Says name rows (Put file stamp wait) = (name ≡ codes "put") × (IsWord (codes "expect-stamp") rows stamp
-    × (IsWord (codes "file") rows file × IsWait rows wait))
-Says name rows (Gc file report keep wait) = (name ≡ codes "gc") × (IsFlag (codes "report") rows report
-    × (IsOption (codes "keep") rows keep × (IsWord (codes "file") rows file × IsWait rows wait)))
-Says name rows (Export form file) = (name ≡ codes "export")
-    × (IsForm rows form × (IsWord (codes "file") rows file × (all_of (codes "range") rows ≡ None)))
-Says name rows (ExportRange done file ranges) = (name ≡ codes "export")
-    × (IsForm rows (Changes done) × (IsWord (codes "file") rows file × AreWords (codes "range") rows ranges.items))
-Says name rows (Show file revision) = (name ≡ codes "show")
-    × (IsWord (codes "file") rows file × IsWord (codes "rev") rows revision)
-Says name rows (Ls recursive file revision) = (name ≡ codes "ls") × (IsFlag (codes "recursive") rows recursive
-    × (IsWord (codes "file") rows file × IsWord (codes "rev") rows revision))
-Says name rows (Archive prefix file revision) = (name ≡ codes "archive") × (IsText (codes "prefix") rows prefix
-    × (IsWord (codes "file") rows file × IsWord (codes "rev") rows revision))
-Says name rows (Batch form format nul file) = (name ≡ codes "batch") × (IsBatchForm rows form
-    × (IsOption (codes "format") rows format × (IsFlag (codes "nul") rows nul × IsWord (codes "file") rows file)))
-Says name rows (Refs file) = (name ≡ codes "refs") × IsWord (codes "file") rows file
-Says name rows (Log options file ranges) = (name ≡ codes "log") × (AreLogOptions rows options
-    × (IsWord (codes "file") rows file × AreAnyWords (codes "range") rows ranges.items))
-Says name rows (RevParse file revisions) = (name ≡ codes "rev-parse")
-    × (IsWord (codes "file") rows file × AreWords (codes "rev") rows revisions.items)
 
 -- the commands that read a stream and keep nothing
 abbrev pub stream_names : List Text
 stream_names = codes "blobs" ∷ codes "try" ∷ codes "check" ∷ codes "adapt" ∷ codes "where" ∷ []
 
--- the commands on a store, without those with a list of words
-abbrev pub store_names : List Text
-store_names = codes "init" ∷ codes "grow" ∷ codes "verify" ∷ codes "import" ∷ codes "set-ref" ∷ codes "put" ∷ codes "gc" ∷ codes "export" ∷ codes "refs" ∷ codes "show" ∷ codes "ls"
-    ∷ codes "archive" ∷ codes "batch" ∷ []
+-- the commands that change a store
+abbrev pub change_names : List Text
+change_names = codes "init" ∷ codes "grow" ∷ codes "import" ∷ codes "drop" ∷ codes "set-ref" ∷ codes "put" ∷ codes "gc" ∷ []
 
 -- the name is none of these
 abbrev pub IsNoneOf : List Text → Text → Type 0

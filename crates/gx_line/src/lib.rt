@@ -4,5 +4,5 @@
 mod command_line;
 mod fault;
 
-pub use command_line::{BatchForm, ExportForm, Line, LogFormat, LogOptions, RefChange, read_line};
+pub use command_line::{Line, read_line};
 pub use fault::LineFault;

@@ -165,7 +165,8 @@ pub fn append_entry<A: Allocator + Copy>(
     component: &[u8],
     name: &Name,
 ) -> Result<(), AllocError>
-    ensures text { GrowsBy body.old body.new (entry_text (entry_of mode component.now name.now)) result }
+    ensures text { GrowsBy body.old body.new
+        (entry_text (entry_of mode component.now name.now)) result }
     ensures unchanged { OnErr result (body.new.items ≡ body.old.items) }
     ensures name { OnOk result (IsTrue (is_name name.now.bytes)) }
 {

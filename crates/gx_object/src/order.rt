@@ -124,7 +124,8 @@ pub fn compare_marked(
     second: &[u8],
     second_mark: &[u8],
 ) -> Ordering
-    ensures { result ≡ slice_cmp nat_cmp (first.now ++ first_mark.now) (second.now ++ second_mark.now) }
+    ensures { result ≡ slice_cmp nat_cmp (first.now ++ first_mark.now)
+        (second.now ++ second_mark.now) }
 {
     let both = first.len().min(second.len());
     match first[..both].cmp(&second[..both]) {
@@ -137,7 +138,8 @@ pub fn compare_marked(
 
 /// The same byte by byte.
 fn compare_rests(first: &[u8], first_mark: &[u8], second: &[u8], second_mark: &[u8]) -> Ordering
-    ensures { result ≡ slice_cmp nat_cmp (first.now ++ first_mark.now) (second.now ++ second_mark.now) }
+    ensures { result ≡ slice_cmp nat_cmp (first.now ++ first_mark.now)
+        (second.now ++ second_mark.now) }
 {
     let text = first.iter().chain(first_mark.iter());
     text.cmp(second.iter().chain(second_mark.iter()))

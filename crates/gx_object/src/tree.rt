@@ -37,7 +37,8 @@ pub fn encode_tree_into<A: Allocator + Copy>(
 ) -> Result<(), AllocError>
     requires { IsTrue (is_canonical (map shown entries.now)) }
     ensures text { OnOk result (IsTreeText (map shown entries.now) body.new.items) }
-    ensures front { OnErr result ((n : ℕ) × (body.new.items ≡ tree_text (map shown (take n entries.now)))) }
+    ensures front { OnErr result
+        ((n : ℕ) × (body.new.items ≡ tree_text (map shown (take n entries.now)))) }
 {
     body.clear();
     for entry in entries {
@@ -85,8 +86,10 @@ impl<'a> TreeEntries<'a> {
     /// Cost: the text's length; no entry is read. Takes no memory.
     pub fn pass(&mut self, text: &[u8]) -> bool
         requires text { (entry : TreeEntry) × IsEntryText entry text.now }
-        ensures passed { IsTrue result → (entry : TreeEntry) → IsEntryText entry text.now → self.old ≡ entry ∷ self.new }
-        ensures met { (entry : TreeEntry) → (left : List TreeEntry) → IsEntryText entry text.now → self.old ≡ entry ∷ left → IsTrue result }
+        ensures passed { IsTrue result → (entry : TreeEntry) → IsEntryText entry text.now → self.old
+            ≡ entry ∷ self.new }
+        ensures met { (entry : TreeEntry) → (left : List TreeEntry) → IsEntryText entry text.now
+            → self.old ≡ entry ∷ left → IsTrue result }
         ensures unchanged { IsFalse result → self.new ≡ self.old }
     {
         match self.rest.strip_prefix(text) {

@@ -47,7 +47,8 @@ impl<'a> TreeReader<'a> {
     /// Begins with the first entry. Takes no memory.
     pub fn new(body: &'a [u8]) -> TreeReader<'a>
         ensures found { IfSome result.entries (λ entries. IsTreeText entries body.now) }
-        ensures only { (entries : List TreeEntry) → IsTreeText entries body.now → result.entries ≡ Some entries }
+        ensures only { (entries : List TreeEntry) → IsTreeText entries body.now → result.entries
+            ≡ Some entries }
     {
         TreeReader {
             rest: body,
@@ -62,8 +63,11 @@ impl<'a> TreeReader<'a> {
     /// Cost: the length of the entry and of the one before it; for each file whose component has 4,096 bytes or more, which
     /// no path leads to, the length of the entries after it whose components begin with its own. Takes no memory.
     pub fn read(&mut self) -> Result<Option<(Entry<'a>, &'a [u8])>, BadObject>
-        ensures next { IfOk result (λ found. IfSome found (λ next. self.old.entries ≡ option_map (λ left. shown next.0 ∷ left) self.new.entries)) }
-        ensures text { IfOk result (λ found. IfSome found (λ next. IsEntryText (shown next.0) next.1.now)) }
+        ensures next { IfOk result
+            (λ found. IfSome found (λ next. self.old.entries
+            ≡ option_map (λ left. shown next.0 ∷ left) self.new.entries)) }
+        ensures text { IfOk result
+            (λ found. IfSome found (λ next. IsEntryText (shown next.0) next.1.now)) }
         ensures most { IfOk result (λ found. IfSome found (λ _. self.new.most < self.old.most)) }
         ensures end { IfOk result (λ found. IfNone found (self.old.entries ≡ Some [])) }
         ensures fault { OnErr result (self.old.entries ≡ None) }
@@ -122,7 +126,8 @@ fn leads(files: &mut EarlierFiles, first: &Entry<'_>, next: &Entry<'_>, after: &
 
 /// Whether a file whose component is too long to be remembered stands again behind itself.
 fn is_long_repeated(first: &Entry<'_>, next: &Entry<'_>, after: &[u8]) -> bool
-    ensures { AreEntries after.now → result ≡ is_long_repeated (shown first.now) (shown next.now ∷ entries_left after.now) }
+    ensures { AreEntries after.now → result
+        ≡ is_long_repeated (shown first.now) (shown next.now ∷ entries_left after.now) }
 {
     first.component.len() >= MOST && is_front(first, next) && meets(first.component, next, after)
 }

@@ -1,5 +1,5 @@
 -- What is answered of objects and refs, in words of the repository that they are of.
-use Rattle.std.specs.Prelude.{◌≡◌, ℕ, ◌<◌, List, Option, Some, None, Result, IfErr, IfOk, IfSome, IsTrue}
+use Rattle.std.specs.Prelude.{◌≡◌, ℕ, ◌<◌, Bool, List, Option, Some, None, Result, IfErr, IfOk, IfSome, IsTrue, ⊤}
 use Rattle.std.specs.Borrow.{Bor}
 use Rattle.std.specs.FinMap.Entries.{is_sorted}
 use Rattle.std.specs.List.{AllByRecursion, flat_map, list_all}
@@ -19,7 +19,7 @@ use Rattle.gx_store.specs.Prefixes.{prefix_of}
 use Rattle.gx_store.specs.Stores.{place_named}
 use Rattle.gx_store.specs.declared.prefix.Prefix.{Prefix}
 use Rattle.gx_objects.specs.declared.fault.LookFault.{LookFault}
-use Rattle.gx_objects.specs.declared.fault.LookFault.TheVariants.{Damaged}
+use Rattle.gx_objects.specs.declared.fault.LookFault.TheVariants.{Damaged, OutOfMemory, ReadFailed}
 use Rattle.gx_objects.specs.declared.objects.Object.{Object}
 
 -- what is answered holds of the repository that is told
@@ -29,6 +29,25 @@ Tells told Fact result = IfSome told (λ r. IfOk result (Fact r))
 -- only of what tells no repository it is answered that it is damaged
 abbrev pub OnlyUntold : {T : Type 0} → Option Records → Result T LookFault → Type 0
 OnlyUntold told result = IfErr result (λ fault. fault ≡ Damaged → told ≡ None)
+
+-- a fault that needs neither memory nor a read
+abbrev pub IsOfDamage : LookFault → Type 0
+IsOfDamage OutOfMemory = ⊥
+IsOfDamage ReadFailed = ⊥
+IsOfDamage Damaged = ⊤
+
+-- what is sure of its answers answers damage alone: no memory is wanted, and no read fails
+abbrev pub OnlyDamaged : {T : Type 0} → Bool → Result T LookFault → Type 0
+OnlyDamaged sure result = IsTrue sure → IfErr result IsOfDamage
+
+-- a fault that needs no read
+abbrev pub IsOfNoRead : LookFault → Type 0
+IsOfNoRead ReadFailed = ⊥
+IsOfNoRead fault = ⊤
+
+-- of what is sure of its answers no read fails
+abbrev pub NeverUnread : {T : Type 0} → Bool → Result T LookFault → Type 0
+NeverUnread sure result = IsTrue sure → IfErr result IsOfNoRead
 
 -- an object, without where its body stands
 abbrev pub shown_object : Object → Kind × Bytes

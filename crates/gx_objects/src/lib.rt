@@ -4,7 +4,9 @@
 
 mod fault;
 mod objects;
+mod ref_line;
 mod repository;
 
 pub use fault::LookFault;
 pub use objects::{Object, Objects};
+pub use ref_line::put_ref;

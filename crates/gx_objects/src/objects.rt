@@ -1,12 +1,12 @@
 //! What objects and refs are asked of.
 
-ghost use Rattle.std.specs.Prelude.{ℕ, length, IfOk, IfSome, Option};
+ghost use Rattle.std.specs.Prelude.{ℕ, length, Bool, false, IfOk, IfSome, Option};
 ghost use Rattle.gx_model.specs.declared.objects.Kind.{Kind};
 ghost use Rattle.gx_model.specs.Histories.{Records};
 ghost use Rattle.gx_model.specs.Objects.{IsNamer};
 ghost use Rattle.gx_model.specs.Records.Sound.{IsSound};
 ghost use Rattle.gx_model.specs.Texts.{Bytes};
-ghost use Rattle.gx_objects.specs.Answers.{AreRefLines, FindsBegun, FindsRef, GoesUp, Holds, IsHeldThere, IsNamed, IsNamedAs, OnlyUntold, SpellsRefs, StandsIfTold, StandsThere, Tells};
+ghost use Rattle.gx_objects.specs.Answers.{AreRefLines, FindsBegun, FindsRef, GoesUp, Holds, IsHeldThere, IsNamed, IsNamedAs, NeverUnread, OnlyDamaged, OnlyUntold, SpellsRefs, StandsIfTold, StandsThere, Tells};
 
 use crate::LookFault;
 use gx_object::{Kind, Name};
@@ -34,6 +34,9 @@ pub trait Objects {
     /// Where the object of each number stands, in the order in which they were added.
     ghost stands: { Self → ℕ → ℕ };
 
+    /// Whether an answer is had without a read and without memory, as of what stands in memory as it is shown.
+    ghost sure: { Self → Bool } = { λ _. false };
+
     /// A repository that is told is sound, its objects stand one behind the other, and a name has 20 bytes. Takes no memory.
     fn sound_if_told(&self)
         ensures sound { IfSome (told self.now) (IsSound (name_of self.now)) }
@@ -52,15 +55,18 @@ pub trait Objects {
     ) -> Result<Option<Object<'a>>, LookFault>
         ensures held { Tells (told self.now) (Holds name.now.bytes) result }
         ensures named { IfOk result (IsNamed (name_of self.now) name.now.bytes) }
-        ensures fault { OnlyUntold (told self.now) result };
+        ensures fault { OnlyUntold (told self.now) result }
+        ensures sure { OnlyDamaged (sure self.now) result };
 
     /// The place of the object of a name: places go up in the order in which objects were added, so that an object stands
     /// behind all that it names.
     ///
     /// ReadFailed and Damaged are those of `object`. Takes no memory. Source: gitglossary(7), "object name".
     fn place(&self, name: &Name) -> Result<Option<u64>, LookFault>
-        ensures place { Tells (told self.now) (StandsThere (stands self.now) name.now.bytes) result }
-        ensures fault { OnlyUntold (told self.now) result };
+        ensures place { Tells (told self.now)
+            (StandsThere (stands self.now) name.now.bytes) result }
+        ensures fault { OnlyUntold (told self.now) result }
+        ensures sure { OnlyDamaged (sure self.now) result };
 
     /// The object of a name whose place is known, as `object` has it. Where another object stands there, it is `Damaged`.
     fn object_at<'a, A: Allocator + Copy>(
@@ -72,14 +78,16 @@ pub trait Objects {
         requires there { StandsIfTold (told self.now) (stands self.now) name.now.bytes place }
         ensures held { Tells (told self.now) (IsHeldThere name.now.bytes) result }
         ensures named { IfOk result (IsNamedAs (name_of self.now) name.now.bytes) }
-        ensures fault { OnlyUntold (told self.now) result };
+        ensures fault { OnlyUntold (told self.now) result }
+        ensures sure { OnlyDamaged (sure self.now) result };
 
     /// The name that begins with these digits, of either case, where they begin one alone.
     ///
     /// ReadFailed and Damaged are those of `object`. Takes no memory. Source: gitrevisions(7), "sha1".
     fn by_digits(&self, digits: &[u8]) -> Result<Prefix, LookFault>
         ensures name { Tells (told self.now) (FindsBegun digits.now) result }
-        ensures fault { OnlyUntold (told self.now) result };
+        ensures fault { OnlyUntold (told self.now) result }
+        ensures sure { OnlyDamaged (sure self.now) result };
 
     /// The object of the first ref among the name itself, and the name after `refs/`, `refs/tags/`, `refs/heads/` and
     /// `refs/remotes/`, and after `refs/remotes/` with `/HEAD` behind it.
@@ -87,7 +95,8 @@ pub trait Objects {
     /// ReadFailed and Damaged are those of `object`. Takes no memory. Source: gitrevisions(7), "refname".
     fn object_of_ref(&self, name: &[u8]) -> Result<Option<Name>, LookFault>
         ensures object { Tells (told self.now) (FindsRef name.now) result }
-        ensures fault { OnlyUntold (told self.now) result };
+        ensures fault { OnlyUntold (told self.now) result }
+        ensures sure { OnlyDamaged (sure self.now) result };
 
     /// A line for each ref, in the byte order of their names: the digits of its object, a space, and its name. They are lent
     /// from where they stand or from the room. Whatever is told, they are so: names are ref names, and each stands once.
@@ -100,5 +109,6 @@ pub trait Objects {
     ) -> Result<&'a [u8], LookFault>
         ensures lines { Tells (told self.now) AreRefLines result }
         ensures spelled { IfOk result (λ lines. SpellsRefs lines.now) }
-        ensures fault { OnlyUntold (told self.now) result };
+        ensures fault { OnlyUntold (told self.now) result }
+        ensures sure { NeverUnread (sure self.now) result };
 }

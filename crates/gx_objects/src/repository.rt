@@ -1,14 +1,14 @@
 //! A repository in memory.
 
-ghost use Rattle.std.specs.Prelude.{◌≡◌, ◌++◌, IfOk, IsOk, OnOk, Some};
-ghost use Rattle.gx_model.specs.Stores.StoreText.{stored_ref};
-ghost use Rattle.gx_objects.specs.Answers.{AreRefLines, FindsBegun, FindsRef, Holds, IsHeldThere, IsNamed, IsNamedAs, OnlyUntold, SpellsRefs, StandsIfTold, StandsThere, Tells};
+ghost use Rattle.std.specs.Prelude.{true, IfOk, Some};
+ghost use Rattle.gx_objects.specs.Answers.{AreRefLines, FindsBegun, FindsRef, Holds, IsHeldThere, IsNamed, IsNamedAs, NeverUnread, OnlyDamaged, OnlyUntold, SpellsRefs, StandsIfTold, StandsThere, Tells};
 
+use crate::ref_line::put_ref;
 use crate::{LookFault, Object, Objects};
 use gx_object::{Name, Namer};
 use gx_repo::Repo;
 use gx_store::Prefix;
-use std::alloc::{AllocError, Allocator};
+use std::alloc::Allocator;
 
 impl<N: Namer, B: Allocator + Copy> Objects for Repo<N, B> {
     ghost name_of = { λ repo. N.name_of repo.0 };
@@ -16,6 +16,8 @@ impl<N: Namer, B: Allocator + Copy> Objects for Repo<N, B> {
     ghost told = { λ repo. Some repo.1 };
 
     ghost stands = { λ _ number. number };
+
+    ghost sure = { λ _. true };
 
     fn sound_if_told(&self) {
         self.sound();
@@ -30,7 +32,7 @@ impl<N: Namer, B: Allocator + Copy> Objects for Repo<N, B> {
         ensures held { Tells (Some self.now.1) (Holds name.now.bytes) result }
         ensures named { IfOk result (IsNamed (N.name_of self.now.0) name.now.bytes) }
         ensures fault { OnlyUntold (Some self.now.1) result }
-        ensures told { IsOk result }
+        ensures sure { OnlyDamaged true result }
     {
         self.sound();
         match self.store().get(name) {
@@ -40,9 +42,10 @@ impl<N: Namer, B: Allocator + Copy> Objects for Repo<N, B> {
     }
 
     fn place(&self, name: &Name) -> Result<Option<u64>, LookFault>
-        ensures place { Tells (Some self.now.1) (StandsThere (λ number. number) name.now.bytes) result }
+        ensures place { Tells (Some self.now.1)
+            (StandsThere (λ number. number) name.now.bytes) result }
         ensures fault { OnlyUntold (Some self.now.1) result }
-        ensures told { IsOk result }
+        ensures sure { OnlyDamaged true result }
     {
         match self.store().place(name) {
             Some(place) => Ok(Some(place as u64)),
@@ -60,7 +63,7 @@ impl<N: Namer, B: Allocator + Copy> Objects for Repo<N, B> {
         ensures held { Tells (Some self.now.1) (IsHeldThere name.now.bytes) result }
         ensures named { IfOk result (IsNamedAs (N.name_of self.now.0) name.now.bytes) }
         ensures fault { OnlyUntold (Some self.now.1) result }
-        ensures told { IsOk result }
+        ensures sure { OnlyDamaged true result }
     {
         self.sound();
         match self.store().record(place as usize) {
@@ -72,7 +75,7 @@ impl<N: Namer, B: Allocator + Copy> Objects for Repo<N, B> {
     fn by_digits(&self, digits: &[u8]) -> Result<Prefix, LookFault>
         ensures name { Tells (Some self.now.1) (FindsBegun digits.now) result }
         ensures fault { OnlyUntold (Some self.now.1) result }
-        ensures told { IsOk result }
+        ensures sure { OnlyDamaged true result }
     {
         Ok(self.store().by_prefix(digits))
     }
@@ -85,6 +88,7 @@ impl<N: Namer, B: Allocator + Copy> Objects for Repo<N, B> {
         ensures lines { Tells (Some self.now.1) AreRefLines result }
         ensures spelled { IfOk result (λ lines. SpellsRefs lines.now) }
         ensures fault { OnlyUntold (Some self.now.1) result }
+        ensures sure { NeverUnread true result }
     {
         self.sound();
         room.clear();
@@ -97,26 +101,11 @@ impl<N: Namer, B: Allocator + Copy> Objects for Repo<N, B> {
     fn object_of_ref(&self, name: &[u8]) -> Result<Option<Name>, LookFault>
         ensures object { Tells (Some self.now.1) (FindsRef name.now) result }
         ensures fault { OnlyUntold (Some self.now.1) result }
-        ensures told { IsOk result }
+        ensures sure { OnlyDamaged true result }
     {
         match self.find_ref(name) {
             Ok(found) => Ok(found),
             Err(_) => unreachable!(),
         }
     }
-}
-
-/// Appends the line of a ref.
-fn put_ref<A: Allocator>(
-    lines: &mut Vec<u8, A>,
-    name: &[u8],
-    object: &Name,
-) -> Result<(), AllocError>
-    ensures { OnOk result (lines.new.items ≡ lines.old.items ++ stored_ref (name.now, object.now.bytes)) }
-{
-    lines.extend_from_slice(object.hex().as_slice())?;
-    lines.push(b' ')?;
-    lines.extend_from_slice(name)?;
-    lines.push(b'\n')?;
-    Ok(())
 }

@@ -28,7 +28,8 @@ pub trait System: Drop {
 
     /// What an open file is.
     fn look_at(&mut self, file: &Self::File) -> io::Result<Look>
-        ensures told { Makes (LookedAt (number file.now) result) (calls self.old) (calls self.new) };
+        ensures told { Makes (LookedAt (number file.now) result)
+            (calls self.old) (calls self.new) };
 
     /// What a path names, which may be a link.
     fn look_at_name(&mut self, path: &str) -> io::Result<Look>

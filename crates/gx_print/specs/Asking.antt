@@ -9,8 +9,8 @@ use Rattle.std.specs.Option.{option_map}
 use Rattle.gx_model.specs.declared.faults.Fault.{Fault}
 use Rattle.gx_model.specs.Objects.{line}
 use Rattle.gx_model.specs.Texts.{Bytes, cut_at, same_bytes}
-use Rattle.gx_line.specs.declared.command_line.LogFormat.TheVariants.{Names}
-use Rattle.gx_line.specs.declared.command_line.LogOptions.{LogOptions}
+use Rattle.gx_asks.specs.declared.question.LogFormat.TheVariants.{Names}
+use Rattle.gx_asks.specs.declared.question.LogOptions.{LogOptions}
 use Rattle.gx_print.specs.Stored.{Printed, of_word}
 use Rattle.gx_print.specs.Words.{word_at, words_in}
 use Rattle.gx_print.specs.declared.asked.Asked.{Asked as Line}

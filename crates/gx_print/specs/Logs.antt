@@ -14,9 +14,9 @@ use Rattle.gx_model.specs.Revisions.{RangeWord, range_of}
 use Rattle.gx_model.specs.Revisions.Ranges.{Word, WordFault, each_word, listing, with_ancestors, words_denoted}
 use Rattle.gx_object.specs.declared.name.Name.{Name}
 use Rattle.gx_rev.specs.Objects.{IsHeldAs}
-use Rattle.gx_line.specs.declared.command_line.LogFormat.{LogFormat}
-use Rattle.gx_line.specs.declared.command_line.LogFormat.TheVariants.{Author, Dates, Names, Oneline, Raw, Subject}
-use Rattle.gx_line.specs.declared.command_line.LogOptions.{LogOptions}
+use Rattle.gx_asks.specs.declared.question.LogFormat.{LogFormat}
+use Rattle.gx_asks.specs.declared.question.LogFormat.TheVariants.{Author, Dates, Names, Oneline, Raw, Subject}
+use Rattle.gx_asks.specs.declared.question.LogOptions.{LogOptions}
 use Rattle.gx_print.specs.Identities.{name_and_email, seconds_in}
 use Rattle.gx_print.specs.Messages.{indented, subject, trimmed}
 use Rattle.gx_print.specs.Stored.{Printed, all_words}

@@ -4,9 +4,9 @@ ghost use Rattle.std.specs.Prelude.{◌≡◌, ◌++◌, IfOk, OnOk};
 ghost use Rattle.std.specs.List.{flat_map};
 ghost use Rattle.gx_print.specs.Listings.{entry_line};
 
-use crate::printing::put_printed;
 use gx_object::{Mode, Name, TreeEntries};
 use gx_rev::put_entry_head;
+use gx_text::put_printed;
 use std::alloc::{AllocError, Allocator};
 
 /// The lines of a tree's entries.

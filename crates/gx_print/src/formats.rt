@@ -8,7 +8,7 @@ ghost use Rattle.gx_print.specs.Messages.{indented, subject, trimmed};
 
 use crate::identities::{email_in, name_in, seconds_in};
 use crate::messages::{put_indented, put_subject, trimmed};
-use gx_line::{LogFormat, LogOptions};
+use gx_asks::{LogFormat, LogOptions};
 use gx_object::{CommitView, Name};
 use std::alloc::{AllocError, Allocator};
 

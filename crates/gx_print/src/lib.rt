@@ -8,12 +8,12 @@ mod formats;
 mod identities;
 mod messages;
 mod names;
-mod printing;
+mod paths;
 mod words;
 
 pub use asked::{Asked, read_asked};
 pub use entries::{listing, put_line};
 pub use formats::{gap, put_commit};
 pub use names::shown_line;
-pub use printing::{printed_path, put_printed};
+pub use paths::printed_path;
 pub use words::{add_lines, read_ranges, read_revisions, texts_of, word_at, words_in};

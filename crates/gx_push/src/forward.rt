@@ -61,7 +61,8 @@ pub(crate) fn is_forward<N: Namer, A: Allocator + Copy>(
 ) -> Result<bool, AllocError>
     requires holds { HoldsParents repo.now.1 parents.old }
     ensures holds { HoldsParents repo.now.1 parents.new }
-    ensures forward { IfOk result (λ forward. forward ≡ is_forward repo.now.1 old.now.bytes new.now.bytes) }
+    ensures forward { IfOk result
+        (λ forward. forward ≡ is_forward repo.now.1 old.now.bytes new.now.bytes) }
 {
     let Some(lost) = repo.peel(old) else {
         return Ok(false);

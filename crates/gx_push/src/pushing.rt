@@ -57,10 +57,12 @@ pub fn push<N: Namer + Drop, A: Allocator + Copy, R: Source + Drop, W: Sink>(
     ensures namer { IfOk result (λ pushed. pushed.repo.0 ≡ repo.0) }
     ensures pushed { Pushes (N.name_of repo.0) done repo.1 (texts lines.now) (R.coming source)
         (W.taken sink.old) (W.taken sink.new) (answer_of result) }
-    ensures explained { Explains (N.name_of repo.0) done repo.1 (R.coming source) (answer_of result) told.new }
+    ensures explained { Explains (N.name_of repo.0) done repo.1 (R.coming source)
+        (answer_of result) told.new }
     ensures retold { R.coming source ≡ None → Retells (N.name_of repo.0) done repo.1
         (W.taken sink.old) (W.taken sink.new) (answer_of result) told.new }
-    ensures changes { IfOk result (λ pushed. IsReport repo.1.refs pushed.repo.1.refs pushed.changes.items) }
+    ensures changes { IfOk result
+        (λ pushed. IsReport repo.1.refs pushed.repo.1.refs pushed.changes.items) }
     ensures sound { IfOk result (λ pushed. IsSound (N.name_of repo.0) pushed.repo.1) }
 {
     *told = Explanation::none();
@@ -87,8 +89,10 @@ fn left_by<N: Namer + Drop, A: Allocator + Copy>(
 ) -> Result<Pushed<N, A>, PushFault>
     requires { (lines : List Bytes) × AreWants before.now lines wants.now }
     ensures namer { IfOk result (λ pushed. pushed.repo.0 ≡ repo.0) }
-    ensures settled { Settles before.now repo.1 (shown_wants wants.now.list.items) (Ok report) (answer_of result) }
-    ensures changes { IfOk result (λ pushed. IsReport before.now pushed.repo.1.refs pushed.changes.items) }
+    ensures settled { Settles before.now repo.1 (shown_wants wants.now.list.items) (Ok report)
+        (answer_of result) }
+    ensures changes { IfOk result
+        (λ pushed. IsReport before.now pushed.repo.1.refs pushed.changes.items) }
     ensures sound { IfOk result (λ pushed. IsSound (N.name_of repo.0) pushed.repo.1) }
 {
     let mut repo = repo;

@@ -49,7 +49,8 @@ fn setting_of<'a>(
     second: Option<&[u8]>,
 ) -> Option<Setting<'a>>
     ensures { option_map shown_setting result ≡ setting_of verb.now name.now
-        (option_map (λ digits. digits.now) first.entry) (option_map (λ digits. digits.now) second.entry) }
+        (option_map (λ digits. digits.now) first.entry)
+        (option_map (λ digits. digits.now) second.entry) }
 {
     let (old, after) = if verb == b"update".as_slice() {
         updated(first?, second)?
@@ -67,7 +68,8 @@ fn setting_of<'a>(
 
 /// Zeros as the new object remove the ref. Without an old one it may be anything before.
 fn updated(new: &[u8], old: Option<&[u8]>) -> Option<(Option<Option<Name>>, After)>
-    ensures { option_map shown_moves result ≡ updated new.now (option_map (λ digits. digits.now) old.entry) }
+    ensures { option_map shown_moves result
+        ≡ updated new.now (option_map (λ digits. digits.now) old.entry) }
 {
     let after = match value_in(new)? {
         Some(object) => After::Object(object),
@@ -81,7 +83,8 @@ fn updated(new: &[u8], old: Option<&[u8]>) -> Option<(Option<Option<Name>>, Afte
 
 /// There is no such ref before.
 fn created(new: &[u8], more: Option<&[u8]>) -> Option<(Option<Option<Name>>, After)>
-    ensures { option_map shown_moves result ≡ created new.now (option_map (λ digits. digits.now) more.entry) }
+    ensures { option_map shown_moves result
+        ≡ created new.now (option_map (λ digits. digits.now) more.entry) }
 {
     match (value_in(new)?, more) {
         (Some(object), None) => Some((Some(None), After::Object(object))),
@@ -92,7 +95,8 @@ fn created(new: &[u8], more: Option<&[u8]>) -> Option<(Option<Option<Name>>, Aft
 /// Without an old object the ref may be anything before, or not be there.
 fn deleted(old: Option<&[u8]>, more: Option<&[u8]>) -> Option<(Option<Option<Name>>, After)>
     ensures { option_map shown_moves result
-        ≡ deleted (option_map (λ digits. digits.now) old.entry) (option_map (λ digits. digits.now) more.entry) }
+        ≡ deleted (option_map (λ digits. digits.now) old.entry)
+        (option_map (λ digits. digits.now) more.entry) }
 {
     match (old, more) {
         (None, None) => Some((None, After::Gone)),
@@ -107,7 +111,8 @@ fn deleted(old: Option<&[u8]>, more: Option<&[u8]>) -> Option<(Option<Option<Nam
 /// Without an old object there is no such ref.
 fn verified(old: Option<&[u8]>, more: Option<&[u8]>) -> Option<(Option<Option<Name>>, After)>
     ensures { option_map shown_moves result
-        ≡ verified (option_map (λ digits. digits.now) old.entry) (option_map (λ digits. digits.now) more.entry) }
+        ≡ verified (option_map (λ digits. digits.now) old.entry)
+        (option_map (λ digits. digits.now) more.entry) }
 {
     match (old, more) {
         (None, None) => Some((Some(None), After::Same)),

@@ -55,7 +55,8 @@ fn remove<N: Namer, A: Allocator + Copy>(
     repo: &mut Repo<N, A>,
     settings: &[Setting<'_>],
 ) -> Result<(), SetFault>
-    requires { (lines : List Bytes) × (forced : Bool) × (sets_in forced repo.old.1 lines ≡ Ok (shown_settings settings.now)) }
+    requires { (lines : List Bytes) × (forced : Bool)
+        × (sets_in forced repo.old.1 lines ≡ Ok (shown_settings settings.now)) }
     ensures namer { repo.new.0 ≡ repo.old.0 }
     ensures removed { IfOk result (λ _. repo.new.1 ≡ with_refs repo.old.1
         (without (removed repo.old.1.refs (shown_settings settings.now)) repo.old.1.refs)) }
@@ -103,7 +104,8 @@ fn set<N: Namer, A: Allocator + Copy>(
     repo: &mut Repo<N, A>,
     settings: &[Setting<'_>],
 ) -> Result<(), SetFault>
-    requires { changes_fault repo.old.1.records (filter_map change_in (shown_settings settings.now)) ≡ None }
+    requires { changes_fault repo.old.1.records (filter_map change_in (shown_settings settings.now))
+        ≡ None }
     ensures namer { repo.new.0 ≡ repo.old.0 }
     ensures set { IfOk result (λ _. repo.new.1 ≡ with_refs repo.old.1
         (with_changes repo.old.1.refs (filter_map change_in (shown_settings settings.now)))) }

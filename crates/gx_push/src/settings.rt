@@ -6,7 +6,7 @@ ghost use Rattle.gx_object.specs.Parts.{bytes_if};
 ghost use Rattle.gx_rev.specs.Parents.{HoldsParents};
 ghost use Rattle.gx_model.specs.Records.Growth.{record_named};
 ghost use Rattle.gx_model.specs.Records.Publishing.{change_fault};
-ghost use Rattle.gx_repo.specs.Refs.{HasTagParts, TellsOwnRef, object_named};
+ghost use Rattle.gx_repo.specs.Refs.{object_named};
 ghost use Rattle.gx_model.specs.Stores.StoreReading.{is_target_of_kind};
 ghost use Rattle.gx_push.specs.Calls.{AllowsLine, ReadsSets, set_refused, texts};
 ghost use Rattle.gx_push.specs.Settings.{after_fault, becomes, is_before, move_fault, ref_fault, shown_after, shown_setting};
@@ -15,8 +15,8 @@ ghost use Rattle.gx_push.specs.declared.settings.Against.TheVariants.{OutOfMemor
 use crate::fault::{RefFault, SetFault};
 use crate::forward::is_forward;
 use crate::setting::{After, Setting, setting_in};
-use gx_object::{Kind, Name, Namer, decode_tag};
-use gx_repo::Repo;
+use gx_object::{Name, Namer};
+use gx_repo::{Repo, is_target};
 use gx_rev::Parents;
 use gx_text::is_ref_name;
 use std::alloc::{AllocError, Allocator};
@@ -188,7 +188,8 @@ fn target_fault<N: Namer, A: Allocator + Copy>(
     name: &[u8],
     object: &Name,
 ) -> Option<RefFault>
-    ensures { result ≡ option_map ref_fault (change_fault repo.now.1.records (name.now, object.now.bytes)) }
+    ensures { result ≡ option_map ref_fault
+        (change_fault repo.now.1.records (name.now, object.now.bytes)) }
 {
     if !is_ref_name(name) {
         return Some(RefFault::BadRefName);
@@ -211,25 +212,4 @@ fn may_hold<N: Namer, A: Allocator + Copy>(
 {
     let (kind, body) = repo.store().get(object)?;
     Some(is_target(name, kind, body))
-}
-
-/// Whether a ref may hold an object of this kind and body: a commit, or a tag whose own name makes the ref's.
-fn is_target(name: &[u8], kind: Kind, body: &[u8]) -> bool
-    ensures { HasTagParts kind body.now → result ≡ is_target_of_kind name.now kind body.now }
-{
-    match kind {
-        Kind::Commit => true,
-        Kind::Tag => is_own_ref(name, body),
-        _ => false,
-    }
-}
-
-/// Whether a ref's name is made by the own name of the tag with this body.
-fn is_own_ref(name: &[u8], body: &[u8]) -> bool
-    ensures { TellsOwnRef name.now body.now result }
-{
-    match (decode_tag(body), name.strip_prefix(b"refs/tags/")) {
-        (Ok(tag), Some(rest)) => rest == tag.name(),
-        _ => false,
-    }
 }

@@ -1,5 +1,5 @@
 -- What is answered to a question, in words of the repository that is told.
-use Rattle.std.specs.Prelude.{◌≡◌, Option, None, Result, Ok, Err, IfErr, IfOk, IfSome, ⊤}
+use Rattle.std.specs.Prelude.{◌≡◌, Bool, Option, None, Result, Ok, Err, IfErr, IfOk, IfSome, IsTrue, ⊤}
 use Rattle.gx_model.specs.declared.faults.Fault.{Fault}
 use Rattle.gx_model.specs.Faults.{Given}
 use Rattle.gx_model.specs.Histories.{Records}
@@ -52,6 +52,26 @@ RefusesUntold told (Err OutOfMemory) = ⊤
 RefusesUntold told (Err ReadFailed) = ⊤
 RefusesUntold told (Err Damaged) = told ≡ None
 RefusesUntold told (Err (Revision fault)) = ⊥
+
+-- a fault of what is asked, and not of memory or of a read
+abbrev pub IsOfAsked : AskFault → Type 0
+IsOfAsked OutOfMemory = ⊥
+IsOfAsked ReadFailed = ⊥
+IsOfAsked (Revision rev.OutOfMemory) = ⊥
+IsOfAsked fault = ⊤
+
+-- what is sure of its answers is asked without memory and without a read
+abbrev pub NeedsNothing : {X : Type 0} → Bool → Result X AskFault → Type 0
+NeedsNothing sure result = IsTrue sure → IfErr result IsOfAsked
+
+-- a fault that needs no read
+abbrev pub IsOfNoRead : AskFault → Type 0
+IsOfNoRead ReadFailed = ⊥
+IsOfNoRead fault = ⊤
+
+-- of what is sure of its answers no read fails
+abbrev pub NeverUnread : {X : Type 0} → Bool → Result X AskFault → Type 0
+NeverUnread sure result = IsTrue sure → IfErr result IsOfNoRead
 
 -- this fault is the one of a text
 abbrev pub IsOfText : {X : Type 0} → Result X AskFault → Fault → Type 0

@@ -3,7 +3,7 @@
 ghost use Rattle.gx_model.specs.Records.HistoryOf.{history_of};
 ghost use Rattle.gx_model.specs.Revisions.Denotation.{base_value, begun_by, the_one};
 ghost use Rattle.gx_rev.specs.Objects.{IsHeld, value_at};
-ghost use Rattle.gx_questions.specs.Answers.{Answers, IsOfTold};
+ghost use Rattle.gx_questions.specs.Answers.{Answers, IsOfTold, NeedsNothing};
 
 use crate::AskFault;
 use gx_object::Name;
@@ -19,6 +19,7 @@ pub fn eval_base<O: Objects>(objects: &O, base: &[u8]) -> Result<Name, AskFault>
     ensures value { Answers (O.told objects.now) value_at
         (λ r. base_value (O.name_of objects.now) (history_of r) base.now) result }
     ensures held { IsOfTold (O.told objects.now) IsHeld result }
+    ensures sure { NeedsNothing (O.sure objects.now) result }
 {
     objects.sound_if_told();
     if let Some(name) = Name::read(base) {
@@ -42,6 +43,7 @@ fn find_digits<O: Objects>(objects: &O, digits: &[u8]) -> Result<Name, AskFault>
     ensures value { Answers (O.told objects.now) value_at (λ r. the_one (O.name_of objects.now)
         (begun_by (O.name_of objects.now) (history_of r) digits.now)) result }
     ensures held { IsOfTold (O.told objects.now) IsHeld result }
+    ensures sure { NeedsNothing (O.sure objects.now) result }
 {
     objects.sound_if_told();
     match objects.by_digits(digits)? {

@@ -11,5 +11,5 @@ mod suffix;
 
 pub use base::eval_base;
 pub use fault::AskFault;
-pub use objects::{body, commit_in, commit_of, entries};
+pub use objects::{body, commit_in, commit_of, entries, parent_of};
 pub use shown::{commit, eval, eval_text, tree};

@@ -7,7 +7,7 @@ ghost use Rattle.gx_model.specs.Records.{kind_of};
 ghost use Rattle.gx_model.specs.Revisions.Denotation.{commit_in, files_in, nth_ancestor, nth_parent};
 ghost use Rattle.gx_objects.specs.Answers.{IsNamedAs};
 ghost use Rattle.gx_rev.specs.Objects.{IsHeld, IsHeldAs, commit_at, files_at, value_at};
-ghost use Rattle.gx_questions.specs.Answers.{Answers, IfTold, IsOfTold, RefusesUntold};
+ghost use Rattle.gx_questions.specs.Answers.{Answers, IfTold, IsOfTold, NeedsNothing, RefusesUntold};
 ghost use Rattle.gx_questions.specs.Objects.{AreEntriesAt, IsCommitAt, IsObjectAt};
 
 use crate::AskFault;
@@ -30,6 +30,7 @@ pub fn body<'a, O: Objects, A: Allocator + Copy>(
         (IsObjectAt (O.name_of objects.now) name.now) result }
     ensures named { IfOk result (IsNamedAs (O.name_of objects.now) name.now.bytes) }
     ensures fault { RefusesUntold (O.told objects.now) result }
+    ensures sure { NeedsNothing (O.sure objects.now) result }
 {
     objects.sound_if_told();
     match objects.object(name, room)? {
@@ -53,6 +54,7 @@ pub fn commit_in<'a, O: Objects, A: Allocator + Copy>(
         (λ found. O.name_of objects.now kinds.Commit found.0.now ≡ name.now.bytes) }
     ensures text { IfOk result (λ found. IsCommitText found.1 found.0.now) }
     ensures fault { RefusesUntold (O.told objects.now) result }
+    ensures sure { NeedsNothing (O.sure objects.now) result }
 {
     objects.sound_if_told();
     let object = body(objects, name, room)?;
@@ -76,6 +78,7 @@ pub fn entries<'a, O: Objects, A: Allocator + Copy>(
     ensures named { IfOk result
         (λ found. O.name_of objects.now kinds.Tree (tree_text found) ≡ tree.now.bytes) }
     ensures fault { RefusesUntold (O.told objects.now) result }
+    ensures sure { NeedsNothing (O.sure objects.now) result }
 {
     objects.sound_if_told();
     let object = body(objects, tree, room)?;
@@ -95,6 +98,7 @@ pub(crate) fn kind_of<O: Objects, A: Allocator + Copy>(
     ensures kind { IsOfTold (O.told objects.now)
         (λ r kind. kind ≡ kind_of (O.name_of objects.now) (value_at r name.now)) result }
     ensures fault { RefusesUntold (O.told objects.now) result }
+    ensures sure { NeedsNothing (O.sure objects.now) result }
 {
     Ok(body(objects, name, room)?.kind)
 }
@@ -111,6 +115,7 @@ pub fn commit_of<O: Objects, A: Allocator + Copy>(
     ensures commit { Answers (O.told objects.now) commit_at
         (λ r. commit_in (value_at r name.now)) result }
     ensures held { IsOfTold (O.told objects.now) (IsHeldAs kinds.Commit) result }
+    ensures sure { NeedsNothing (O.sure objects.now) result }
 {
     objects.sound_if_told();
     let object = body(objects, name, room)?;
@@ -121,8 +126,10 @@ pub fn commit_of<O: Objects, A: Allocator + Copy>(
     }
 }
 
-/// The nth parent of a held commit, and the commit where n is 0.
-pub(crate) fn parent_of<O: Objects, A: Allocator + Copy>(
+/// The nth parent of a held commit, and the commit where n is 0. What has fewer is NoParent.
+///
+/// Other faults, cost and memory: those of `commit_in`. Source: gitrevisions(7), on `^n`.
+pub fn parent_of<O: Objects, A: Allocator + Copy>(
     objects: &O,
     room: &mut Vec<u8, A>,
     commit: &Name,
@@ -132,6 +139,7 @@ pub(crate) fn parent_of<O: Objects, A: Allocator + Copy>(
     ensures parent { Answers (O.told objects.now) commit_at
         (λ r. nth_parent number (commit_at r commit.now)) result }
     ensures held { IsOfTold (O.told objects.now) (IsHeldAs kinds.Commit) result }
+    ensures sure { NeedsNothing (O.sure objects.now) result }
 {
     objects.sound_if_told();
     if number == 0 {
@@ -155,6 +163,7 @@ pub(crate) fn ancestor_of<O: Objects, A: Allocator + Copy>(
     ensures ancestor { Answers (O.told objects.now) commit_at
         (λ r. nth_ancestor number (commit_at r commit.now)) result }
     ensures held { IsOfTold (O.told objects.now) (IsHeldAs kinds.Commit) result }
+    ensures sure { NeedsNothing (O.sure objects.now) result }
 {
     let mut ancestor = *commit;
     let mut left = number;
@@ -175,6 +184,7 @@ pub(crate) fn tree_of<O: Objects, A: Allocator + Copy>(
     ensures files { Answers (O.told objects.now) files_at
         (λ r. files_in (value_at r name.now)) result }
     ensures held { IsOfTold (O.told objects.now) (IsHeldAs kinds.Tree) result }
+    ensures sure { NeedsNothing (O.sure objects.now) result }
 {
     objects.sound_if_told();
     let object = body(objects, name, room)?;

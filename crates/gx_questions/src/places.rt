@@ -7,7 +7,7 @@ ghost use Rattle.gx_model.specs.Objects.{is_dir};
 ghost use Rattle.gx_model.specs.Records.Walks.{entry_at, walked};
 ghost use Rattle.gx_rev.specs.Objects.{IsHeldAs, entries_at};
 ghost use Rattle.gx_rev.specs.Places.{IsHeldPlace, IsOfEntry, shown_place};
-ghost use Rattle.gx_questions.specs.Answers.{IfTold, IsOfTold, RefusesUntold};
+ghost use Rattle.gx_questions.specs.Answers.{IfTold, IsOfTold, NeedsNothing, RefusesUntold};
 
 use crate::AskFault;
 use crate::objects::entries;
@@ -29,6 +29,7 @@ pub(crate) fn walk_down<O: Objects, A: Allocator + Copy, B: Allocator + Copy>(
     ensures held { IsOfTold (O.told objects.now)
         (λ r found. IfSome found (IsHeldPlace r)) result }
     ensures fault { RefusesUntold (O.told objects.now) result }
+    ensures sure { NeedsNothing (O.sure objects.now) result }
 {
     let mut mode = Mode::Dir;
     let mut name = *tree;
@@ -63,6 +64,7 @@ fn entry_of<O: Objects, A: Allocator + Copy>(
     ensures held { IsOfTold (O.told objects.now)
         (λ r found. IfSome found (IsHeldPlace r)) result }
     ensures fault { RefusesUntold (O.told objects.now) result }
+    ensures sure { NeedsNothing (O.sure objects.now) result }
 {
     objects.sound_if_told();
     Ok(find_entry(entries(objects, tree, room)?, component))

@@ -8,7 +8,7 @@ ghost use Rattle.gx_model.specs.Revisions.{revision_of};
 ghost use Rattle.gx_model.specs.Revisions.Denotation.{all_suffixed, base_value, commit_denoted, denoted, files_in, shown_at, value_denoted};
 ghost use Rattle.gx_rev.specs.Answers.{IsNamed, shown_by};
 ghost use Rattle.gx_rev.specs.Objects.{IsHeld, IsHeldAs, commit_at, files_at, value_at};
-ghost use Rattle.gx_questions.specs.Answers.{Answers, IfTold, IsOfTold, TextFaultsComeFirst};
+ghost use Rattle.gx_questions.specs.Answers.{Answers, IfTold, IsOfTold, NeedsNothing, NeverUnread, TextFaultsComeFirst};
 
 use crate::AskFault;
 use crate::base::eval_base;
@@ -35,6 +35,7 @@ pub fn eval_text<O: Objects, A: Allocator + Copy>(
         and_then denoted (O.name_of objects.now) (history_of r)) result }
     ensures named { IsOfTold (O.told objects.now) (IsNamed (O.name_of objects.now)) result }
     ensures text { TextFaultsComeFirst result (revision_of text.now) }
+    ensures sure { NeverUnread (O.sure objects.now) result }
 {
     eval(objects, room, &Revision::read(alloc, text)?)
 }
@@ -54,6 +55,7 @@ pub fn eval<O: Objects, A: Allocator + Copy, B: Allocator + Copy>(
     ensures shown { Answers (O.told objects.now) shown_by
         (λ r. denoted (O.name_of objects.now) (history_of r) revision.now) result }
     ensures named { IsOfTold (O.told objects.now) (IsNamed (O.name_of objects.now)) result }
+    ensures sure { NeedsNothing (O.sure objects.now) result }
 {
     objects.sound_if_told();
     let object = eval_front(objects, room, revision)?;
@@ -75,6 +77,7 @@ pub fn tree<O: Objects, A: Allocator + Copy, B: Allocator + Copy>(
     ensures files { Answers (O.told objects.now) files_at (λ r. value_denoted
         (O.name_of objects.now) (history_of r) revision.now and_then files_in) result }
     ensures held { IsOfTold (O.told objects.now) (IsHeldAs kinds.Tree) result }
+    ensures sure { NeedsNothing (O.sure objects.now) result }
 {
     let object = eval_object(objects, room, revision)?;
     tree_of(objects, room, &object)
@@ -91,6 +94,7 @@ pub fn commit<O: Objects, A: Allocator + Copy, B: Allocator + Copy>(
     ensures commit { Answers (O.told objects.now) commit_at
         (λ r. commit_denoted (O.name_of objects.now) (history_of r) revision.now) result }
     ensures held { IsOfTold (O.told objects.now) (IsHeldAs kinds.Commit) result }
+    ensures sure { NeedsNothing (O.sure objects.now) result }
 {
     let object = eval_object(objects, room, revision)?;
     commit_of(objects, room, &object)
@@ -105,6 +109,7 @@ fn eval_object<O: Objects, A: Allocator + Copy, B: Allocator + Copy>(
     ensures value { Answers (O.told objects.now) value_at
         (λ r. value_denoted (O.name_of objects.now) (history_of r) revision.now) result }
     ensures held { IsOfTold (O.told objects.now) IsHeld result }
+    ensures sure { NeedsNothing (O.sure objects.now) result }
 {
     let object = eval_front(objects, room, revision)?;
     let Some(path) = revision.path() else {
@@ -126,6 +131,7 @@ fn eval_front<O: Objects, A: Allocator + Copy, B: Allocator + Copy>(
         (λ r. base_value (O.name_of objects.now) (history_of r) revision.now.base
         and_then λ v. all_suffixed v revision.now.suffixes) result }
     ensures held { IsOfTold (O.told objects.now) IsHeld result }
+    ensures sure { NeedsNothing (O.sure objects.now) result }
 {
     let base = eval_base(objects, revision.base())?;
     eval_all(objects, room, &base, revision.suffixes())
@@ -142,6 +148,7 @@ fn show_path<O: Objects, A: Allocator + Copy, B: Allocator + Copy>(
     ensures shown { Answers (O.told objects.now) shown_by
         (λ r. shown_at (value_at r object.now) (Some path.now)) result }
     ensures named { IsOfTold (O.told objects.now) (IsNamed (O.name_of objects.now)) result }
+    ensures sure { NeedsNothing (O.sure objects.now) result }
 {
     objects.sound_if_told();
     let tree = tree_of(objects, room, object)?;

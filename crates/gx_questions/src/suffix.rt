@@ -5,7 +5,7 @@ ghost use Rattle.gx_model.specs.Revisions as model;
 ghost use Rattle.gx_model.specs.Revisions.Denotation.{all_suffixed, peel, suffixed};
 ghost use Rattle.gx_rev.specs.Objects.{IsHeld, only, value_at};
 ghost use Rattle.gx_rev.specs.Views.{shown_suffix};
-ghost use Rattle.gx_questions.specs.Answers.{Answers, IfTold, IsOfTold};
+ghost use Rattle.gx_questions.specs.Answers.{Answers, IfTold, IsOfTold, NeedsNothing};
 
 use crate::AskFault;
 use crate::objects::{ancestor_of, body, commit_of, kind_of, parent_of, tree_of};
@@ -25,6 +25,7 @@ pub(crate) fn eval_all<O: Objects, A: Allocator + Copy>(
     ensures value { Answers (O.told objects.now) value_at
         (λ r. all_suffixed (value_at r name.now) (map shown_suffix suffixes.now)) result }
     ensures held { IsOfTold (O.told objects.now) IsHeld result }
+    ensures sure { NeedsNothing (O.sure objects.now) result }
 {
     let mut object = *name;
     for suffix in suffixes {
@@ -44,6 +45,7 @@ fn eval_suffix<O: Objects, A: Allocator + Copy>(
     ensures value { Answers (O.told objects.now) value_at
         (λ r. suffixed (value_at r name.now) (shown_suffix suffix)) result }
     ensures held { IsOfTold (O.told objects.now) IsHeld result }
+    ensures sure { NeedsNothing (O.sure objects.now) result }
 {
     objects.sound_if_told();
     match suffix {
@@ -69,6 +71,7 @@ fn parent<O: Objects, A: Allocator + Copy>(
     ensures value { Answers (O.told objects.now) value_at
         (λ r. suffixed (value_at r name.now) (model.parent number)) result }
     ensures held { IsOfTold (O.told objects.now) IsHeld result }
+    ensures sure { NeedsNothing (O.sure objects.now) result }
 {
     objects.sound_if_told();
     let commit = commit_of(objects, room, name)?;
@@ -85,6 +88,7 @@ fn ancestor<O: Objects, A: Allocator + Copy>(
     ensures value { Answers (O.told objects.now) value_at
         (λ r. suffixed (value_at r name.now) (model.ancestor number)) result }
     ensures held { IsOfTold (O.told objects.now) IsHeld result }
+    ensures sure { NeedsNothing (O.sure objects.now) result }
 {
     objects.sound_if_told();
     let commit = commit_of(objects, room, name)?;
@@ -101,6 +105,7 @@ fn peeled<O: Objects, A: Allocator + Copy>(
     ensures value { Answers (O.told objects.now) value_at
         (λ r. Ok (peel (value_at r name.now))) result }
     ensures held { IsOfTold (O.told objects.now) IsHeld result }
+    ensures sure { NeedsNothing (O.sure objects.now) result }
 {
     objects.sound_if_told();
     let object = body(objects, name, room)?;
@@ -121,6 +126,7 @@ fn of_kind<O: Objects, A: Allocator + Copy>(
     ensures value { Answers (O.told objects.now) value_at
         (λ r. only (O.name_of objects.now) kind (value_at r name.now)) result }
     ensures held { IsOfTold (O.told objects.now) IsHeld result }
+    ensures sure { NeedsNothing (O.sure objects.now) result }
 {
     if kind_of(objects, room, name)? == kind {
         Ok(*name)

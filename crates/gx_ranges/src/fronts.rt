@@ -49,8 +49,10 @@ pub fn add_parents<O: Objects, A: Allocator + Copy>(
     room: &mut Vec<u8, A>,
 ) -> Result<(), LookFault>
     requires tips { IfSome (O.told objects.now) (AreTips (O.stands objects.now) front.old.entries) }
-    requires tip { IfSome (O.told objects.now) (λ r. IsTip (O.stands objects.now) r (place, commit.now)) }
-    ensures below { OnOk result (AreBelow place front.old.entries → AreBelow place front.new.entries) }
+    requires tip { IfSome (O.told objects.now)
+        (λ r. IsTip (O.stands objects.now) r (place, commit.now)) }
+    ensures below { OnOk result
+        (AreBelow place front.old.entries → AreBelow place front.new.entries) }
     ensures adds { Tells (O.told objects.now) (λ r _. Adds (O.stands objects.now)
         (some_reaches (parents_at r commit.now)) front.old.entries front.new.entries r) result }
     ensures fault { OnlyUntold (O.told objects.now) result }
@@ -71,10 +73,12 @@ pub(crate) fn add_parents_of<O: Objects, A: Allocator + Copy>(
     view: &CommitView<'_>,
 ) -> Result<(), LookFault>
     requires tips { IfSome (O.told objects.now) (AreTips (O.stands objects.now) front.old.entries) }
-    requires tip { IfSome (O.told objects.now) (λ r. IsTip (O.stands objects.now) r (place, commit.now)) }
+    requires tip { IfSome (O.told objects.now)
+        (λ r. IsTip (O.stands objects.now) r (place, commit.now)) }
     requires parts { IfSome (O.told objects.now) (λ r.
         view.now ≡ parts_of_commit (O.name_of objects.now) (commit_at r commit.now)) }
-    ensures below { OnOk result (AreBelow place front.old.entries → AreBelow place front.new.entries) }
+    ensures below { OnOk result
+        (AreBelow place front.old.entries → AreBelow place front.new.entries) }
     ensures adds { Tells (O.told objects.now) (λ r _. Adds (O.stands objects.now)
         (some_reaches (parents_at r commit.now)) front.old.entries front.new.entries r) result }
     ensures fault { OnlyUntold (O.told objects.now) result }
@@ -97,8 +101,10 @@ fn add_below<O: Objects, A: Allocator + Copy>(
 ) -> Result<(), LookFault>
     requires tips { IfSome (O.told objects.now) (AreTips (O.stands objects.now) front.old.entries) }
     requires held { IfSome (O.told objects.now) (λ r. IsHeldAs kinds.Commit r commit.now) }
-    requires before { IfSome (O.told objects.now) (StandsBefore (O.stands objects.now) limit commit.now) }
-    ensures below { OnOk result (AreBelow limit front.old.entries → AreBelow limit front.new.entries) }
+    requires before { IfSome (O.told objects.now)
+        (StandsBefore (O.stands objects.now) limit commit.now) }
+    ensures below { OnOk result
+        (AreBelow limit front.old.entries → AreBelow limit front.new.entries) }
     ensures adds { Tells (O.told objects.now) (λ r _. Adds (O.stands objects.now)
         (reaches (commit_at r commit.now)) front.old.entries front.new.entries r) result }
     ensures fault { OnlyUntold (O.told objects.now) result }
@@ -138,7 +144,8 @@ pub(crate) fn commit_at<'a, O: Objects, A: Allocator + Copy>(
     commit: &Name,
     room: &'a mut Vec<u8, A>,
 ) -> Result<(&'a [u8], CommitView<'a>), LookFault>
-    requires tip { IfSome (O.told objects.now) (λ r. IsTip (O.stands objects.now) r (place, commit.now)) }
+    requires tip { IfSome (O.told objects.now)
+        (λ r. IsTip (O.stands objects.now) r (place, commit.now)) }
     ensures commit { Tells (O.told objects.now)
         (IsCommitAt (O.name_of objects.now) commit.now) result }
     ensures named { IfOk result (HasNameOf (O.name_of objects.now) commit.now) }

@@ -25,7 +25,8 @@ pub(crate) fn add_common<O: Objects, A: Allocator + Copy>(
     common: &mut BTreeMap<u64, Name, A>,
     room: &mut Vec<u8, A>,
 ) -> Result<(), LookFault>
-    requires tips { IfSome (O.told objects.now) (AreTips (O.stands objects.now) common.old.entries) }
+    requires tips { IfSome (O.told objects.now)
+        (AreTips (O.stands objects.now) common.old.entries) }
     requires left { IfSome (O.told objects.now) (λ r. IsHeldAs kinds.Commit r left.now) }
     requires right { IfSome (O.told objects.now) (λ r. IsHeldAs kinds.Commit r right.now) }
     ensures adds { Tells (O.told objects.now) (λ r _. Adds (O.stands objects.now)
@@ -49,9 +50,12 @@ fn add_meetings<O: Objects, A: Allocator + Copy>(
     common: &mut BTreeMap<u64, Name, A>,
     room: &mut Vec<u8, A>,
 ) -> Result<(), LookFault>
-    requires tips { IfSome (O.told objects.now) (AreTips (O.stands objects.now) common.old.entries) }
-    requires lefts { IfSome (O.told objects.now) (AreTips (O.stands objects.now) lefts.old.entries) }
-    requires rights { IfSome (O.told objects.now) (AreTips (O.stands objects.now) rights.old.entries) }
+    requires tips { IfSome (O.told objects.now)
+        (AreTips (O.stands objects.now) common.old.entries) }
+    requires lefts { IfSome (O.told objects.now)
+        (AreTips (O.stands objects.now) lefts.old.entries) }
+    requires rights { IfSome (O.told objects.now)
+        (AreTips (O.stands objects.now) rights.old.entries) }
     ensures adds { Tells (O.told objects.now) (λ r _. Adds (O.stands objects.now)
         (λ c. lead_to r lefts.old.entries c && lead_to r rights.old.entries c)
         common.old.entries common.new.entries r) result }

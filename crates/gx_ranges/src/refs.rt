@@ -52,7 +52,8 @@ pub(crate) fn add_refs<O: Objects, A: Allocator + Copy>(
 /// Cost: the line. Takes no memory. Source: git-show-ref(1).
 #[tactic(auto, unfolding(crate::specs::Refs::first_ref))]
 pub fn cut_ref(text: &[u8]) -> Option<(Name, &[u8], &[u8])>
-    ensures { option_map (λ cut. ((cut.1.now, cut.0.bytes), cut.2.now)) result ≡ first_ref text.now }
+    ensures { option_map (λ cut. ((cut.1.now, cut.0.bytes), cut.2.now)) result
+        ≡ first_ref text.now }
 {
     let (line, rest) = cut(text, b'\n')?;
     let (digits, name) = cut(line, b' ')?;

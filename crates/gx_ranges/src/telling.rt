@@ -18,8 +18,10 @@ pub(crate) fn next<O: Objects, A: Allocator + Copy>(
     unwanted: &mut BTreeMap<u64, Name, A>,
     room: &mut Vec<u8, A>,
 ) -> Result<Option<(u64, Name)>, LookFault>
-    requires wanted { IfSome (O.told objects.now) (AreTips (O.stands objects.now) wanted.old.entries) }
-    requires unwanted { IfSome (O.told objects.now) (AreTips (O.stands objects.now) unwanted.old.entries) }
+    requires wanted { IfSome (O.told objects.now)
+        (AreTips (O.stands objects.now) wanted.old.entries) }
+    requires unwanted { IfSome (O.told objects.now)
+        (AreTips (O.stands objects.now) unwanted.old.entries) }
     ensures next { Tells (O.told objects.now) (FindsNext (O.stands objects.now) wanted.old.entries
         unwanted.old.entries wanted.new.entries unwanted.new.entries) result }
     ensures last { IfOk result (TakesLast wanted.old.entries wanted.new.entries) }

@@ -157,7 +157,8 @@ pub fn listed<O: Objects, A: Allocator + Copy>(
     room: &mut Vec<u8, A>,
 ) -> Result<Vec<Name, A>, LookFault>
     requires wanted { IfSome (O.told objects.now) (AreTips (O.stands objects.now) wanted.entries) }
-    requires unwanted { IfSome (O.told objects.now) (AreTips (O.stands objects.now) unwanted.entries) }
+    requires unwanted { IfSome (O.told objects.now)
+        (AreTips (O.stands objects.now) unwanted.entries) }
     ensures names { Tells (O.told objects.now) (λ r names.
         AreReached wanted.entries unwanted.entries r names.items) result }
     ensures fault { OnlyUntold (O.told objects.now) result }

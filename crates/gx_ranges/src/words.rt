@@ -1,14 +1,10 @@
 //! The commits from which a walk starts: those that words include with all that they reach, and those that they exclude.
 
 ghost use Rattle.std.specs.Prelude.{◌≡◌, ℕ, [], IfSome, List, map};
-ghost use Rattle.gx_model.specs.declared.objects.Kind.TheVariants as kinds;
 ghost use Rattle.gx_model.specs.Revisions as words;
-ghost use Rattle.gx_model.specs.Revisions.Denotation.{nth_parent};
 ghost use Rattle.gx_object.specs.declared.name.Name.{Name};
-ghost use Rattle.gx_questions.specs.Answers.{Answers, IfTold, IsOfTold};
 ghost use Rattle.gx_ranges.specs.Fronts.{AreTips};
 ghost use Rattle.gx_ranges.specs.Words.{AddsWord, AddsWords};
-ghost use Rattle.gx_rev.specs.Objects.{IsHeldAs, commit_at};
 ghost use Rattle.gx_rev.specs.Views.{shown_range};
 
 use crate::RangeFault;
@@ -17,8 +13,8 @@ use crate::fronts::{add, add_parents, place_of};
 use crate::meetings::add_common;
 use gx_object::Name;
 use gx_objects::Objects;
-use gx_questions::{AskFault, commit, commit_in};
-use gx_rev::{Range, RevFault, Revision};
+use gx_questions::{AskFault, commit, parent_of};
+use gx_rev::{Range, Revision};
 use std::alloc::Allocator;
 use std::collections::BTreeMap;
 
@@ -60,8 +56,10 @@ fn add_word<O: Objects, A: Allocator + Copy>(
     wanted: &mut BTreeMap<u64, Name, A>,
     unwanted: &mut BTreeMap<u64, Name, A>,
 ) -> Result<(), AskFault>
-    requires wanted { IfSome (O.told objects.now) (AreTips (O.stands objects.now) wanted.old.entries) }
-    requires unwanted { IfSome (O.told objects.now) (AreTips (O.stands objects.now) unwanted.old.entries) }
+    requires wanted { IfSome (O.told objects.now)
+        (AreTips (O.stands objects.now) wanted.old.entries) }
+    requires unwanted { IfSome (O.told objects.now)
+        (AreTips (O.stands objects.now) unwanted.old.entries) }
     ensures { AddsWord (O.name_of objects.now) (O.stands objects.now) (O.told objects.now)
         (shown_range word.now) (wanted.old.entries, unwanted.old.entries)
         (wanted.new.entries, unwanted.new.entries) result }
@@ -89,12 +87,16 @@ fn add_revision<O: Objects, A: Allocator + Copy>(
     front: &mut BTreeMap<u64, Name, A>,
 ) -> Result<(), AskFault>
     requires tips { IfSome (O.told objects.now) (AreTips (O.stands objects.now) front.old.entries) }
-    ensures included { (rest : List (ℕ × Name)) → IfSome (O.told objects.now) (AreTips (O.stands objects.now) rest)
+    ensures included { (rest : List (ℕ × Name))
+        → IfSome (O.told objects.now) (AreTips (O.stands objects.now) rest)
         → AddsWord (O.name_of objects.now) (O.stands objects.now) (O.told objects.now)
-        (words.WithAncestors revision.now) (front.old.entries, rest) (front.new.entries, rest) result }
-    ensures excluded { (rest : List (ℕ × Name)) → IfSome (O.told objects.now) (AreTips (O.stands objects.now) rest)
+        (words.WithAncestors revision.now) (front.old.entries, rest)
+        (front.new.entries, rest) result }
+    ensures excluded { (rest : List (ℕ × Name))
+        → IfSome (O.told objects.now) (AreTips (O.stands objects.now) rest)
         → AddsWord (O.name_of objects.now) (O.stands objects.now) (O.told objects.now)
-        (words.WithoutAncestors revision.now) (rest, front.old.entries) (rest, front.new.entries) result }
+        (words.WithoutAncestors revision.now) (rest, front.old.entries)
+        (rest, front.new.entries) result }
 {
     let commit = commit(objects, room, revision)?;
     add(objects, front, &commit)?;
@@ -110,8 +112,10 @@ fn add_between<O: Objects, A: Allocator + Copy>(
     wanted: &mut BTreeMap<u64, Name, A>,
     unwanted: &mut BTreeMap<u64, Name, A>,
 ) -> Result<(), AskFault>
-    requires wanted { IfSome (O.told objects.now) (AreTips (O.stands objects.now) wanted.old.entries) }
-    requires unwanted { IfSome (O.told objects.now) (AreTips (O.stands objects.now) unwanted.old.entries) }
+    requires wanted { IfSome (O.told objects.now)
+        (AreTips (O.stands objects.now) wanted.old.entries) }
+    requires unwanted { IfSome (O.told objects.now)
+        (AreTips (O.stands objects.now) unwanted.old.entries) }
     ensures { AddsWord (O.name_of objects.now) (O.stands objects.now) (O.told objects.now)
         (words.Between left.now right.now) (wanted.old.entries, unwanted.old.entries)
         (wanted.new.entries, unwanted.new.entries) result }
@@ -133,8 +137,10 @@ fn add_apart<O: Objects, A: Allocator + Copy>(
     wanted: &mut BTreeMap<u64, Name, A>,
     unwanted: &mut BTreeMap<u64, Name, A>,
 ) -> Result<(), AskFault>
-    requires wanted { IfSome (O.told objects.now) (AreTips (O.stands objects.now) wanted.old.entries) }
-    requires unwanted { IfSome (O.told objects.now) (AreTips (O.stands objects.now) unwanted.old.entries) }
+    requires wanted { IfSome (O.told objects.now)
+        (AreTips (O.stands objects.now) wanted.old.entries) }
+    requires unwanted { IfSome (O.told objects.now)
+        (AreTips (O.stands objects.now) unwanted.old.entries) }
     ensures { AddsWord (O.name_of objects.now) (O.stands objects.now) (O.told objects.now)
         (words.Apart left.now right.now) (wanted.old.entries, unwanted.old.entries)
         (wanted.new.entries, unwanted.new.entries) result }
@@ -154,10 +160,13 @@ fn add_all_parents<O: Objects, A: Allocator + Copy>(
     revision: &Revision<A>,
     wanted: &mut BTreeMap<u64, Name, A>,
 ) -> Result<(), AskFault>
-    requires tips { IfSome (O.told objects.now) (AreTips (O.stands objects.now) wanted.old.entries) }
-    ensures { (rest : List (ℕ × Name)) → IfSome (O.told objects.now) (AreTips (O.stands objects.now) rest)
+    requires tips { IfSome (O.told objects.now)
+        (AreTips (O.stands objects.now) wanted.old.entries) }
+    ensures { (rest : List (ℕ × Name))
+        → IfSome (O.told objects.now) (AreTips (O.stands objects.now) rest)
         → AddsWord (O.name_of objects.now) (O.stands objects.now) (O.told objects.now)
-        (words.AllParents revision.now) (wanted.old.entries, rest) (wanted.new.entries, rest) result }
+        (words.AllParents revision.now) (wanted.old.entries, rest)
+        (wanted.new.entries, rest) result }
 {
     let commit = commit(objects, room, revision)?;
     let place = place_of(objects, &commit)?;
@@ -173,8 +182,10 @@ fn add_alone<O: Objects, A: Allocator + Copy>(
     wanted: &mut BTreeMap<u64, Name, A>,
     unwanted: &mut BTreeMap<u64, Name, A>,
 ) -> Result<(), AskFault>
-    requires wanted { IfSome (O.told objects.now) (AreTips (O.stands objects.now) wanted.old.entries) }
-    requires unwanted { IfSome (O.told objects.now) (AreTips (O.stands objects.now) unwanted.old.entries) }
+    requires wanted { IfSome (O.told objects.now)
+        (AreTips (O.stands objects.now) wanted.old.entries) }
+    requires unwanted { IfSome (O.told objects.now)
+        (AreTips (O.stands objects.now) unwanted.old.entries) }
     ensures { AddsWord (O.name_of objects.now) (O.stands objects.now) (O.told objects.now)
         (words.Alone revision.now) (wanted.old.entries, unwanted.old.entries)
         (wanted.new.entries, unwanted.new.entries) result }
@@ -195,8 +206,10 @@ fn add_without_one<O: Objects, A: Allocator + Copy>(
     wanted: &mut BTreeMap<u64, Name, A>,
     unwanted: &mut BTreeMap<u64, Name, A>,
 ) -> Result<(), AskFault>
-    requires wanted { IfSome (O.told objects.now) (AreTips (O.stands objects.now) wanted.old.entries) }
-    requires unwanted { IfSome (O.told objects.now) (AreTips (O.stands objects.now) unwanted.old.entries) }
+    requires wanted { IfSome (O.told objects.now)
+        (AreTips (O.stands objects.now) wanted.old.entries) }
+    requires unwanted { IfSome (O.told objects.now)
+        (AreTips (O.stands objects.now) unwanted.old.entries) }
     ensures { AddsWord (O.name_of objects.now) (O.stands objects.now) (O.told objects.now)
         (words.WithoutOne revision.now number) (wanted.old.entries, unwanted.old.entries)
         (wanted.new.entries, unwanted.new.entries) result }
@@ -206,27 +219,4 @@ fn add_without_one<O: Objects, A: Allocator + Copy>(
     add(objects, wanted, &commit)?;
     add(objects, unwanted, &parent)?;
     Ok(())
-}
-
-/// The nth parent of a held commit, and the commit where n is 0.
-fn parent_of<O: Objects, A: Allocator + Copy>(
-    objects: &O,
-    room: &mut Vec<u8, A>,
-    commit: &Name,
-    number: u64,
-) -> Result<Name, AskFault>
-    requires held { IfTold (O.told objects.now) (IsHeldAs kinds.Commit) commit.now }
-    ensures parent { Answers (O.told objects.now) commit_at
-        (λ r. nth_parent number (commit_at r commit.now)) result }
-    ensures held { IsOfTold (O.told objects.now) (IsHeldAs kinds.Commit) result }
-{
-    objects.sound_if_told();
-    if number == 0 {
-        return Ok(*commit);
-    }
-    let (_, view) = commit_in(objects, commit, room)?;
-    match view.parent((number - 1) as usize) {
-        Some(parent) => Ok(parent),
-        None => Err(AskFault::Revision(RevFault::NoParent)),
-    }
 }

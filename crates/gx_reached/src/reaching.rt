@@ -28,7 +28,8 @@ pub fn reached<O: Objects, A: Allocator + Copy>(
     bad: &mut Bad<A>,
 ) -> Result<Vec<(u64, Name), A>, AllocError>
     requires tips { IfSome (O.told objects.now) (λ r.
-        AllByRecursion (λ tip. StandsSomewhere r (O.stands objects.now) tip.target.bytes) refs.now) }
+        AllByRecursion (λ tip. StandsSomewhere r (O.stands objects.now) tip.target.bytes)
+        refs.now) }
     requires bad { AreDamages (O.name_of objects.now) (O.told objects.now) bad.old }
     ensures bad { OnOk result (AreDamages (O.name_of objects.now) (O.told objects.now) bad.new) }
     ensures keeps { OnOk result (KeepsBad bad.old bad.new) }
@@ -59,7 +60,8 @@ fn add_tips<O: Objects, A: Allocator + Copy>(
     bad: &mut Bad<A>,
 ) -> Result<(), AllocError>
     requires tips { IfSome (O.told objects.now) (λ r.
-        AllByRecursion (λ tip. StandsSomewhere r (O.stands objects.now) tip.target.bytes) refs.now) }
+        AllByRecursion (λ tip. StandsSomewhere r (O.stands objects.now) tip.target.bytes)
+        refs.now) }
     requires none { front.old.entries ≡ [] }
     requires bad { AreDamages (O.name_of objects.now) (O.told objects.now) bad.old }
     ensures bad { OnOk result (AreDamages (O.name_of objects.now) (O.told objects.now) bad.new) }
@@ -96,13 +98,15 @@ fn add_links<O: Objects, A: Allocator + Copy>(
     bad: &mut Bad<A>,
     room: &mut Vec<u8, A>,
 ) -> Result<(), AllocError>
-    requires step { IfSome (O.told objects.now) (λ r. IsStep r (O.stands objects.now) (place, link.now)) }
+    requires step { IfSome (O.told objects.now)
+        (λ r. IsStep r (O.stands objects.now) (place, link.now)) }
     requires steps { IfSome (O.told objects.now) (λ r.
         AllByRecursion (IsStep r (O.stands objects.now)) front.old.entries) }
     requires bad { AreDamages (O.name_of objects.now) (O.told objects.now) bad.old }
     ensures bad { OnOk result (AreDamages (O.name_of objects.now) (O.told objects.now) bad.new) }
     ensures keeps { OnOk result (KeepsBad bad.old bad.new) }
-    ensures below { OnOk result (AreBelow place front.old.entries → AreBelow place front.new.entries) }
+    ensures below { OnOk result
+        (AreBelow place front.old.entries → AreBelow place front.new.entries) }
     ensures only { OnOk result (OnlyAddsLinks (O.name_of objects.now)
         link.now.name.bytes front.old.entries front.new.entries) }
     ensures adds { IfSome (O.told objects.now) (λ r. OnOk result (AddsLinks r (O.stands objects.now)
@@ -130,13 +134,15 @@ fn add_before<O: Objects, A: Allocator + Copy>(
     bad: &mut Bad<A>,
 ) -> Result<(), AllocError>
     requires before { IfSome (O.told objects.now) (λ r.
-        AllByRecursion (λ link. IsBefore r (O.stands objects.now) limit (shown_link link)) links.now) }
+        AllByRecursion (λ link. IsBefore r (O.stands objects.now) limit (shown_link link))
+        links.now) }
     requires steps { IfSome (O.told objects.now) (λ r.
         AllByRecursion (IsStep r (O.stands objects.now)) front.old.entries) }
     requires bad { AreDamages (O.name_of objects.now) (O.told objects.now) bad.old }
     ensures bad { OnOk result (AreDamages (O.name_of objects.now) (O.told objects.now) bad.new) }
     ensures keeps { OnOk result (KeepsBad bad.old bad.new) }
-    ensures below { OnOk result (AreBelow limit front.old.entries → AreBelow limit front.new.entries) }
+    ensures below { OnOk result
+        (AreBelow limit front.old.entries → AreBelow limit front.new.entries) }
     ensures only { OnOk result
         (OnlyAdds (map shown_link links.now) front.old.entries front.new.entries) }
     ensures adds { IfSome (O.told objects.now) (λ r. OnOk result (AddsAll r (O.stands objects.now)

@@ -5,4 +5,4 @@ mod names;
 mod ref_lines;
 
 pub use names::ref_names;
-pub use ref_lines::{RefLines, put_ref};
+pub use ref_lines::RefLines;

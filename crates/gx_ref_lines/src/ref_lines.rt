@@ -1,6 +1,6 @@
 //! Refs by their lines. Source: git-show-ref(1).
 
-ghost use Rattle.std.specs.Prelude.{◌≡◌, ◌++◌, List, IfOk, IfSome, IsTrue, OnOk, Err, Some};
+ghost use Rattle.std.specs.Prelude.{◌≡◌, ◌++◌, List, IfOk, IfSome, IsTrue, Err, Some};
 ghost use Rattle.std.specs.FinMap.Entries.{is_sorted};
 ghost use Rattle.std.specs.List.{flat_map};
 ghost use Rattle.std.specs.Option.{option_map};
@@ -16,7 +16,7 @@ ghost use Rattle.gx_repo.specs.Refs.{FindsObject, shown_lent_ref};
 use gx_object::Name;
 use gx_objects::LookFault;
 use gx_text::cut;
-use std::alloc::{AllocError, Allocator};
+use std::alloc::Allocator;
 
 /// The refs of some lines, in their order.
 #[derive(Drop)]
@@ -76,20 +76,4 @@ fn first_ref(text: &[u8]) -> Option<((&[u8], Name), &[u8])>
     let (digits, name) = cut(line, b' ')?;
     let object = Name::read_lower(digits)?;
     Some(((name, object), rest))
-}
-
-/// Appends the line of a ref. Cost: the line. Source: git-show-ref(1).
-pub fn put_ref<A: Allocator>(
-    lines: &mut Vec<u8, A>,
-    name: &[u8],
-    object: &Name,
-) -> Result<(), AllocError>
-    ensures { OnOk result
-        (lines.new.items ≡ lines.old.items ++ stored_ref (name.now, object.now.bytes)) }
-{
-    lines.extend_from_slice(object.hex().as_slice())?;
-    lines.push(b' ')?;
-    lines.extend_from_slice(name)?;
-    lines.push(b'\n')?;
-    Ok(())
 }

@@ -84,7 +84,8 @@ impl<N: Namer, A: Allocator + Copy> Repo<N, A> {
         ensures held { IfOk result (λ name. Holds self.new.1.records kinds.Tree name.bytes) }
         ensures keeps { Keeps self.old.1.records self.new.1.records }
         ensures map { tree.new.files ≡ tree.old.files }
-        ensures home { IfOk result (λ _. IsAtHome (N.name_of self.old.0) self.new.1.records tree.new) }
+        ensures home { IfOk result
+            (λ _. IsAtHome (N.name_of self.old.0) self.new.1.records tree.new) }
         ensures unchanged { OnErr result (tree.new ≡ tree.old) }
         ensures remembers { IfOk result (λ _. RemembersName tree.new) }
     {
@@ -147,7 +148,8 @@ impl<N: Namer, A: Allocator + Copy> Repo<N, A> {
     pub fn add_commit(&mut self, parts: &CommitParts<'_>) -> Result<Name, StoreFault>
         requires encoding { IsTrue (is_optional_encoding (commit_parts parts.now).text.encoding) }
         requires tree { Holds self.now.1.records kinds.Tree (commit_parts parts.now).tree }
-        requires parents { HoldsEach self.now.1.records kinds.Commit (commit_parts parts.now).parents }
+        requires parents { HoldsEach self.now.1.records kinds.Commit
+            (commit_parts parts.now).parents }
         ensures namer { self.new.0 ≡ self.old.0 }
         ensures adds { Adds self.old.1.records self.new.1.records
             (commit_record (N.name_of self.old.0) (commit_parts parts.now)) result }
@@ -274,7 +276,8 @@ impl<N: Namer, A: Allocator + Copy> Repo<N, A> {
         requires short { HasShortPathsBelow N.name_of self.now kind (bytes_offered body) }
         requires room { room ≡ room_below self.now.1.records kind (bytes_offered body) }
         ensures namer { self.new.0 ≡ self.old.0 }
-        ensures adds { AddsObject N.name_of self.old self.new kind (bytes_offered body.entry) result }
+        ensures adds { AddsObject N.name_of self.old self.new kind
+            (bytes_offered body.entry) result }
         ensures refs { self.new.1.refs ≡ self.old.1.refs }
         ensures history { GainsObject self.old self.new kind (bytes_offered body.entry) result }
         ensures value { NamesValue N.name_of self.old

@@ -196,7 +196,8 @@ fn entry_room<N: Namer, A: Allocator + Copy>(
     ensures room { IfOk result (λ room. room ≡ entry_room store.now.1 (shown entry.now)) }
     ensures held { OnOk result (IsThere store.now.1 (shown entry.now)) }
     ensures fault { IfErr result (λ fault. fault ≡ Dangling) }
-    ensures dangling { OnErr result (is_entry_held store.now.1 (shown entry.now).mode (shown entry.now).name ≡ false) }
+    ensures dangling { OnErr result
+        (is_entry_held store.now.1 (shown entry.now).mode (shown entry.now).name ≡ false) }
 {
     let own = 1 + entry.component.len();
     match entry.mode {

@@ -15,6 +15,7 @@ mod refs;
 mod repo;
 mod reporting;
 mod rooms;
+mod target;
 mod wanting;
 
 pub use fault::{AddFault, DropFault, OutOfMemory, PublishFault};
@@ -25,3 +26,4 @@ pub use ref_list::RefList;
 pub use refs::Refs;
 pub use repo::Repo;
 pub use reporting::report_changes;
+pub use target::is_target;

@@ -32,7 +32,8 @@ impl<'a, A: Allocator + Copy> Offered<'a, A> {
         kind: Kind,
     ) -> Result<Name, StoreFault>
         ensures namer { store.new.0 ≡ store.old.0 }
-        ensures puts { PutsObject N.name_of store.old store.new kind (bytes_offered self.entry) result }
+        ensures puts { PutsObject N.name_of store.old store.new kind
+            (bytes_offered self.entry) result }
     {
         match self {
             Offered::Own(body) => store.put_body(kind, body),

@@ -35,10 +35,13 @@ impl<N: Namer, A: Allocator + Copy> Repo<N, A> {
     /// gitglossary(7), "reachable".
     pub fn prune(&mut self, kept: &[Name]) -> Result<Pruned, OutOfMemory>
         ensures namer { self.new.0 ≡ self.old.0 }
-        ensures pruned { OnOk result (self.new.1 ≡ pruned_beside (bytes_of_names kept.now) self.old.1) }
+        ensures pruned { OnOk result
+            (self.new.1 ≡ pruned_beside (bytes_of_names kept.now) self.old.1) }
         ensures by_refs { OnOk result (kept.now ≡ [] → self.new.1 ≡ pruned self.old.1) }
-        ensures objects { IfOk result (λ gone. gone.objects + length self.new.1.records ≡ length self.old.1.records) }
-        ensures bytes { IfOk result (λ gone. gone.bytes + weight self.new.1.records ≡ weight self.old.1.records) }
+        ensures objects { IfOk result
+            (λ gone. gone.objects + length self.new.1.records ≡ length self.old.1.records) }
+        ensures bytes { IfOk result
+            (λ gone. gone.bytes + weight self.new.1.records ≡ weight self.old.1.records) }
         ensures unchanged { OnErr result (self.new ≡ self.old) }
     {
         let marks = reachable_marks(self.alloc, &self.store, &self.refs, kept)?;
@@ -64,7 +67,8 @@ fn reachable_marks<N: Namer, A: Allocator + Copy>(
 ) -> Result<Vec<bool, A>, AllocError>
     requires { IsSoundStore N.name_of store.now }
     ensures { IfOk result (λ marks. marks.items
-        ≡ marks_by (is_reachable (refs.now ++ tips_of (bytes_of_names kept.now)) store.now.1) store.now.1) }
+        ≡ marks_by (is_reachable (refs.now ++ tips_of (bytes_of_names kept.now)) store.now.1)
+        store.now.1) }
 {
     let count = store.len();
     let mut marks = vec![in alloc; false; count]?;
@@ -82,7 +86,8 @@ fn mark_reachable<N: Namer, A: Allocator + Copy>(
     requires sound { IsSoundStore N.name_of store.now }
     requires none { marks.old ≡ replicate (length store.now.1) false }
     ensures { marks.new
-        ≡ marks_by (is_reachable (refs.now ++ tips_of (bytes_of_names kept.now)) store.now.1) store.now.1 }
+        ≡ marks_by (is_reachable (refs.now ++ tips_of (bytes_of_names kept.now)) store.now.1)
+        store.now.1 }
 {
     mark_tips(store, marks, refs);
     mark_names(store, marks, kept);

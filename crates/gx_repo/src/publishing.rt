@@ -2,18 +2,18 @@
 ghost use Rattle.std.specs.Prelude.{◌≡◌, [], false, map, IsTrue, IfOk, OnErr, OnOk, None, IfErr};
 ghost use Rattle.std.specs.FinMap.Entries.{is_sorted};
 ghost use Rattle.gx_model.specs.Texts.{byte_cmp};
-ghost use Rattle.gx_repo.specs.Refs.{are_held, shown_update, shown_ref, ref_of, HasTagParts, TellsOwnRef};
+ghost use Rattle.gx_repo.specs.Refs.{are_held, shown_update, shown_ref, ref_of};
 ghost use Rattle.gx_repo.specs.Publishing.{Enters, HidesNoRefusal, IsAgainstChange, IsAgainstFirst, fault_of};
 ghost use Rattle.gx_model.specs.Records.Publishing.{with_changes, change_fault, changes_fault, published};
 ghost use Rattle.gx_model.specs.Faults.{Gives};
-ghost use Rattle.gx_model.specs.Stores.StoreReading.{is_target_of_kind};
 
 use crate::fault::PublishFault;
 use crate::ref_list::RefList;
 use crate::refs::Ref;
 use crate::repo::Repo;
+use crate::target::is_target;
 use gx_model::repository_laws::parts_change;
-use gx_object::{Kind, Name, Namer, decode_tag};
+use gx_object::{Name, Namer};
 use gx_text::is_ref_name;
 use std::alloc::{AllocError, Allocator};
 use std::collections::BTreeMap;
@@ -52,7 +52,8 @@ impl<N: Namer, A: Allocator + Copy> Repo<N, A> {
 
     /// Answers why the first of these changes that is refused is.
     fn check_all(&self, changes: &[RefChange<'_>]) -> Result<(), PublishFault>
-        ensures ok { OnOk result (changes_fault self.now.1.records (map shown_update changes.now) ≡ None) }
+        ensures ok { OnOk result
+            (changes_fault self.now.1.records (map shown_update changes.now) ≡ None) }
         ensures fault { IfErr result (IsAgainstFirst self.now.1.records changes.now) }
     {
         for change in changes {
@@ -63,7 +64,8 @@ impl<N: Namer, A: Allocator + Copy> Repo<N, A> {
 
     /// Answers why a change is refused.
     fn check(&self, change: &RefChange<'_>) -> Result<(), PublishFault>
-        ensures ok { OnOk result (change_fault self.now.1.records (shown_update change.now) ≡ None) }
+        ensures ok { OnOk result
+            (change_fault self.now.1.records (shown_update change.now) ≡ None) }
         ensures fault { IfErr result (IsAgainstChange self.now.1.records change.now) }
     {
         if !is_ref_name(change.name) {
@@ -80,34 +82,11 @@ impl<N: Namer, A: Allocator + Copy> Repo<N, A> {
     }
 }
 
-/// Whether a ref may hold an object of this kind and body: a commit, or a tag whose own name makes the ref's.
-fn is_target(name: &[u8], kind: Kind, body: &[u8]) -> bool
-    ensures { HasTagParts kind body.now → result ≡ is_target_of_kind name.now kind body.now }
-{
-    match kind {
-        Kind::Commit => true,
-        Kind::Tag => is_own_ref(name, body),
-        _ => false,
-    }
-}
-
-/// Whether a ref's name is made by the own name of the tag with this body.
-fn is_own_ref(name: &[u8], body: &[u8]) -> bool
-    ensures { TellsOwnRef name.now body.now result }
-{
-    let Ok(tag) = decode_tag(body) else {
-        return false;
-    };
-    match name.strip_prefix(b"refs/tags/") {
-        Some(rest) => rest == tag.name(),
-        None => false,
-    }
-}
-
 impl<A: Allocator + Copy> RefList<A> {
     /// Makes the changes in turn. Where a growth is refused the refs are as they were; none is needed where all are held.
     pub(crate) fn change(&mut self, alloc: A, changes: &[RefChange<'_>]) -> Result<(), AllocError>
-        ensures set { OnOk result (self.new ≡ with_changes self.old (map shown_update changes.now)) }
+        ensures set { OnOk result
+            (self.new ≡ with_changes self.old (map shown_update changes.now)) }
         ensures unchanged { OnErr result (self.new ≡ self.old) }
         ensures missing { OnErr result (are_held self.old (map shown_update changes.now) ≡ false) }
     {
@@ -143,7 +122,8 @@ impl<A: Allocator + Copy> RefList<A> {
 
     /// Copies of these refs, with the changes made in turn.
     fn with_changes(&self, alloc: A, changes: &[RefChange<'_>]) -> Result<RefList<A>, AllocError>
-        ensures { IfOk result (λ made. made ≡ with_changes self.now (map shown_update changes.now)) }
+        ensures { IfOk result (λ made. made
+            ≡ with_changes self.now (map shown_update changes.now)) }
     {
         let mut objects = BTreeMap::new(alloc);
         self.enter_into(alloc, &mut objects)?;

@@ -159,7 +159,8 @@ fn copied<A: Allocator + Copy>(alloc: A, refs: &[Ref<A>]) -> Result<Vec<Ref<A>, 
 /// The place of the ref of this name, or the one that it would have.
 fn place_of<A: Allocator + Copy>(refs: &[Ref<A>], name: &[u8]) -> Result<usize, usize>
     ensures bound { IsSearchInRange result (length refs.now) }
-    ensures place { IsBinarySearchResult (λ held. byte_cmp held.name.items name.now) refs.now result }
+    ensures place { IsBinarySearchResult
+        (λ held. byte_cmp held.name.items name.now) refs.now result }
 {
     refs.binary_search_by(|held| held.name.as_slice().cmp(name))
 }

@@ -86,7 +86,8 @@ fn put_change<A: Allocator + Copy>(
     old: Option<Name>,
     new: Option<Name>,
 ) -> Result<(), AllocError>
-    ensures { OnOk result (report.new.items ≡ report.old.items ++ line_where_they_differ name.now (differing old new)) }
+    ensures { OnOk result (report.new.items ≡ report.old.items
+        ++ line_where_they_differ name.now (differing old new)) }
 {
     if old == new {
         return Ok(());
@@ -103,7 +104,8 @@ fn put_digits<A: Allocator + Copy>(
     report: &mut Vec<u8, A>,
     object: Option<Name>,
 ) -> Result<(), AllocError>
-    ensures { OnOk result (report.new.items ≡ report.old.items ++ (digits_or_zeros (bytes_if object) ++ 32 ∷ [])) }
+    ensures { OnOk result (report.new.items ≡ report.old.items
+        ++ (digits_or_zeros (bytes_if object) ++ 32 ∷ [])) }
 {
     let digits = match object {
         Some(object) => object.hex(),

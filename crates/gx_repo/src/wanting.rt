@@ -27,7 +27,8 @@ pub(crate) fn fault_without_memory<N: Namer, A: Allocator + Copy>(
 ) -> AddFault
     requires sound { IsSoundStore N.name_of store.now }
     requires fault { MayRefuse store.now.1 kind body.now fault }
-    ensures { MayRefuseRecord store.now.1 (record_for (N.name_of store.now.0) kind body.now) result }
+    ensures { MayRefuseRecord store.now.1
+        (record_for (N.name_of store.now.0) kind body.now) result }
 {
     match fault {
         AddFault::OutOfMemory => fault_without_rooms(store, kind, body),
@@ -48,7 +49,8 @@ pub(crate) fn fault_without_rooms<N: Namer, A: Allocator + Copy>(
 ) -> AddFault
     requires sound { IsSoundStore N.name_of store.now }
     requires linked { IsLinkedTree store.now.1 kind body.now }
-    ensures { MayRefuseRecord store.now.1 (record_for (N.name_of store.now.0) kind body.now) result }
+    ensures { MayRefuseRecord store.now.1
+        (record_for (N.name_of store.now.0) kind body.now) result }
 {
     if has_empty_directory(store, body) {
         return AddFault::BadObject;
@@ -75,7 +77,8 @@ fn has_empty_directory<N: Namer, A: Allocator + Copy>(store: &Store<N, A>, body:
 
 /// Whether an entry names a tree without entries.
 fn is_empty_directory<N: Namer, A: Allocator + Copy>(store: &Store<N, A>, entry: &Entry<'_>) -> bool
-    ensures { result ≡ (is_dir (shown entry.now).mode && is_without_entries (record_named store.now.1 (shown entry.now).name)) }
+    ensures { result ≡ (is_dir (shown entry.now).mode && is_without_entries
+        (record_named store.now.1 (shown entry.now).name)) }
 {
     match entry.mode {
         Mode::Dir => is_without_entries(store, &entry.name),
@@ -95,8 +98,10 @@ fn is_without_entries<N: Namer, A: Allocator + Copy>(store: &Store<N, A>, name: 
 
 /// Whether an object of this kind with this body is held.
 fn is_held<N: Namer, A: Allocator + Copy>(store: &Store<N, A>, kind: Kind, body: &[u8]) -> bool
-    ensures held { IsTrue result → IsRecordHeld store.now.1 (record_for (N.name_of store.now.0) kind body.now) }
-    ensures new { result ≡ false → IsRecordHeld store.now.1 (record_for (N.name_of store.now.0) kind body.now) → ⊥ }
+    ensures held { IsTrue result
+        → IsRecordHeld store.now.1 (record_for (N.name_of store.now.0) kind body.now) }
+    ensures new { result ≡ false
+        → IsRecordHeld store.now.1 (record_for (N.name_of store.now.0) kind body.now) → ⊥ }
 {
     match store.get(&store.name(kind, body)) {
         Some((held, bytes)) => is_same(held, bytes, kind, body),

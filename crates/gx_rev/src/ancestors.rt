@@ -143,7 +143,8 @@ pub(crate) fn insert_places<N: Namer, A: Allocator + Copy>(
     requires commit { IsCommitPlace repo.now.1 place }
     requires parents { AreParentPlaces repo.now.1 place parents.now }
     requires before { AllByRecursion (IsCommitBefore repo.now.1 place) places.now.keys }
-    ensures before { OnOk result (AllByRecursion (IsCommitBefore repo.now.1 place) places.new.keys) }
+    ensures before { OnOk result
+        (AllByRecursion (IsCommitBefore repo.now.1 place) places.new.keys) }
     ensures parents { OnOk result (AddsParentsAt repo.now.1 place places.old.keys places.new.keys) }
 {
     repo.sound();
@@ -161,7 +162,8 @@ fn insert_parents<N: Namer, A: Allocator + Copy>(
 ) -> Result<(), AllocError>
     requires commit { IsCommitPlace repo.now.1 place }
     requires before { AllByRecursion (IsCommitBefore repo.now.1 place) places.now.keys }
-    ensures before { OnOk result (AllByRecursion (IsCommitBefore repo.now.1 place) places.new.keys) }
+    ensures before { OnOk result
+        (AllByRecursion (IsCommitBefore repo.now.1 place) places.new.keys) }
     ensures parents { OnOk result (AddsParentsAt repo.now.1 place places.old.keys places.new.keys) }
 {
     repo.sound();

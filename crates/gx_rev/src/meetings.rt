@@ -120,7 +120,8 @@ fn visit<N: Namer, A: Allocator + Copy>(
     requires before { AllByRecursion (IsCommitBefore repo.now.1 place) places.now.keys }
     requires holds { HoldsParents repo.now.1 parents.old }
     ensures holds { HoldsParents repo.now.1 parents.new }
-    ensures before { OnOk result (AllByRecursion (IsCommitBefore repo.now.1 place) places.new.keys) }
+    ensures before { OnOk result
+        (AllByRecursion (IsCommitBefore repo.now.1 place) places.new.keys) }
     ensures parents { OnOk result (AddsParentsAt repo.now.1 place places.old.keys places.new.keys) }
 {
     parents.learn(repo, place)?;

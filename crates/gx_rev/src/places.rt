@@ -21,7 +21,8 @@ pub(crate) fn walk_down<N: Namer, A: Allocator + Copy>(
     path: &TreePath<A>,
 ) -> Option<(Mode, Name)>
     requires { IsHeldAs kinds.Tree repo.now.1 tree.now }
-    ensures place { option_map shown_place result ≡ walked repo.now.1.records tree.now.bytes path.now }
+    ensures place { option_map shown_place result
+        ≡ walked repo.now.1.records tree.now.bytes path.now }
     ensures held { IfSome result (IsHeldPlace repo.now.1) }
 {
     let mut mode = Mode::Dir;

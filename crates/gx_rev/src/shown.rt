@@ -200,7 +200,8 @@ pub fn tree<N: Namer, A: Allocator + Copy>(
     revision: &Revision<A>,
 ) -> Result<Name, RevFault>
     ensures files { Gives fault_of (files_at repo.now.1) result
-        (value_denoted (N.name_of repo.now.0) (history_of repo.now.1) revision.now and_then files_in) }
+        (value_denoted (N.name_of repo.now.0) (history_of repo.now.1) revision.now
+        and_then files_in) }
     ensures held { IfOk result (IsHeldAs kinds.Tree repo.now.1) }
     ensures memory { NeedsNoMemory RevFault.OutOfMemory result }
 {
@@ -218,7 +219,8 @@ pub fn tree_of_text<N: Namer, A: Allocator + Copy>(
     text: &[u8],
 ) -> Result<Name, RevFault>
     ensures files { Gives fault_of (files_at repo.now.1) result (revision_of text.now
-        and_then λ r. value_denoted (N.name_of repo.now.0) (history_of repo.now.1) r and_then files_in) }
+        and_then λ r. value_denoted (N.name_of repo.now.0) (history_of repo.now.1) r
+        and_then files_in) }
     ensures held { IfOk result (IsHeldAs kinds.Tree repo.now.1) }
     ensures first { FaultsComeFirst result (revision_of text.now) }
 {

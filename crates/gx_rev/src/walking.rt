@@ -57,7 +57,8 @@ pub fn walked<N: Namer, A: Allocator + Copy>(
     repo: &Repo<N, A>,
     words: &[Range<A>],
 ) -> Result<(Vec<bool, A>, Vec<bool, A>), WalkFault>
-    ensures marks { MarksWords (N.name_of repo.now.0) repo.now.1 (map shown_range words.now) result }
+    ensures marks { MarksWords (N.name_of repo.now.0) repo.now.1
+        (map shown_range words.now) result }
     ensures first { WordsComeFirst result
         (words_denoted (N.name_of repo.now.0) (history_of repo.now.1) (map shown_range words.now)) }
 {
@@ -191,8 +192,10 @@ fn check_word<N: Namer, A: Allocator + Copy>(
     word: &Range<A>,
 ) -> Result<(), RevFault>
     ensures right { OnOk result
-        (IsOk (word_denoted (N.name_of repo.now.0) (history_of repo.now.1) (shown_range word.now))) }
-    ensures fault { IfErr result (λ fault. word_denoted (N.name_of repo.now.0) (history_of repo.now.1)
+        (IsOk (word_denoted (N.name_of repo.now.0) (history_of repo.now.1)
+        (shown_range word.now))) }
+    ensures fault { IfErr result
+        (λ fault. word_denoted (N.name_of repo.now.0) (history_of repo.now.1)
         (shown_range word.now) ≡ Err (fault_of fault)) }
     ensures memory { NeedsNoMemory RevFault.OutOfMemory result }
 {
@@ -337,7 +340,8 @@ fn mark_without_one<N: Namer, A: Allocator + Copy>(
 ) -> Result<(), RevFault>
     requires included { length included.old ≡ length (values_of repo.now.1) }
     requires excluded { length excluded.old ≡ length (values_of repo.now.1) }
-    ensures marks { MarksWord (N.name_of repo.now.0) repo.now.1 (words.WithoutOne revision.now number)
+    ensures marks { MarksWord (N.name_of repo.now.0) repo.now.1
+        (words.WithoutOne revision.now number)
         (included.old, excluded.old) (included.new, excluded.new) result }
     ensures memory { NeedsNoMemory RevFault.OutOfMemory result }
 {

@@ -3,22 +3,21 @@
 ghost use Rattle.std.specs.Prelude.{◌≡◌, false, map, true, IfNone, IfOk, IfSome, IsTrue, List};
 ghost use Rattle.std.specs.List.{AllByRecursion, flat_map, list_all};
 ghost use Rattle.gx_model.specs.Records.Publishing.{Ref};
-ghost use Rattle.gx_model.specs.Stores.StoreReading.{is_target_of_kind};
 ghost use Rattle.gx_model.specs.Stores.StoreText.{stored_ref};
 ghost use Rattle.gx_model.specs.Texts.RefNames.{is_ref_name};
 ghost use Rattle.gx_objects.specs.Answers.{AreRefs, SpellsRefs};
 ghost use Rattle.gx_ref_lines.specs.Refs.{shown_refs};
-ghost use Rattle.gx_repo.specs.Refs.{HasTagParts, TellsOwnRef, shown_update};
+ghost use Rattle.gx_repo.specs.Refs.{shown_update};
 ghost use Rattle.gx_reached.specs.Damages.{damage_in};
 ghost use Rattle.gx_salvage_refs.specs.Parting.{IsKnownDamage, IsLossBy, IsLossOf};
 ghost use Rattle.gx_salvage_refs.specs.Salvaging.{ArePartedBy, is_settable};
 
 use crate::Lost;
-use gx_object::{Kind, Name, Namer, decode_tag};
+use gx_object::{Name, Namer};
 use gx_objects::LookFault;
 use gx_reached::{Bad, Cause, Damage};
 use gx_ref_lines::RefLines;
-use gx_repo::{RefChange, Repo};
+use gx_repo::{RefChange, Repo, is_target};
 use std::alloc::{AllocError, Allocator};
 
 /// Refs, parted by whether a repository has what they hold: the changes that set those that are kept, and the others.
@@ -71,7 +70,8 @@ pub(crate) fn part<'a, N: Namer, A: Allocator + Copy>(
     refs: &[RefChange<'a>],
 ) -> Result<Parted<'a, A>, AllocError>
     requires names { IsTrue (list_all (λ ref. is_ref_name ref.0) (map shown_update refs.now)) }
-    ensures parted { IfOk result (λ parted. ArePartedBy repo.now.1.records (map shown_update refs.now)
+    ensures parted { IfOk result
+        (λ parted. ArePartedBy repo.now.1.records (map shown_update refs.now)
         (map shown_update parted.kept.items) parted.lost.items) }
     ensures lost { IfOk result (λ parted.
         AllByRecursion (IsLossBy repo.now.1.records bad.now) parted.lost.items) }
@@ -100,7 +100,8 @@ fn loss_of<N: Namer, A: Allocator + Copy>(
 ) -> Option<Damage>
     requires name { IsTrue (is_ref_name change.now.name.now) }
     ensures kept { IfNone result (is_settable repo.now.1.records (shown_update change.now) ≡ true) }
-    ensures lost { IfSome result (λ _. is_settable repo.now.1.records (shown_update change.now) ≡ false) }
+    ensures lost { IfSome result
+        (λ _. is_settable repo.now.1.records (shown_update change.now) ≡ false) }
     ensures damage { IfSome result (IsLossOf repo.now.1.records bad.now change.now.target) }
 {
     let object = change.target;
@@ -126,29 +127,5 @@ fn known_damage<A: Allocator + Copy>(bad: &Bad<A>, change: &RefChange<'_>) -> Da
             object: change.target,
             cause: Cause::Damaged,
         },
-    }
-}
-
-/// Whether a ref may hold an object of this kind and body: a commit, or a tag whose own name makes the ref's.
-fn is_target(name: &[u8], kind: Kind, body: &[u8]) -> bool
-    ensures { HasTagParts kind body.now → result ≡ is_target_of_kind name.now kind body.now }
-{
-    match kind {
-        Kind::Commit => true,
-        Kind::Tag => is_own_ref(name, body),
-        Kind::Blob | Kind::Tree => false,
-    }
-}
-
-/// Whether a ref's name is made by the own name of the tag with this body.
-fn is_own_ref(name: &[u8], body: &[u8]) -> bool
-    ensures { TellsOwnRef name.now body.now result }
-{
-    let Ok(tag) = decode_tag(body) else {
-        return false;
-    };
-    match name.strip_prefix(b"refs/tags/") {
-        Some(rest) => rest == tag.name(),
-        None => false,
     }
 }

@@ -61,7 +61,8 @@ fn take<O: Objects, N: Namer, A: Allocator + Copy>(
     requires there { StandsIfTold (O.told objects.now) (O.stands objects.now) name.now.bytes place }
     requires ready { IfSome (O.told objects.now) (λ r. AreOf r repo.old.1.records
         × IsReady r repo.old.1.records bad.old name.now.bytes) }
-    requires bad { AreUnsaved (O.name_of objects.now) (O.told objects.now) repo.old.1.records bad.old }
+    requires bad { AreUnsaved (O.name_of objects.now) (O.told objects.now)
+        repo.old.1.records bad.old }
     ensures namer { repo.new.0 ≡ repo.old.0 }
     ensures refs { repo.new.1.refs ≡ repo.old.1.refs }
     ensures bad { OnOk result (AreUnsaved (O.name_of objects.now) (O.told objects.now)
@@ -105,8 +106,10 @@ fn add<O: Objects, N: Namer, A: Allocator + Copy>(
     requires unheld { record_named repo.old.1.records name.now.bytes ≡ None }
     requires fresh { damage_in bad.old name.now.bytes ≡ None }
     requires ready { IfSome (O.told objects.now) (λ r. AreOf r repo.old.1.records
-        × IsReady r repo.old.1.records bad.old name.now.bytes × IsHeldThere name.now.bytes r object) }
-    requires bad { AreUnsaved (O.name_of objects.now) (O.told objects.now) repo.old.1.records bad.old }
+        × IsReady r repo.old.1.records bad.old name.now.bytes
+        × IsHeldThere name.now.bytes r object) }
+    requires bad { AreUnsaved (O.name_of objects.now) (O.told objects.now)
+        repo.old.1.records bad.old }
     ensures namer { repo.new.0 ≡ repo.old.0 }
     ensures refs { repo.new.1.refs ≡ repo.old.1.refs }
     ensures bad { OnOk result (AreUnsaved (O.name_of objects.now) (O.told objects.now)

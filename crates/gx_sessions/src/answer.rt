@@ -6,6 +6,7 @@ use crate::pass::Pass;
 use crate::serving::{Ending, serve_line};
 use crate::shown::shown;
 use crate::store_text::store_of;
+use gx_asks::Change;
 use gx_cli::{CliFault, Line};
 use std::alloc::{AllocError, Global};
 
@@ -183,40 +184,26 @@ fn store_bytes(folder: &Folder, file: &str, pass: Pass) -> Result<Vec<u8>, Alloc
 fn file_fault(folder: &Folder, line: &Line<'_>) -> Option<CliFault> {
     let file = file_of(line)?;
     let is_there = folder.file(file).is_some();
-    match line {
-        Line::Init { .. } if is_there => Some(CliFault::StoreExists),
-        Line::Init { .. } => None,
-        _ if is_there => None,
-        _ => Some(CliFault::ReadFailed),
+    let is_init = matches!(
+        line,
+        Line::Change {
+            change: Change::Init { .. },
+            ..
+        }
+    );
+    match (is_init, is_there) {
+        (true, true) => Some(CliFault::StoreExists),
+        (false, false) => Some(CliFault::ReadFailed),
+        _ => None,
     }
 }
 
 /// The store's file in a command line.
 fn file_of<'a>(line: &Line<'a>) -> Option<&'a str> {
     match line {
-        Line::Blobs
-        | Line::Try { .. }
-        | Line::Check { .. }
-        | Line::Adapt { .. }
-        | Line::Where(_)
-        | Line::WhereFault { .. } => None,
-        Line::Init { file, .. }
-        | Line::Grow { file, .. }
-        | Line::Verify { file, .. }
-        | Line::Import { file, .. }
-        | Line::Push { file, .. }
-        | Line::Drop { file, .. }
-        | Line::SetRef { file, .. }
-        | Line::Put { file, .. }
-        | Line::Gc { file, .. }
-        | Line::Export { file, .. }
-        | Line::ExportRange { file, .. }
-        | Line::Refs { file }
-        | Line::Batch { file, .. }
-        | Line::Show { file, .. }
-        | Line::Ls { file, .. }
-        | Line::Archive { file, .. }
-        | Line::Log { file, .. }
-        | Line::RevParse { file, .. } => Some(file),
+        Line::Stream(_) => None,
+        Line::Ask { file, .. } | Line::Change { file, .. } | Line::Verify { file, .. } => {
+            Some(file)
+        }
     }
 }

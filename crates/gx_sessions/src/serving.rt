@@ -2,6 +2,7 @@
 
 use crate::pass::Pass;
 use crate::reporting::{collected, imported, reported};
+use gx_asks::{Change, Trial};
 use gx_cli::{
     AdaptReport, Adapted, CliFault, Features, ImportReport, Line, Outcome, Pruned, adapt_status,
     adapt_stream, lost_lines, serve, serve_owned,
@@ -54,16 +55,10 @@ pub(crate) fn serve_line(
 
 /// Whether a command that is accepted makes a next text.
 fn makes_text(line: &Line<'_>) -> bool {
-    matches!(
-        line,
-        Line::Init { .. }
-            | Line::Import { .. }
-            | Line::Push { .. }
-            | Line::Drop { .. }
-            | Line::SetRef { .. }
-            | Line::Put { .. }
-            | Line::Gc { .. }
-    )
+    match line {
+        Line::Change { change, .. } => !matches!(change, Change::Grow),
+        _ => false,
+    }
 }
 
 /// What a command tells of its work.
@@ -88,10 +83,13 @@ fn ended<N: Namer + Copy + Drop, R: Source + Drop, W: Sink>(
     sink: &mut W,
     pass: Pass,
 ) -> (Outcome<Global>, Report) {
-    if let Line::Import {
-        done,
-        force,
-        report: true,
+    if let Line::Change {
+        change: Change::Import {
+            done,
+            force,
+            report: true,
+            ..
+        },
         ..
     } = line
     {
@@ -106,15 +104,23 @@ fn ended<N: Namer + Copy + Drop, R: Source + Drop, W: Sink>(
         return (outcome, Report::Unknown);
     }
     match line {
-        Line::Import { done, force, .. } => {
+        Line::Change {
+            change: Change::Import { done, force, .. },
+            ..
+        } => {
             let features = Features {
                 done: *done,
                 force: *force,
             };
             imported(alloc, namer, store, source, sink, features, pass.state)
         }
-        Line::Gc { .. } => collected(alloc, namer, store, pass.state),
-        Line::Adapt { drop_signatures } => adapted(alloc, source, sink, *drop_signatures),
+        Line::Change {
+            change: Change::Gc { .. },
+            ..
+        } => collected(alloc, namer, store, pass.state),
+        Line::Stream(Trial::Adapt { drop_signatures }) => {
+            adapted(alloc, source, sink, *drop_signatures)
+        }
         _ => {
             let outcome = serve(alloc, namer, line, &store, source, sink, pass.state);
             (outcome, Report::Unknown)

@@ -10,11 +10,9 @@ use gx_object::{CommitView, Entry, Kind, Mode, Name, Namer, decode_commit, decod
 use gx_objects::Objects;
 use gx_repo::Repo;
 use gx_stand_ins::{StandIn, blob_body, commit_body};
+use gx_text::MOST_BYTES;
 use std::alloc::Allocator;
 use std::collections::BTreeSet;
-
-/// No path has more bytes. Source: path_resolution(7).
-const MOST_PATH: usize = 4095;
 
 /// Where objects come from: a repository, and which blobs a stream brings.
 #[derive(Drop)]
@@ -39,7 +37,7 @@ pub(crate) fn put_object<O: Objects, N: Namer, A: Allocator + Copy>(
 {
     match kind {
         Kind::Blob | Kind::Tag => put_own(origin, repo, kind, name),
-        Kind::Tree => put_tree(origin, repo, name, MOST_PATH),
+        Kind::Tree => put_tree(origin, repo, name, MOST_BYTES),
         Kind::Commit => put_commit(origin, repo, name),
     }
 }
@@ -60,7 +58,7 @@ fn put_commit<O: Objects, N: Namer, A: Allocator + Copy>(
     let body = body_of(origin.objects, &mut room, Kind::Commit, name)?;
     let view = decode_commit(body)?;
     let root = view.tree();
-    put_tree(origin, repo, &root, MOST_PATH)?;
+    put_tree(origin, repo, &root, MOST_BYTES)?;
     if are_parents_held(repo, &view) {
         return put(repo, Kind::Commit, body, name);
     }

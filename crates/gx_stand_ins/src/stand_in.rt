@@ -28,9 +28,11 @@ pub struct StandIn<N> {
 }
 
 impl<N: Namer> Namer for StandIn<N> {
-    ghost name_of = { λ stand_in kind body. stand_name stand_in.nonce (N.name_of stand_in.namer) kind body };
+    ghost name_of = { λ stand_in kind body. stand_name stand_in.nonce
+        (N.name_of stand_in.namer) kind body };
 
-    ghost is_namer = { λ stand_in. stand_is_namer stand_in.nonce (N.name_of stand_in.namer) (N.is_namer stand_in.namer) };
+    ghost is_namer = { λ stand_in. stand_is_namer stand_in.nonce (N.name_of stand_in.namer)
+        (N.is_namer stand_in.namer) };
 
     fn name(&self, kind: Kind, body: &[u8]) -> Name {
         match stood_for(&self.nonce, kind, body) {

@@ -50,7 +50,8 @@ impl<N: Namer, A: Allocator> Model for Store<N, A> {
 
     ghost view = { λ s. (s.namer, map shown_stored s.objects.entries) };
 
-    ghost invariant = { λ s. IsStore (N.name_of s.namer) s.objects.entries s.fronts (keys s.objects) };
+    ghost invariant = { λ s. IsStore (N.name_of s.namer) s.objects.entries
+        s.fronts (keys s.objects) };
 }
 
 impl<N: Namer, A: Allocator + Copy> Store<N, A> {
@@ -121,7 +122,8 @@ impl<N: Namer, A: Allocator + Copy> Store<N, A> {
 
     /// The kind and the body of the object with this name. Cost: constant, as expected of hashes. Takes no memory.
     pub fn get(&self, name: &Name) -> Option<(Kind, &[u8])>
-        ensures { option_map shown_object result ≡ option_map object_of (record_named self.now.1 name.now.bytes) }
+        ensures { option_map shown_object result
+            ≡ option_map object_of (record_named self.now.1 name.now.bytes) }
     {
         let object = self.objects.get(name)?;
         Some((object.kind, object.body.as_slice()))

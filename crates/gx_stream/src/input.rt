@@ -47,7 +47,8 @@ impl<R: Source, A: Allocator + Copy> Input<R, A> {
         ensures sound { IsSound self.new }
         ensures within { IsFoundWithin (text_of self.new) result }
         ensures answers { AnswersAs
-            (shown_input self.old (R.coming self.old.source)) (shown_input self.new (R.coming self.new.source))
+            (shown_input self.old (R.coming self.old.source))
+            (shown_input self.new (R.coming self.new.source))
             (answer_at (text_of self.new) result) }
     {
         let Ok(found) = self.find_next() else {
@@ -65,7 +66,8 @@ impl<R: Source, A: Allocator + Copy> Input<R, A> {
         requires { IsSound self.old }
         ensures sound { IsSound self.new }
         ensures gives { GivesBlock
-            (shown_input self.old (R.coming self.old.source)) (shown_input self.new (R.coming self.new.source))
+            (shown_input self.old (R.coming self.old.source))
+            (shown_input self.new (R.coming self.new.source))
             result }
     {
         let Ok(found) = self.find_next() else {
@@ -91,7 +93,8 @@ impl<R: Source, A: Allocator + Copy> Input<R, A> {
         ensures sound { IsSound self.new }
         ensures keeps { OnOk result (KeepsInput R.coming self.old self.new) }
         ensures found { IfOk result (λ found. FindsNext self.new found) }
-        ensures refused { OnErr result ((shown_over self.old.state ≡ None) × (is_full self.new ≡ true)) }
+        ensures refused { OnErr result
+            ((shown_over self.old.state ≡ None) × (is_full self.new ≡ true)) }
     {
         loop {
             let came = &self.text[..self.came];

@@ -121,10 +121,12 @@ pub(crate) fn find_item(text: &[u8], at: &mut usize, scan: &mut Scan, fails: boo
 /// The item that begins with a line which is no comment.
 #[tactic(auto, unfolding(gx_model::specs::Streams::Items::first_line))]
 pub(crate) fn find_from(text: &[u8], line: Place, scan: &mut Scan, fails: bool) -> Found
-    requires within { (line.start ≤ line.end) × (line.end ≤ line.next) × (line.next ≤ length text.now) }
+    requires within { (line.start ≤ line.end) × (line.end ≤ line.next)
+        × (line.next ≤ length text.now) }
     requires no_comment { starts_with nat_eq (bytes_at text.now line) (codes "#") ≡ false }
     requires scan { IsSearched text.now (delimiter_at text.now line) fails line.next scan.old }
-    ensures begins { Begins text.now (first_line (bytes_at text.now line) (drop line.next text.now) fails) result }
+    ensures begins { Begins text.now
+        (first_line (bytes_at text.now line) (drop line.next text.now) fails) result }
     ensures scan { IsSearched text.now (delimiter_at text.now line) fails line.next scan.new }
     ensures first { scan.new.first ≡ scan.old.first }
 {

@@ -69,7 +69,8 @@ impl<R: Source, A: Allocator + Copy> ItemReader<R, A> {
     /// before it, however they are cut.
     /// Source: git-fast-import(1), "Comments" and "data".
     pub fn next(&mut self) -> Result<Option<Item<'_>>, StreamFault>
-        ensures* reads { sem 𝓛 (Rests (the_row R.row A.row R.Source A.Allocator) self.entry (λ new. Answers self.old new result)) }
+        ensures* reads { sem 𝓛 (Rests (the_row R.row A.row R.Source A.Allocator) self.entry
+            (λ new. Answers self.old new result)) }
     {
         let found = self.input.take_next();
         let came = &self.input.text[..self.input.came];

@@ -24,5 +24,6 @@ pub use memory::{Bytes, Growing, Held};
 pub use number::{decimal, mark_number};
 pub use outside::{FromRead, IntoWrite};
 pub use path::{MOST_BYTES, TreePath};
+pub use printed::put_printed;
 pub use quoted::after_quoted;
 pub use ref_name::is_ref_name;

@@ -100,7 +100,8 @@ impl<W: Write> Sink for IntoWrite<W> {
 /// Reads, in so many tries as that takes.
 fn read_tried<R: Read>(reader: &mut R, buffer: &mut [u8]) -> Result<usize, Failed>
     ensures bound { IfOk result (λ n. n ≤ length buffer.new) }
-    ensures read { ReadConsumes (R.remaining reader.old) (R.remaining reader.new) result buffer.new }
+    ensures read { ReadConsumes (R.remaining reader.old)
+        (R.remaining reader.new) result buffer.new }
 {
     for _try in 0..MOST_TRIES {
         match reader.read(buffer) {
@@ -116,7 +117,8 @@ fn read_tried<R: Read>(reader: &mut R, buffer: &mut [u8]) -> Result<usize, Faile
 fn write_tried<W: Write>(writer: &mut W, bytes: &[u8]) -> Result<usize, Failed>
     ensures bound { IfOk result (λ n. n ≤ length bytes.now) }
     ensures some { IfOk result (λ n. 0 < n) }
-    ensures written { WriteAppends (W.contents writer.old) (W.contents writer.new) result bytes.now }
+    ensures written { WriteAppends (W.contents writer.old)
+        (W.contents writer.new) result bytes.now }
 {
     for _try in 0..MOST_TRIES {
         match writer.write(bytes) {

@@ -38,7 +38,8 @@ impl<A: Allocator> Model for TreePath<A> {
 
     ghost view = { λ p. parts_of p.text.items };
 
-    ghost invariant = { λ p. (path_of p.text.items ≡ Ok (parts_of p.text.items)) × (p.ends.items ≡ component_ends p.text.items) };
+    ghost invariant = { λ p. (path_of p.text.items ≡ Ok (parts_of p.text.items))
+        × (p.ends.items ≡ component_ends p.text.items) };
 }
 
 impl<A: Allocator + Copy> TreePath<A> {
@@ -72,7 +73,8 @@ impl<A: Allocator + Copy> TreePath<A> {
     /// Source: git-fast-import(1), "filemodify", on C-style quoting.
     #[tactic(auto, unfolding(gx_model::specs::Texts::Paths::quoted_of))]
     pub fn read_quoted(alloc: A, bytes: &[u8]) -> Result<(TreePath<A>, usize), TextFault>
-        ensures path { Gives fault_of (λ p. (p.0, drop p.1 bytes.now)) result (quoted_of bytes.now) }
+        ensures path { Gives fault_of (λ p. (p.0, drop p.1 bytes.now)) result
+            (quoted_of bytes.now) }
         ensures within { IfOk result (λ p. p.1 ≤ length bytes.now) }
     {
         let (text, rest) = unquoted(alloc, bytes)?;

@@ -57,7 +57,8 @@ pub fn after_quoted(bytes: &[u8]) -> Option<&[u8]>
 
 // What follows the closing quote.
 fn after_body(body: &[u8]) -> Option<&[u8]>
-    ensures { option_map (λ rest. rest.now) result ≡ option_map (λ p. p.1) (unquote_within (length body.now) body.now) }
+    ensures { option_map (λ rest. rest.now) result
+        ≡ option_map (λ p. p.1) (unquote_within (length body.now) body.now) }
 {
     let mut rest = body;
     for _turn in 0..body.len() {

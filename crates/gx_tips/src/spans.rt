@@ -62,7 +62,8 @@ impl<A: Allocator + Copy> Spans<A> {
         refs: &[Tip<'t>],
     ) -> Result<Vec<Tip<'t>, A>, LookFault>
         requires spans { IfSome (O.told objects.now) (AreHeld (O.stands objects.now) self.now) }
-        requires refs { IfSome (O.told objects.now) (λ r. AreAllRefs (O.stands objects.now) r refs.now) }
+        requires refs { IfSome (O.told objects.now)
+            (λ r. AreAllRefs (O.stands objects.now) r refs.now) }
         ensures found { Tells (O.told objects.now) (λ r found.
             AreSetRefs (O.stands objects.now) self.now r found.items) result }
         ensures fault { OnlyUntold (O.told objects.now) result }
@@ -103,7 +104,8 @@ fn add_all<O: Objects, A: Allocator + Copy>(
     others: &BTreeMap<u64, Name, A>,
 ) -> Result<(), LookFault>
     requires tips { IfSome (O.told objects.now) (AreTips (O.stands objects.now) front.old.entries) }
-    requires others { IfSome (O.told objects.now) (AreTips (O.stands objects.now) others.now.entries) }
+    requires others { IfSome (O.told objects.now)
+        (AreTips (O.stands objects.now) others.now.entries) }
     ensures adds { Tells (O.told objects.now) (λ r _. Adds (O.stands objects.now)
         (lead_to r others.now.entries) front.old.entries front.new.entries r) result }
     ensures fault { OnlyUntold (O.told objects.now) result }

@@ -12,9 +12,9 @@ use Rattle.gx_model.specs.Texts.{Bytes}
 use Rattle.gx_model.specs.Texts.Sinks.{Taken, Took}
 use Rattle.gx_model.proofs.Texts.SentTexts.{IsLeft, all_left, less_left, none_left, took_nothing}
 use Rattle.gx_object.specs.declared.name.Name.{Name}
-use Rattle.gx_line.specs.declared.command_line.LogFormat.{LogFormat}
-use Rattle.gx_line.specs.declared.command_line.LogFormat.TheVariants.{Names}
-use Rattle.gx_line.specs.declared.command_line.LogOptions.{LogOptions}
+use Rattle.gx_asks.specs.declared.question.LogFormat.{LogFormat}
+use Rattle.gx_asks.specs.declared.question.LogFormat.TheVariants.{Names}
+use Rattle.gx_asks.specs.declared.question.LogOptions.{LogOptions}
 use Rattle.gx_print.specs.Logs.{AreCommits, entries_text, entry_of, entry_of_parts, gap, next_entry, told_parts}
 use Rattle.gx_rev.specs.Objects.{IsHeldAs, commit_at}
 use Rattle.gx_print.proofs.ListedCommits.{commit_called}

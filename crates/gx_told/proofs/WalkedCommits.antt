@@ -10,7 +10,7 @@ use Rattle.gx_model.specs.Records.Sound.{IsSound}
 use Rattle.gx_model.specs.Texts.{Bytes}
 use Rattle.gx_model.specs.Texts.Sinks.{Taken, Took}
 use Rattle.gx_model.proofs.Texts.SentTexts.{IsLeft, all_left, less_left, none_left}
-use Rattle.gx_line.specs.declared.command_line.LogOptions.{LogOptions}
+use Rattle.gx_asks.specs.declared.question.LogOptions.{LogOptions}
 use Rattle.gx_print.specs.Logs.{entries_text, entry_of, entry_of_parts, gap, limited, next_entry}
 use Rattle.gx_ranges.specs.Listings.{AreTipsOf, IsListedFirst, Listed, ListsNext, StillLists}
 use Rattle.gx_ranges.specs.Fronts.{lead_to}

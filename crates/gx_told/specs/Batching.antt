@@ -15,8 +15,8 @@ use Rattle.gx_batch.specs.Formats.{object_line}
 use Rattle.gx_batch.specs.declared.ending.LineEnding.{LineEnding}
 use Rattle.gx_batch.specs.declared.fault.BatchFault.TheVariants as batch
 use Rattle.gx_batch.specs.declared.format.Part.{Part}
-use Rattle.gx_line.specs.declared.command_line.BatchForm.{BatchForm}
-use Rattle.gx_line.specs.declared.command_line.BatchForm.TheVariants as form
+use Rattle.gx_asks.specs.declared.question.BatchForm.{BatchForm}
+use Rattle.gx_asks.specs.declared.question.BatchForm.TheVariants as form
 use Rattle.gx_print.specs.Asking.{Asked, answered_by, archive, asked_of, contents, flush, info, log, ls, no_options, refs, rev_parse, unknown}
 use Rattle.gx_print.specs.Logs.{log_text}
 use Rattle.gx_print.specs.Stored.{list_text, names_text, refs_text}

@@ -15,9 +15,9 @@ use Rattle.gx_stream.specs.Heard.{heard}
 use Rattle.gx_batch.specs.Lines.{lines_from}
 use Rattle.gx_batch.specs.declared.ending.LineEnding.TheVariants.{Lf}
 use Rattle.gx_object.specs.declared.name.Name.{Name}
-use Rattle.gx_line.specs.declared.command_line.LogFormat.{LogFormat}
-use Rattle.gx_line.specs.declared.command_line.LogFormat.TheVariants.{Names}
-use Rattle.gx_line.specs.declared.command_line.LogOptions.{LogOptions}
+use Rattle.gx_asks.specs.declared.question.LogFormat.{LogFormat}
+use Rattle.gx_asks.specs.declared.question.LogFormat.TheVariants.{Names}
+use Rattle.gx_asks.specs.declared.question.LogOptions.{LogOptions}
 use Rattle.gx_print.specs.Logs.{arranged, commits_logged, entries_text, log_text}
 use Rattle.gx_print.specs.Stored.{Printed, all_words}
 use Rattle.gx_ranges.specs.Listings.{StillLists}

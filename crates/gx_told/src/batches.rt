@@ -8,8 +8,8 @@ mod revisions;
 
 use crate::ToldFault;
 use commands::answer_command;
+use gx_asks::BatchForm;
 use gx_batch::{Format, LineEnding, LineReader};
-use gx_line::BatchForm;
 use gx_objects::Objects;
 use gx_text::{Sink, Source};
 use revisions::answer_revision;

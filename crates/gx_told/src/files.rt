@@ -114,7 +114,8 @@ fn print_dir<O: Objects, A: Allocator + Copy, W: Sink>(
 ) -> Result<(), ToldFault>
     requires { IfTold (O.told objects.now)
         (IsBelow (O.name_of objects.now) path.old.items) tree.now.bytes }
-    ensures lines { IfTold (O.told objects.now) (λ r. PrintsText (flat_map (line_below path.old.items)
+    ensures lines { IfTold (O.told objects.now)
+        (λ r. PrintsText (flat_map (line_below path.old.items)
         (files_in (O.name_of objects.now) r tree.now.bytes))
         (W.taken sink.old) (W.taken sink.new)) result }
     ensures path { OnOk result (path.new.items ≡ path.old.items) }

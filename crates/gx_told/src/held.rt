@@ -22,7 +22,8 @@ pub(crate) fn body_as<'a, O: Objects, A: Allocator + Copy>(
     kind: Kind,
     name: &Name,
 ) -> Result<&'a [u8], AskFault>
-    requires { IfTold (O.told objects.now) (IsNamed (O.name_of objects.now)) (Object kind name.now) }
+    requires { IfTold (O.told objects.now) (IsNamed (O.name_of objects.now))
+        (Object kind name.now) }
     ensures body { IsOfTold (O.told objects.now) (λ r body.
         body.now ≡ body_of (O.name_of objects.now) (value_at r name.now)) result }
     ensures named { IfOk result (λ body. O.name_of objects.now kind body.now ≡ name.now.bytes) }

@@ -18,4 +18,4 @@ mod words;
 
 pub use batches::batch;
 pub use fault::ToldFault;
-pub use serving::{answer, answers};
+pub use serving::answer;

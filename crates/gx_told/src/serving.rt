@@ -1,8 +1,7 @@
-//! What a command line asks of a store, answered.
+//! Questions to a store, answered.
 
-ghost use Rattle.std.specs.Prelude.{◌≡◌};
 ghost use Rattle.gx_questions.specs.Answers.{IfTold};
-ghost use Rattle.gx_told.specs.Answering.{IsAnswered, is_told};
+ghost use Rattle.gx_told.specs.Answering.{IsAnswered};
 
 use crate::ToldFault;
 use crate::archive::print_archive;
@@ -11,28 +10,14 @@ use crate::ls::list;
 use crate::refs::print_refs;
 use crate::rev_parse::print_names;
 use crate::show::show;
-use gx_line::Line;
+use gx_asks::Question;
 use gx_objects::Objects;
 use gx_print::texts_of;
 use gx_text::{Sink, Source};
 use std::alloc::Allocator;
 
-/// Whether a command line asks what [`answer`] answers: `show`, `ls`, `archive`, `refs`, `rev-parse` and `log`.
-pub fn answers(line: &Line<'_>) -> bool
-    ensures { result ≡ is_told line.now }
-{
-    matches!(
-        line,
-        Line::Show { .. }
-            | Line::Ls { .. }
-            | Line::Archive { .. }
-            | Line::Refs { .. }
-            | Line::RevParse { .. }
-            | Line::Log { .. }
-    )
-}
-
-/// Answers what a command line asks of a store, which is asked for what it needs. Where it asks nothing of these, nothing is answered.
+/// Answers a question to a store, which is asked for what it needs. An export and a batch answer nothing here: these are
+/// [`batch`](crate::batch)'s, and `gx_export`'s and `gx_changes`'.
 ///
 /// `Revision`: the first word that isn't one, or else the first that gives nothing; nothing went out. `Damaged`: what the store
 /// holds is no repository's. `StoreReadFailed`, `OutOfMemory`, `WriteFailed`: a front of the text went out. `ReadFailed`: the source
@@ -44,35 +29,30 @@ pub fn answers(line: &Line<'_>) -> bool
 pub fn answer<O: Objects, R: Source + Drop, W: Sink, A: Allocator + Copy>(
     alloc: A,
     objects: &O,
-    line: &Line<'_>,
+    question: &Question<'_>,
     source: R,
     sink: &mut W,
 ) -> Result<(), ToldFault>
-    ensures { IfTold (O.told objects.now) (λ r. IsAnswered (O.name_of objects.now) line.now r
+    ensures { IfTold (O.told objects.now) (λ r. IsAnswered (O.name_of objects.now) question.now r
         (R.coming source) (W.taken sink.old) (W.taken sink.new)) result }
 {
-    match line {
-        Line::Show { file: _, revision } => show(alloc, objects, revision.as_bytes(), sink),
-        Line::Ls {
+    match question {
+        Question::Show { revision } => show(alloc, objects, revision.as_bytes(), sink),
+        Question::Ls {
             recursive,
-            file: _,
             revision,
         } => list(alloc, objects, *recursive, revision.as_bytes(), sink),
-        Line::Archive {
-            prefix,
-            file: _,
-            revision,
-        } => print_archive(alloc, objects, prefix.as_bytes(), revision.as_bytes(), sink),
-        Line::Refs { file: _ } => print_refs(alloc, objects, sink),
-        Line::RevParse { file: _, revisions } => {
+        Question::Archive { prefix, revision } => {
+            print_archive(alloc, objects, prefix.as_bytes(), revision.as_bytes(), sink)
+        }
+        Question::Refs => print_refs(alloc, objects, sink),
+        Question::Names { revisions } => {
             let words = texts_of(alloc, revisions.as_slice())?;
             print_names(alloc, objects, words.as_slice(), sink)
         }
-        Line::Log {
-            options,
-            file: _,
-            ranges,
-        } => log_with_lines(alloc, objects, *options, ranges.as_slice(), source, sink),
-        _ => Ok(()),
+        Question::Log { options, ranges } => {
+            log_with_lines(alloc, objects, *options, ranges.as_slice(), source, sink)
+        }
+        Question::Batch { .. } | Question::Export(_) | Question::ExportRange { .. } => Ok(()),
     }
 }

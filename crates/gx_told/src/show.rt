@@ -75,7 +75,8 @@ fn print_body<O: Objects, A: Allocator + Copy, W: Sink>(
     name: &Name,
     sink: &mut W,
 ) -> Result<(), ToldFault>
-    requires { IfTold (O.told objects.now) (IsNamed (O.name_of objects.now)) (Object kind name.now) }
+    requires { IfTold (O.told objects.now) (IsNamed (O.name_of objects.now))
+        (Object kind name.now) }
     ensures { IfTold (O.told objects.now)
         (λ r. PrintsText (body_of (O.name_of objects.now) (value_at r name.now))
         (W.taken sink.old) (W.taken sink.new)) result }

@@ -141,7 +141,8 @@ impl<A: Allocator + Copy> Directory<A> {
     /// What stands at the rest of the path, which is not the root.
     pub(crate) fn item_at<'a>(&'a self, path: &TreePath<A>, depth: usize) -> Option<&'a Item<A>>
         requires { depth < length path.now }
-        ensures files { sub_map self.entry.now.files (drop depth path.now) ≡ map_if (shown_lent result) }
+        ensures files { sub_map self.entry.now.files (drop depth path.now)
+            ≡ map_if (shown_lent result) }
         ensures kept { IsKeptAt (shown_lent result) }
         ensures home { Keeps IsAtHome IsLentAtHome self.entry.now result }
     {
@@ -246,7 +247,9 @@ fn share_into<A: Allocator + Copy>(
     shared: &mut Vec<Entry<A>, A>,
     entries: &[Entry<A>],
 ) -> Result<(), AllocError>
-    ensures entries { OnOk result (shown_entries shared.new.items ≡ shown_entries shared.old.items ++ shown_entries entries.now) }
+    ensures entries { OnOk result
+        (shown_entries shared.new.items ≡ shown_entries shared.old.items
+        ++ shown_entries entries.now) }
     ensures home { OnOk result (EntriesKeepHome AreAtHome shared.old.items entries.now shared.new) }
 {
     for entry in entries {

@@ -30,7 +30,8 @@ impl<A: Allocator + Copy> Directory<A> {
     ) -> Result<(), AllocError>
         requires within { depth < length path.now }
         requires kept { IsKept (shown_item item.now) }
-        ensures files { OnOk result (Grafts (drop depth path.now) (shown_item item.now) self.old self.new) }
+        ensures files { OnOk result
+            (Grafts (drop depth path.now) (shown_item item.now) self.old self.new) }
         ensures unchanged { OnErr result (self.new ≡ self.old) }
         ensures home { OnOk result (GraftKeepsHome item.now self.old self.new) }
     {
@@ -74,7 +75,8 @@ fn graft_in<A: Allocator + Copy>(
     requires level { IsLevel (level_in entries.now) }
     requires reach { IsReach reach (files_below entries.now) }
     ensures level { OnOk result (IsLevel (level_in entries.new)) }
-    ensures files { OnOk result (GraftsFiles (drop depth path.now) item.now entries.old.value.items entries.new.value) }
+    ensures files { OnOk result
+        (GraftsFiles (drop depth path.now) item.now entries.old.value.items entries.new.value) }
     ensures reach { IfOk result (λ n. IsReach n (files_below entries.new)) }
     ensures unchanged { OnErr result (entries.new.value.items ≡ entries.old.value.items) }
     ensures home { OnOk result (BelowKeepHome item.now entries.old entries.new) }
@@ -105,10 +107,12 @@ pub(crate) fn graft_among<A: Allocator + Copy>(
     requires level { IsLevel (shown_entries entries.now.items) }
     requires reach { IsReach reach (files (shown_entries entries.now.items)) }
     ensures level { OnOk result (IsLevel (shown_entries entries.new.items)) }
-    ensures files { OnOk result (GraftsFiles (drop depth path.now) item.now entries.old.items entries.new) }
+    ensures files { OnOk result
+        (GraftsFiles (drop depth path.now) item.now entries.old.items entries.new) }
     ensures reach { IfOk result (λ n. IsReach n (files (shown_entries entries.new.items))) }
     ensures unchanged { OnErr result (entries.new.items ≡ entries.old.items) }
-    ensures home { OnOk result (EntriesKeepHome IsItemAtHome item.now entries.old.items entries.new) }
+    ensures home { OnOk result
+        (EntriesKeepHome IsItemAtHome item.now entries.old.items entries.new) }
 {
     let length = path.len();
     let component = path.component(depth);
@@ -139,10 +143,12 @@ fn graft_at<A: Allocator + Copy>(
     requires reach { IsReach reach (files (shown_entries entries.now.items)) }
     requires place { IsEntryAt (get_or path.now depth []) entries.now.items place }
     ensures level { OnOk result (IsLevel (shown_entries entries.new.items)) }
-    ensures files { OnOk result (GraftsFiles (drop depth path.now) item.now entries.old.items entries.new) }
+    ensures files { OnOk result
+        (GraftsFiles (drop depth path.now) item.now entries.old.items entries.new) }
     ensures reach { IfOk result (λ n. IsReach n (files (shown_entries entries.new.items))) }
     ensures unchanged { OnErr result (entries.new.items ≡ entries.old.items) }
-    ensures home { OnOk result (EntriesKeepHome IsItemAtHome item.now entries.old.items entries.new) }
+    ensures home { OnOk result
+        (EntriesKeepHome IsItemAtHome item.now entries.old.items entries.new) }
 {
     let length = path.len();
     if depth + 1 < length && entries[place].item.is_folder() {
@@ -168,7 +174,8 @@ impl<A: Allocator + Copy> Item<A> {
         requires within { depth < length path.now }
         requires folder { IsTrue (is_folder (shown_item self.now)) }
         requires kept { IsKept (shown_item item.now) }
-        ensures kept { OnOk result (GraftsItem (drop depth path.now) item.now (Some (shown_item self.old)) self.new) }
+        ensures kept { OnOk result
+            (GraftsItem (drop depth path.now) item.now (Some (shown_item self.old)) self.new) }
         ensures mark { OnOk result (mark (shown_item self.new) ≡ mark (shown_item self.old)) }
         ensures unchanged { OnErr result (self.new ≡ self.old) }
         ensures home { OnOk result (ItemKeepsHome item.now self.old self.new) }

@@ -17,7 +17,8 @@ impl<A: Allocator + Copy> Directory<A> {
         out: &mut Vec<(TreePath<A>, Mode, Name), A>,
     ) -> Result<(), AllocError>
         requires { IsTrue (are_short (below front.now self.now.files)) }
-        ensures { OnOk result (AppendsFiles (below front.now self.now.files) out.old.items out.new.items) }
+        ensures { OnOk result (AppendsFiles (below front.now self.now.files)
+            out.old.items out.new.items) }
     {
         for entry in self.entries.as_slice() {
             let path = child(alloc, front, entry.component())?;

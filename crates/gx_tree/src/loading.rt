@@ -24,7 +24,8 @@ impl<A: Allocator + Copy> Directory<A> {
     ) -> Result<Directory<A>, AllocError>
         requires held { NamesTreeWithin (N.name_of store.now.0) store.now.1 room name.now }
         requires loaded { HoldsIn N.name_of store.now AreLoaded loaded.old }
-        ensures directory { IfOk result (IsLoaded (N.name_of store.now.0) store.now.1 name.now.bytes) }
+        ensures directory { IfOk result
+            (IsLoaded (N.name_of store.now.0) store.now.1 name.now.bytes) }
         ensures loaded { HoldsIn N.name_of store.now AreLoaded loaded.new }
     {
         if let Some(known) = loaded.of_tree(name)? {

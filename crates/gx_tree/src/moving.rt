@@ -39,12 +39,14 @@ impl<A: Allocator + Copy> Directory<A> {
     ) -> Result<(), AllocError>
         requires within { depth < length path.now }
         requires lands { CanLand landing.now }
-        ensures files { OnOk result (self.new.files ≡ removed self.old.files (drop depth path.now)) }
+        ensures files { OnOk result
+            (self.new.files ≡ removed self.old.files (drop depth path.now)) }
         ensures lands { OnOk result (Lands landing.now target.old target.new) }
         ensures unchanged { OnErr result (self.new ≡ self.old) }
         ensures stays { OnErr result (target.new ≡ target.old) }
         ensures home { KeepsHome self.old self.new }
-        ensures target_home { OnOk result (GraftKeepsHome landing.now.item.now target.old target.new) }
+        ensures target_home { OnOk result
+            (GraftKeepsHome landing.now.item.now target.old target.new) }
     {
         let reach = give_in(
             &mut self.entries,
@@ -204,7 +206,8 @@ impl<A: Allocator + Copy> Item<A> {
         ensures unchanged { OnErr result (self.new ≡ self.old) }
         ensures stays { OnErr result (target.new ≡ target.old) }
         ensures home { Keeps IsItemAtHome IsItemAtHome self.old self.new }
-        ensures target_home { OnOk result (GraftKeepsHome landing.now.item.now target.old target.new) }
+        ensures target_home { OnOk result
+            (GraftKeepsHome landing.now.item.now target.old target.new) }
     {
         if depth == path.len() {
             target.land(alloc, landing)?;

@@ -44,7 +44,8 @@ pub(crate) fn rename_apart<A: Allocator + Copy>(
     ensures files { OnOk result (CarriesAt depth from.now to.now item.now entries.old entries.new) }
     ensures reach { IfOk result (λ n. IsReach n (files (shown_entries entries.new.items))) }
     ensures unchanged { OnErr result (entries.new.items ≡ entries.old.items) }
-    ensures home { OnOk result (EntriesKeepHome IsItemAtHome item.now entries.old.items entries.new) }
+    ensures home { OnOk result
+        (EntriesKeepHome IsItemAtHome item.now entries.old.items entries.new) }
 {
     let length = from.len();
     let _ = to.len();
@@ -69,7 +70,8 @@ fn folder_on<A: Allocator + Copy>(
     requires within { depth < length path.now }
     requires level { IsLevel (shown_entries entries.now) }
     ensures within { IfSome result (λ place. depth + 1 < length path.now) }
-    ensures found { IfSome result (λ place. IsFolderAt (get_or path.now depth []) entries.now place) }
+    ensures found { IfSome result
+        (λ place. IsFolderAt (get_or path.now depth []) entries.now place) }
     ensures missing { IsNone result → StandsAnew depth path.now entries.now }
 {
     let length = path.len();
@@ -107,7 +109,8 @@ fn rename_between<A: Allocator + Copy>(
     ensures files { OnOk result (CarriesAt depth from.now to.now item.now entries.old entries.new) }
     ensures reach { IfOk result (λ n. IsReach n (files (shown_entries entries.new.items))) }
     ensures unchanged { OnErr result (entries.new.items ≡ entries.old.items) }
-    ensures home { OnOk result (EntriesKeepHome IsItemAtHome item.now entries.old.items entries.new) }
+    ensures home { OnOk result
+        (EntriesKeepHome IsItemAtHome item.now entries.old.items entries.new) }
 {
     let _ = (from.len(), to.len());
     let before = entries[place].reach().max(entries[target].reach());
@@ -158,7 +161,8 @@ fn rename_above<A: Allocator + Copy>(
     ensures files { OnOk result (CarriesAt depth from.now to.now item.now entries.old entries.new) }
     ensures reach { IfOk result (λ n. IsReach n (files (shown_entries entries.new.items))) }
     ensures unchanged { OnErr result (entries.new.items ≡ entries.old.items) }
-    ensures home { OnOk result (EntriesKeepHome IsItemAtHome item.now entries.old.items entries.new) }
+    ensures home { OnOk result
+        (EntriesKeepHome IsItemAtHome item.now entries.old.items entries.new) }
 {
     let _ = from.len();
     let made = new_item(alloc, to, depth, item)?;

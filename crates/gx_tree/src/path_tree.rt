@@ -162,7 +162,8 @@ impl<A: Allocator + Copy> PathTree<A> {
     ///
     /// Cost: the bytes of all paths, in time and in memory. Source: gitglossary(7), "tree".
     pub fn list(&self) -> Result<Vec<(TreePath<A>, Mode, Name), A>, TreeFault>
-        ensures { Gives fault_of (λ files. map shown_listed files.items) result (Ok self.now.files) }
+        ensures { Gives fault_of (λ files. map shown_listed files.items) result
+            (Ok self.now.files) }
     {
         let mut files = Vec::new(self.alloc);
         if let Some(root) = &self.root {
@@ -183,7 +184,8 @@ impl<A: Allocator + Copy> PathTree<A> {
     /// Source: git-fast-import(1), "filemodify".
     pub fn modify(&mut self, path: &TreePath<A>, mode: Mode, name: Name) -> Result<(), TreeFault>
         requires { mode ≢ modes.Dir }
-        ensures map { Becomes self.new result (modified self.old.files path.now (mode, name.bytes)) }
+        ensures map { Becomes self.new result
+            (modified self.old.files path.now (mode, name.bytes)) }
         ensures root { path.now ≡ [] → result ≡ Err faults.RootNotTree }
         ensures unchanged { OnErr result (self.new ≡ self.old) }
         ensures home { KeepsHome self.old self.new }
@@ -291,7 +293,8 @@ impl<A: Allocator + Copy> PathTree<A> {
     /// "tree object".
     pub fn write<N: Namer>(&mut self, store: &mut Store<N, A>) -> Result<Name, TreeFault>
         ensures name { IfOk result (IsTreeName (N.name_of store.old.0) self.old.files) }
-        ensures records { StoresAll N.name_of tree_records self.old.files store.old store.new result }
+        ensures records { StoresAll N.name_of tree_records self.old.files
+            store.old store.new result }
         ensures held { IfOk result (HoldsTree (N.name_of store.old.0) store.new.1 self.old.files) }
         ensures front { take (length store.old.1) store.new.1 ≡ store.old.1 }
         ensures namer { store.new.0 ≡ store.old.0 }
@@ -315,7 +318,8 @@ impl<A: Allocator + Copy> PathTree<A> {
     pub fn write_shared<N: Namer>(&mut self, store: &mut Store<N, A>) -> Result<Name, TreeFault>
         requires home { HoldsIn N.name_of store.now IsAtHome self.now }
         ensures name { IfOk result (IsTreeName (N.name_of store.old.0) self.old.files) }
-        ensures records { StoresAll N.name_of tree_records self.old.files store.old store.new result }
+        ensures records { StoresAll N.name_of tree_records self.old.files
+            store.old store.new result }
         ensures held { IfOk result (HoldsTree (N.name_of store.old.0) store.new.1 self.old.files) }
         ensures front { take (length store.old.1) store.new.1 ≡ store.old.1 }
         ensures namer { store.new.0 ≡ store.old.0 }

@@ -47,7 +47,8 @@ pub(crate) fn take_out<A: Allocator + Copy>(
     requires reach { IsReach reach (files (shown_entries entries.now.items)) }
     ensures level { IsLevel (shown_entries entries.new.items) }
     ensures files { RemovesFiles (component.now ∷ []) entries.old.items entries.new }
-    ensures others { shown_entries entries.new.items ≡ others component.now (shown_entries entries.old.items) }
+    ensures others { shown_entries entries.new.items
+        ≡ others component.now (shown_entries entries.old.items) }
     ensures room { HasRoom entries.old → HasRoom entries.new }
     ensures reach { IsReach result (files (shown_entries entries.new.items)) }
     ensures home { Keeps AreAtHome AreAtHome entries.old.items entries.new.items }

@@ -27,7 +27,8 @@ impl<A: Allocator + Copy> Directory<A> {
         depth: usize,
     ) -> Result<(), AllocError>
         requires { depth < length path.now }
-        ensures files { OnOk result (self.new.files ≡ removed self.old.files (drop depth path.now)) }
+        ensures files { OnOk result
+            (self.new.files ≡ removed self.old.files (drop depth path.now)) }
         ensures unchanged { OnErr result (self.new ≡ self.old) }
         ensures home { KeepsHome self.old self.new }
     {
@@ -108,7 +109,8 @@ pub(crate) fn remove_at<A: Allocator + Copy>(
     requires place { IsEntryAt (get_or path.now depth []) entries.now.items place }
     ensures level { OnOk result (IsLevel (shown_entries entries.new.items)) }
     ensures files { OnOk result (RemovesFiles (drop depth path.now) entries.old.items entries.new) }
-    ensures entries { OnOk result (RemovesPath (drop depth path.now) entries.old.items entries.new) }
+    ensures entries { OnOk result
+        (RemovesPath (drop depth path.now) entries.old.items entries.new) }
     ensures room { HasRoom entries.old → HasRoom entries.new }
     ensures reach { IfOk result (λ n. IsReach n (files (shown_entries entries.new.items))) }
     ensures unchanged { OnErr result (entries.new.items ≡ entries.old.items) }

@@ -78,7 +78,8 @@ fn rename_in<A: Allocator + Copy>(
     requires level { IsLevel (level_in entries.now) }
     requires reach { IsReach reach (files_below entries.now) }
     ensures level { OnOk result (IsLevel (level_in entries.new)) }
-    ensures files { OnOk result (CarriesAt depth from.now to.now item.now entries.old.value entries.new.value) }
+    ensures files { OnOk result
+        (CarriesAt depth from.now to.now item.now entries.old.value entries.new.value) }
     ensures reach { IfOk result (λ n. IsReach n (files_below entries.new)) }
     ensures unchanged { OnErr result (entries.new.value.items ≡ entries.old.value.items) }
     ensures home { OnOk result (BelowKeepHome item.now entries.old entries.new) }
@@ -115,7 +116,8 @@ fn rename_among<A: Allocator + Copy>(
     ensures files { OnOk result (CarriesAt depth from.now to.now item.now entries.old entries.new) }
     ensures reach { IfOk result (λ n. IsReach n (files (shown_entries entries.new.items))) }
     ensures unchanged { OnErr result (entries.new.items ≡ entries.old.items) }
-    ensures home { OnOk result (EntriesKeepHome IsItemAtHome item.now entries.old.items entries.new) }
+    ensures home { OnOk result
+        (EntriesKeepHome IsItemAtHome item.now entries.old.items entries.new) }
 {
     let length = from.len();
     let component = from.component(depth);
@@ -154,7 +156,8 @@ fn rename_at<A: Allocator + Copy>(
     ensures files { OnOk result (CarriesAt depth from.now to.now item.now entries.old entries.new) }
     ensures reach { IfOk result (λ n. IsReach n (files (shown_entries entries.new.items))) }
     ensures unchanged { OnErr result (entries.new.items ≡ entries.old.items) }
-    ensures home { OnOk result (EntriesKeepHome IsItemAtHome item.now entries.old.items entries.new) }
+    ensures home { OnOk result
+        (EntriesKeepHome IsItemAtHome item.now entries.old.items entries.new) }
 {
     if !entries[place].item.is_folder() {
         return graft_among(entries, reach, alloc, to, depth, item);

@@ -32,7 +32,8 @@ pub(crate) fn place_marked<A: Allocator + Copy>(
 ) -> Option<usize>
     requires { IsLevel (shown_entries entries.now) }
     ensures found { IfSome result (λ place. IsEntryAt component.now entries.now place) }
-    ensures missing { IsNone result → Finds component.now mark.now (shown_entries entries.now) None }
+    ensures missing { IsNone result
+        → Finds component.now mark.now (shown_entries entries.now) None }
 {
     let place = place_of(entries, component, mark);
     if place == 0 {

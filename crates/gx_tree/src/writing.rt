@@ -96,7 +96,8 @@ fn written_entries<A: Allocator + Copy, N: Namer>(
     requires level { IsLevel (level_in entries.now) }
     requires home { HoldsIn N.name_of store.now AreAtHome entries.now.value.items }
     ensures extends { Extends store.old store.new }
-    ensures puts { StoresAll N.name_of level_records (level_in entries.now) store.old store.new result }
+    ensures puts { StoresAll N.name_of level_records (level_in entries.now)
+        store.old store.new result }
     ensures made { IfOk result (Writes N.name_of AreWrittenIn store.old store.new entries.now) }
 {
     let shares = remember_all(entries.as_slice());
@@ -125,7 +126,8 @@ fn write_entries<A: Allocator + Copy, N: Namer>(
     requires empty { named.old.items ≡ [] }
     ensures extends { Extends store.old store.new }
     ensures puts { StoresAll N.name_of records_below entries.now store.old store.new result }
-    ensures made { OnOk result (Writes N.name_of AreWritten store.old store.new entries.now named.new.items) }
+    ensures made { OnOk result
+        (Writes N.name_of AreWritten store.old store.new entries.now named.new.items) }
 {
     for entry in entries {
         let item = entry.item.written(alloc, store, body)?;
@@ -144,7 +146,8 @@ pub(crate) fn put_tree<A: Allocator + Copy, N: Namer>(
     requires home { HoldsIn N.name_of store.now AreAtHome entries.now }
     requires remember { RememberAll entries.now }
     ensures extends { Extends store.old store.new }
-    ensures name { IfOk result (IsTreeName (N.name_of store.old.0) (files (shown_entries entries.now))) }
+    ensures name { IfOk result
+        (IsTreeName (N.name_of store.old.0) (files (shown_entries entries.now))) }
     ensures puts { StoresAll N.name_of record_above entries.now store.old store.new result }
 {
     encode_entries(body, entries)?;
@@ -213,7 +216,8 @@ impl<A: Allocator + Copy> Item<A> {
     ) -> Result<Item<A>, TreeFault>
         requires home { HoldsIn N.name_of store.now IsItemAtHome self.now }
         ensures extends { Extends store.old store.new }
-        ensures puts { StoresAll N.name_of kept_records (shown_item self.now) store.old store.new result }
+        ensures puts { StoresAll N.name_of kept_records (shown_item self.now)
+            store.old store.new result }
         ensures made { IfOk result (Writes N.name_of IsItemWritten store.old store.new self.now) }
     {
         match self {

@@ -56,7 +56,8 @@ fn send_counts<N: Namer, A: Allocator + Copy, W: Sink>(
     bytes: usize,
     sink: &mut W,
 ) -> Result<(), Failed>
-    ensures { Sent (counts_text version bytes repo.now.1) (W.taken sink.old) (W.taken sink.new) result }
+    ensures { Sent (counts_text version bytes repo.now.1) (W.taken sink.old)
+        (W.taken sink.new) result }
 {
     send_count(sink, b"version", version)?;
     send_count(sink, b"objects", repo.store().len())?;

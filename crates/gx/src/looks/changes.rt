@@ -1,7 +1,7 @@
 //! Exports of the changes that range words list in growing store files. Each reads the commits that it sends, and what differs.
 
 use super::file_at::FileAt;
-use super::{look_into, open_growing};
+use super::{growing_file, look_into};
 use crate::fault::RunFault;
 use crate::run::Run;
 use crate::streams::devices::{Noted, flushed};
@@ -22,7 +22,7 @@ pub(crate) fn export_looked<'a>(
     words: &[&str],
     done: bool,
 ) -> Result<bool, RunFault> {
-    let Some(opened) = run.want_read(open_growing(run, file))? else {
+    let Some(opened) = growing_file(run, file)? else {
         return Ok(false);
     };
     let ranges = ranges_of(run, words)?;

@@ -2,25 +2,16 @@
 
 use super::next_text::NextText;
 use crate::fault::RunFault;
-use crate::looks::open_plain;
 use crate::run::Run;
 use gx_versions::StoreForm;
 use std::hash::RandomState;
 
 /// Makes a growing text of a store file's text, and leaves one that is. A plain one is read twice, and no more is held of it than what
 /// its objects are called and where they stand; one that is refused is read as a whole then, which tells why.
-pub(crate) fn grow<'a>(
-    run: &'a Run<'a>,
-    file: &'a str,
-    state: RandomState,
-) -> Result<(), RunFault> {
+pub(crate) fn grow(run: &Run<'_>, file: &str, state: RandomState) -> Result<(), RunFault> {
     let mut next = NextText::claim_next(run, file)?;
-    // behind the links as they were when it was claimed
-    let store = format!(in run.rt.alloc(); "{}", next.place().store())?;
-    if let Some(opened) = run.want_read(open_plain(run, &store))? {
-        if next.publish_grown(opened, state)? {
-            return Ok(());
-        }
+    if next.publish_grown(state)? {
+        return Ok(());
     }
     grow_whole(&mut next, state)
 }

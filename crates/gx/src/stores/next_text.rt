@@ -5,13 +5,13 @@ use super::before::{Before, TextKind};
 use super::differing::Differing;
 use super::host::Host;
 use crate::fault::RunFault;
-use crate::looks::FileLook;
 use crate::looks::file_at::FileAt;
+use crate::looks::{FileLook, growing_at, plain_at, row_count};
 use crate::run::{Run, Subject};
 use crate::stores::files::open_text;
 use crate::streams::devices::{Noted, flushed};
 use gx_cli::{CliFault, Pruned, Repo};
-use gx_listed::Listing;
+use gx_look::Look;
 use gx_object::{Name, Sha1Namer};
 use gx_place::{Place, PlaceFault, Stamp, System};
 use gx_text::IntoWrite;
@@ -22,6 +22,9 @@ use std::io::{BufWriter, Write};
 
 /// So many bytes are written at once.
 const BUFFER: usize = 1 << 16;
+
+/// So many bytes a row of a run has.
+const BYTES_OF_ROW: u64 = 28;
 
 /// The next text of a store file, in a run that tells why it couldn't be written. It has the form of the text that was read, unless
 /// another one is asked for.
@@ -105,7 +108,7 @@ impl<'a> NextText<'a> {
     }
 
     /// What the store file has that is to be read.
-    pub(crate) fn stamp(&mut self) -> Result<Stamp, RunFault> {
+    fn stamp(&mut self) -> Result<Stamp, RunFault> {
         let found = self.host.look(self.text.place().store());
         Ok(self.host.run.want_read(found)?.stamp)
     }
@@ -169,20 +172,33 @@ impl<'a> NextText<'a> {
         self.put_in_place()
     }
 
-    /// Publishes what refs and these names reach of a growing store file that had this stamp when it was opened. That stays as it is
-    /// where it has the bytes of the next text. Answers how much goes.
+    /// A look into the store file, where that is a growing one. One that has no room for the rows that it tells is damaged: what is read
+    /// of it as a whole tells where.
+    pub(crate) fn open_look(&self) -> Result<Option<FileLook<'a>>, RunFault> {
+        let run = self.host.run;
+        let opened = growing_at(self.host, self.text.place().store());
+        let Some(source) = run.want_read(opened)? else {
+            return Ok(None);
+        };
+        let look = Look::open(run.rt.alloc(), Sha1Namer, source)?;
+        let has_room = row_count(&look) <= look.ending().ends / BYTES_OF_ROW;
+        Ok(has_room.then_some(look))
+    }
+
+    /// Publishes what refs and these names reach of the store file, which is a growing one and looked into. It stays as it is where it
+    /// has the bytes of the next text. Answers how much goes.
     ///
     /// Who fails leaves what [`NextText::publish_store`] does.
     pub(crate) fn publish_kept(
         &mut self,
-        stamp: Stamp,
         look: &FileLook<'_>,
-        listing: &Listing<Global>,
         kept: &[Name],
+        state: RandomState,
     ) -> Result<Pruned, RunFault> {
         self.host.run.placed(self.text.begin())?;
+        let stamp = self.stamp()?;
         let store = self.open_store(stamp)?;
-        let gone = write_kept(self.host.run, &mut self.text, store, look, listing, kept)?;
+        let gone = write_kept(self.host.run, &mut self.text, store, look, kept, state)?;
         if self.is_written()? {
             self.put_in_place()?;
         } else if !settle(self.host, self.text.place(), stamp)? {
@@ -191,17 +207,17 @@ impl<'a> NextText<'a> {
         Ok(gone)
     }
 
-    /// Publishes the growing text of a store file of version 1 or 2, which is open. Answers false, where nothing was written, since this
-    /// isn't the text of one.
+    /// Publishes the growing text of the store file, where that is of version 1 or 2. Answers false, where nothing was written, since it
+    /// isn't.
     ///
     /// Who fails leaves what [`NextText::publish_store`] does.
-    pub(crate) fn publish_grown(
-        &mut self,
-        opened: FileAt<'_>,
-        state: RandomState,
-    ) -> Result<bool, RunFault> {
+    pub(crate) fn publish_grown(&mut self, state: RandomState) -> Result<bool, RunFault> {
+        let opened = plain_at(self.host, self.text.place().store());
+        let Some(source) = self.host.run.want_read(opened)? else {
+            return Ok(false);
+        };
         self.host.run.placed(self.text.begin())?;
-        match write_grown(self.host.run, &mut self.text, opened, state) {
+        match write_grown(self.host.run, &mut self.text, source, state) {
             Ok(()) => {
                 self.put_in_place()?;
                 Ok(true)
@@ -275,16 +291,17 @@ fn write_kept(
     text: &mut gx_place::NextText<Host<'_>>,
     store: (FileAt<'_>, u64),
     look: &FileLook<'_>,
-    listing: &Listing<Global>,
     kept: &[Name],
+    state: RandomState,
 ) -> Result<Pruned, RunFault> {
     let alloc = run.rt.alloc();
+    let listing = look.listing(alloc, state)?;
     let noted = Noted::new(run, Subject::NextText, text);
     let differing = Differing::new(alloc, store, noted)?;
     match BufWriter::with_capacity(alloc, BUFFER, differing) {
         Ok(mut out) => {
             let mut sink = IntoWrite::new(&mut out);
-            let sent = gx_kept::collect(alloc, look, listing, kept, &mut sink);
+            let sent = gx_kept::collect(alloc, look, &listing, kept, &mut sink);
             flushed(&mut out, sent.map_err(RunFault::from))
         }
         Err(_) => Err(RunFault::Command(CliFault::OutOfMemory)),
@@ -295,7 +312,7 @@ fn write_kept(
 fn write_grown(
     run: &Run<'_>,
     text: &mut gx_place::NextText<Host<'_>>,
-    opened: FileAt<'_>,
+    source: FileAt<'_>,
     state: RandomState,
 ) -> Result<(), RunFault> {
     let alloc = run.rt.alloc();
@@ -303,7 +320,7 @@ fn write_grown(
     match BufWriter::with_capacity(alloc, BUFFER, noted) {
         Ok(mut out) => {
             let mut sink = IntoWrite::new(&mut out);
-            let sent = gx_plain::grow(alloc, Sha1Namer, opened, state, &mut sink);
+            let sent = gx_plain::grow(alloc, Sha1Namer, source, state, &mut sink);
             flushed(&mut out, sent.map_err(RunFault::from))
         }
         Err(_) => Err(RunFault::Command(CliFault::OutOfMemory)),

@@ -5,9 +5,9 @@ ghost use Rattle.clap.specs.Words.{all_of, first_of, found_of, rows_of};
 ghost use Rattle.gx_line.specs.CommandLine as say;
 ghost use Rattle.gx_line.specs.declared.fault.LineFault.TheVariants.{OutOfMemory};
 
-use super::{BatchForm, ExportForm, LogFormat, RefChange};
 use crate::LineFault;
 use clap::ArgMatches;
+use gx_asks::{BatchForm, ExportForm, LogFormat, RefChange};
 use std::alloc::Global;
 
 /// What is said of a format that there isn't, in the manner of clap.
@@ -31,7 +31,8 @@ pub(super) fn word_of<'a>(
     matches: &ArgMatches<'a>,
     id: &str,
 ) -> Result<&'a str, LineFault>
-    ensures word { IfOk result (λ word. first_of id.now (rows_of (found_of matches.now)) ≡ Some word.now) }
+    ensures word { IfOk result
+        (λ word. first_of id.now (rows_of (found_of matches.now)) ≡ Some word.now) }
     ensures missing { IfErr result (λ _. first_of id.now (rows_of (found_of matches.now)) ≡ None) }
 {
     match matches.get_str(id) {
@@ -46,8 +47,10 @@ pub(super) fn words_of<'a>(
     matches: &ArgMatches<'a>,
     id: &str,
 ) -> Result<Vec<&'a str>, LineFault>
-    ensures words { IfOk result (λ words. say.AreWords id.now (rows_of (found_of matches.now)) words.items) }
-    ensures missing { IfErr result (say.HasCause (all_of id.now (rows_of (found_of matches.now)) ≡ None)) }
+    ensures words { IfOk result
+        (λ words. say.AreWords id.now (rows_of (found_of matches.now)) words.items) }
+    ensures missing { IfErr result
+        (say.HasCause (all_of id.now (rows_of (found_of matches.now)) ≡ None)) }
 {
     match matches.get_strs(id) {
         Some(words) => Ok(Vec::from_slice(alloc, words)?),
@@ -61,7 +64,8 @@ pub(super) fn any_words_of<'a>(
     matches: &ArgMatches<'a>,
     id: &str,
 ) -> Result<Vec<&'a str>, LineFault>
-    ensures words { IfOk result (λ words. say.AreAnyWords id.now (rows_of (found_of matches.now)) words.items) }
+    ensures words { IfOk result
+        (λ words. say.AreAnyWords id.now (rows_of (found_of matches.now)) words.items) }
     ensures memory { IfErr result (λ fault. fault ≡ OutOfMemory) }
 {
     match matches.get_strs(id) {
@@ -109,8 +113,10 @@ pub(super) fn ref_change_of<'a>(
     alloc: Global,
     matches: &ArgMatches<'a>,
 ) -> Result<Option<RefChange<'a>>, LineFault>
-    ensures change { IfOk result (λ change. say.IsRefChange (rows_of (found_of matches.now)) change) }
-    ensures missing { IfErr result (say.HasCause (say.HasNoRefChange (rows_of (found_of matches.now)))) }
+    ensures change { IfOk result
+        (λ change. say.IsRefChange (rows_of (found_of matches.now)) change) }
+    ensures missing { IfErr result
+        (say.HasCause (say.HasNoRefChange (rows_of (found_of matches.now)))) }
 {
     if is_set(matches, "stdin") {
         return Ok(None);
@@ -124,8 +130,11 @@ pub(super) fn ref_change_of<'a>(
 
 /// The format that a list of commits is asked for in.
 pub(super) fn format_of(alloc: Global, matches: &ArgMatches<'_>) -> Result<LogFormat, LineFault>
-    ensures format { IfOk result (λ format. say.IsLogFormat (rows_of (found_of matches.now)) format) }
-    ensures none { IfErr result (say.HasCause (say.HasNoFormat (first_of (codes "format") (rows_of (found_of matches.now))))) }
+    ensures format { IfOk result
+        (λ format. say.IsLogFormat (rows_of (found_of matches.now)) format) }
+    ensures none { IfErr result
+        (say.HasCause (say.HasNoFormat
+        (first_of (codes "format") (rows_of (found_of matches.now))))) }
 {
     match option_of(matches, "format") {
         None => Ok(LogFormat::Names),

@@ -35,7 +35,8 @@ pub(super) fn answer_revision<O: Objects, W: Sink, A: Allocator + Copy>(
     buffer: &mut Vec<u8, A>,
     sink: &mut W,
 ) -> Result<(), ToldFault>
-    ensures { IfTold (O.told objects.now) (λ r. SendsAnswer (batch_answer (O.name_of objects.now) check
+    ensures { IfTold (O.told objects.now)
+        (λ r. SendsAnswer (batch_answer (O.name_of objects.now) check
         format.now.parts.items (history_of r) asked.now)
         (W.taken sink.old) (W.taken sink.new)) result }
 {
@@ -150,7 +151,8 @@ fn answer_object<O: Objects, W: Sink, A: Allocator + Copy>(
     buffer: &mut Vec<u8, A>,
     sink: &mut W,
 ) -> Result<(), ToldFault>
-    requires { IfTold (O.told objects.now) (IsNamed (O.name_of objects.now)) (Object kind name.now) }
+    requires { IfTold (O.told objects.now) (IsNamed (O.name_of objects.now))
+        (Object kind name.now) }
     ensures { IfTold (O.told objects.now) (λ r. SendsAnswer
         (object_text (O.name_of objects.now) check format.now.parts.items (value_at r name.now))
         (W.taken sink.old) (W.taken sink.new)) result }

@@ -12,7 +12,7 @@ ghost use Rattle.gx_told.specs.Printing.{PrintsText};
 use crate::ToldFault;
 use crate::sending::put_text;
 use crate::words::refused;
-use gx_line::{LogFormat, LogOptions};
+use gx_asks::{LogFormat, LogOptions};
 use gx_object::Name;
 use gx_objects::Objects;
 use gx_print::{gap, put_commit};

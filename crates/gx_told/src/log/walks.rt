@@ -10,7 +10,7 @@ ghost use Rattle.gx_told.specs.Printing.{PrintsText};
 
 use crate::ToldFault;
 use crate::sending::put_text;
-use gx_line::LogOptions;
+use gx_asks::LogOptions;
 use gx_object::{CommitView, Name};
 use gx_objects::Objects;
 use gx_print::{gap, put_commit};

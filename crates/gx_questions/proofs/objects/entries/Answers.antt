@@ -14,4 +14,4 @@ returns-in_ok-decode_tree-in-Tree-clause-entries g c =
 
 pub returns-in-Blob : goal.returns-in-Blob
 returns-in-Blob g c =
-    record { entries = tt; named = tt; fault = not_other (g.O.Objects.name_of c.args.objects.now) c.sound_if_told.ensures.namer (g.O.Objects.told c.args.objects.now) kinds.Tree c.args.tree.now c.in_ok-object.object c.sound_if_told.ensures.sound c.requires.held c.in_ok-object.ensures.object (no_tree_kind c.in_ok-object.object.kind c.in-Blob.is) }
+    record { entries = tt; named = tt; fault = not_other (g.O.Objects.name_of c.args.objects.now) c.sound_if_told.ensures.namer (g.O.Objects.told c.args.objects.now) kinds.Tree c.args.tree.now c.in_ok-object.object c.sound_if_told.ensures.sound c.requires.held c.in_ok-object.ensures.object (no_tree_kind c.in_ok-object.object.kind c.in-Blob.is); sure = λ _. tt }

@@ -18,8 +18,8 @@ returns-in-Show g c =
     let was = g.W.Sink.taken c.args.sink.now in
     let now = g.W.Sink.taken c.show.new.sink in
     let answer = c.show.result in
-    map_told told (λ r. Prints (show_text name (history_of r) c.as_bytes.result.now) was now answer) (λ r. IsAnswered name c.args.line.now r coming was now answer)
-    (λ r h. subst (λ l. IsAnswered name l r coming was now answer) (sym c.in-Show.is) (subst (λ word. Prints (show_text name (history_of r) word) was now answer) c.as_bytes.ensures.value h)) c.show.ensures
+    map_told told (λ r. Prints (show_text name (history_of r) c.as_bytes.result.now) was now answer) (λ r. IsAnswered name c.args.question.now r coming was now answer)
+    (λ r h. subst (λ q. IsAnswered name q r coming was now answer) (sym c.in-Show.is) (subst (λ word. Prints (show_text name (history_of r) word) was now answer) c.as_bytes.ensures.value h)) c.show.ensures
 
 pub returns-in-Ls : goal.returns-in-Ls
 returns-in-Ls g c =
@@ -29,8 +29,8 @@ returns-in-Ls g c =
     let was = g.W.Sink.taken c.args.sink.now in
     let now = g.W.Sink.taken c.list.new.sink in
     let answer = c.list.result in
-    map_told told (λ r. Prints (list_text name c.in-Ls.recursive (history_of r) c.as_bytes-in-Ls.result.now) was now answer) (λ r. IsAnswered name c.args.line.now r coming was now answer)
-    (λ r h. subst (λ l. IsAnswered name l r coming was now answer) (sym c.in-Ls.is) (subst (λ word. Prints (list_text name c.in-Ls.recursive (history_of r) word) was now answer) c.as_bytes-in-Ls.ensures.value h)) c.list.ensures
+    map_told told (λ r. Prints (list_text name c.in-Ls.recursive (history_of r) c.as_bytes-in-Ls.result.now) was now answer) (λ r. IsAnswered name c.args.question.now r coming was now answer)
+    (λ r h. subst (λ q. IsAnswered name q r coming was now answer) (sym c.in-Ls.is) (subst (λ word. Prints (list_text name c.in-Ls.recursive (history_of r) word) was now answer) c.as_bytes-in-Ls.ensures.value h)) c.list.ensures
 
 pub returns-in-Archive : goal.returns-in-Archive
 returns-in-Archive g c =
@@ -40,11 +40,11 @@ returns-in-Archive g c =
     let was = g.W.Sink.taken c.args.sink.now in
     let now = g.W.Sink.taken c.print_archive.new.sink in
     let answer = c.print_archive.result in
-    map_told told (λ r. Prints (tar_text name c.as_bytes-in-Archive.result.now (history_of r) c.as_bytes-in-Archive-2.result.now) was now answer) (λ r. IsAnswered name c.args.line.now r coming was now answer)
+    map_told told (λ r. Prints (tar_text name c.as_bytes-in-Archive.result.now (history_of r) c.as_bytes-in-Archive-2.result.now) was now answer) (λ r. IsAnswered name c.args.question.now r coming was now answer)
     (λ r h.
     let behind = subst (λ prefix. Prints (tar_text name prefix (history_of r) c.as_bytes-in-Archive-2.result.now) was now answer) c.as_bytes-in-Archive.ensures.value h in
     let asked = subst (λ word. Prints (tar_text name c.in-Archive.prefix.now (history_of r) word) was now answer) c.as_bytes-in-Archive-2.ensures.value behind in
-    subst (λ l. IsAnswered name l r coming was now answer) (sym c.in-Archive.is) asked) c.print_archive.ensures
+    subst (λ q. IsAnswered name q r coming was now answer) (sym c.in-Archive.is) asked) c.print_archive.ensures
 
 pub returns-in-Refs : goal.returns-in-Refs
 returns-in-Refs g c =
@@ -54,8 +54,8 @@ returns-in-Refs g c =
     let was = g.W.Sink.taken c.args.sink.now in
     let now = g.W.Sink.taken c.print_refs.new.sink in
     let answer = c.print_refs.result in
-    map_told told (λ r. PrintsText (refs_text r) was now answer) (λ r. IsAnswered name c.args.line.now r coming was now answer)
-    (λ r h. subst (λ l. IsAnswered name l r coming was now answer) (sym c.in-Refs.is) (given_text (Ok (refs_text r)) (refs_text r) was now answer refl h)) c.print_refs.ensures
+    map_told told (λ r. PrintsText (refs_text r) was now answer) (λ r. IsAnswered name c.args.question.now r coming was now answer)
+    (λ r h. subst (λ q. IsAnswered name q r coming was now answer) (sym c.in-Refs.is) (given_text (Ok (refs_text r)) (refs_text r) was now answer refl h)) c.print_refs.ensures
 
 pub returns-in-Log : goal.returns-in-Log
 returns-in-Log g c =
@@ -66,5 +66,5 @@ returns-in-Log g c =
     let now = g.W.Sink.taken c.log_with_lines.new.sink in
     let answer = c.log_with_lines.result in
     let o = c.in-Log.options in
-    map_told told (λ r. LogsFrom name o o.stdin r (lent_texts c.as_slice-in-Log.result.now) coming was now answer) (λ r. IsAnswered name c.args.line.now r coming was now answer)
-    (λ r h. subst (λ l. IsAnswered name l r coming was now answer) (sym c.in-Log.is) (subst (λ words. LogsFrom name o o.stdin r (lent_texts words) coming was now answer) c.as_slice-in-Log.ensures.value h)) c.log_with_lines.ensures
+    map_told told (λ r. LogsFrom name o o.stdin r (lent_texts c.as_slice-in-Log.result.now) coming was now answer) (λ r. IsAnswered name c.args.question.now r coming was now answer)
+    (λ r h. subst (λ q. IsAnswered name q r coming was now answer) (sym c.in-Log.is) (subst (λ words. LogsFrom name o o.stdin r (lent_texts words) coming was now answer) c.as_slice-in-Log.ensures.value h)) c.log_with_lines.ensures

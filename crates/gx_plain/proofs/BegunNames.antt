@@ -1,8 +1,10 @@
 -- What digits begin among the names of objects that are listed.
-use Rattle.std.proofs.Common.{◌≡◌, Bool, true, false, cond, List, [], ◌∷◌, map, refl, sym, ap, ◌∙◌, subst}
+use Rattle.std.proofs.Common.{◌≡◌, ℕ, ◌+◌, ◌≤◌, length, drop, slice_get, Some, Bool, true, false, cond, List, [], ◌∷◌, map, refl, sym, ap, ◌∙◌, subst}
 use Rattle.std.specs.Prelude.{T}
 use Rattle.std.specs.List.{AllByRecursion}
 use Rattle.std.proofs.lemmas.Bool.{false≢true}
+use Rattle.std.proofs.lemmas.List.{drop_all, drop_more}
+use Rattle.std.proofs.lemmas.Option.{get_or_from_slice_get, slice_get_within}
 use Rattle.gx_model.specs.declared.objects.Kind.{Kind}
 use Rattle.gx_model.specs.Texts.{Bytes}
 use Rattle.gx_model.specs.Histories.{Record}
@@ -16,6 +18,19 @@ use Rattle.gx_store.specs.NameOrder.{is_within}
 use Rattle.gx_store.specs.Prefixes.{AreEnds, BeginNone, found_between, joined, prefix_of}
 use Rattle.gx_store.specs.declared.prefix.Prefix.TheVariants.{Absent, Unique}
 use Rattle.gx_listed.specs.Listings.{HaveHeads, Head, Listed, head_of, shown_head}
+
+-- ---- one after the other, from the last
+
+pub found_none : (ends : Name × Name) (listed : List Listed) (i : ℕ) → length listed ≤ i → found_between ends (map (λ one. one.0) (drop i listed)) ≡ Absent
+found_none ends listed i h = ap (λ xs. found_between ends (map (λ one. one.0) xs)) (drop_all i listed h)
+
+pub found_step : (ends : Name × Name) (listed : List Listed) (i : ℕ) (one : Listed) → slice_get listed i ≡ Some one
+    → found_between ends (map (λ one. one.0) (drop i listed))
+    ≡ cond (is_within ends.0.bytes ends.1.bytes one.0.bytes) (joined (Unique one.0) (found_between ends (map (λ one. one.0) (drop (i + 1) listed)))) (found_between ends (map (λ one. one.0) (drop (i + 1) listed)))
+found_step ends listed i one at =
+    ap (λ xs. found_between ends (map (λ one. one.0) xs)) (drop_more listed i one (slice_get_within listed i one at) ∙ ap (λ x. x ∷ drop (i + 1) listed) (get_or_from_slice_get listed i one one at))
+
+-- ---- among records
 
 prefix_more : (r : Record) (rs : List Record) → prefix_of (r ∷ rs) ≡ joined (Unique (record { bytes = r.name })) (prefix_of rs)
 prefix_more r [] = refl

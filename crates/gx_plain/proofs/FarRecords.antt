@@ -1,5 +1,6 @@
 -- The records of a plain text that are listed so far.
-use Rattle.std.proofs.Common.{◌≡◌, ℕ, suc, ◌+◌, ◌-◌, ◌<◌, ◌≤◌, List, [], ◌∷◌, ◌++◌, length, drop, refl, sym, ap, ◌∙◌, subst, arith}
+use Rattle.std.proofs.Common.{◌≡◌, ℕ, suc, ◌+◌, ◌-◌, ◌<◌, ◌≤◌, List, [], ◌∷◌, ◌++◌, length, drop, Option, Some, None, Ok, Err, refl, sym, ap, ◌∙◌, subst, arith}
+use Rattle.std.specs.Prelude.{IfSome}
 use Rattle.std.specs.List.{AllZip}
 use Rattle.std.proofs.lemmas.List.{map_push}
 use Rattle.gx_model.specs.declared.objects.Kind.{Kind}
@@ -7,16 +8,18 @@ use Rattle.gx_model.specs.declared.store_versions.Version.{Version}
 use Rattle.gx_model.specs.Faults.{◌>>=◌}
 use Rattle.gx_model.specs.Texts.{Bytes}
 use Rattle.gx_model.specs.Histories.{Record}
+use Rattle.gx_model.specs.Objects.{IsNamer}
 use Rattle.gx_model.specs.Stores.StoreReading.{Stored, next_record, next_records}
 use Rattle.gx_model.specs.Stores.StoreText.{stored_record}
 use Rattle.gx_file.proofs.CountedRecords.{all_read, one_read}
 use Rattle.gx_listed.specs.Listings.{Listed}
 use Rattle.gx_objects.specs.declared.fault.LookFault.{LookFault}
-use Rattle.gx_plain.specs.Listing.{AreListed, IsNext, places_from, places_listed}
+use Rattle.gx_plain.specs.Listing.{AreListed, IsNext, IsOneMore, ListsAllNext, places_from, places_listed}
 use Rattle.gx_plain.specs.Reading.{RefusesWith}
 use Rattle.gx_plain.specs.Records.{AreStored, IsStoredAt}
 use Rattle.gx_plain.specs.Held.{IsHeld}
 use Rattle.gx_plain.specs.declared.start.Start.{Start}
+use Rattle.gx_plain.proofs.AddedRecords.{of_told}
 
 -- ---- places
 
@@ -80,3 +83,35 @@ module _ (name : Kind → Bytes → Bytes) (text : Bytes) (start : Start) where
       places = far.places;
       stand = far.stand;
     }
+
+-- ---- of what tells a text
+
+-- before the first record nothing is held
+pub none_held : (name : Kind → Bytes → Bytes) → IsNamer name → IsHeld name [] [] []
+none_held name namer = record { namer = namer; heads = refl; rooms_are = refl; sound = record { named = tt; distinct = tt; linked = tt; paths = tt; sorted = refl; ref_names = refl; held = tt } }
+
+module _ (name : Kind → Bytes → Bytes) (told : Option Bytes) (start : Start) where
+  pub far_begun : IfSome told (λ text. AreRead name text start 0 start.place [] [])
+  far_begun = of_told told (λ text. AreRead name text start 0 start.place [] []) (λ text e. none_read name text start)
+
+  module _ (i place : ℕ) (listed : List Listed) (rs : List Record) (far : IfSome told (λ text. AreRead name text start i place listed rs)) where
+    pub far_refused : (why : LookFault) → i < start.count → IfSome told (λ text. RefusesWith why (next_record name start.version rs (drop place text))) → ListsAllNext name told start (Err why)
+    far_refused why l h = by told far h
+      where
+        by : (o : Option Bytes) → IfSome o (λ text. AreRead name text start i place listed rs) → IfSome o (λ text. RefusesWith why (next_record name start.version rs (drop place text))) → ListsAllNext name o start (Err why)
+        by None f k = tt
+        by (Some text) f k = refused_more name text start i place listed rs f why l k
+
+    pub far_next : (new : List Listed) (rooms : List ℕ) (behind : ℕ) → i < start.count → (m : IsOneMore name start.version told place listed new rooms rs behind) → IfSome told (λ text. AreRead name text start (i + 1) behind new (rs ++ m.held ∷ []))
+    far_next new rooms behind l m = by told far m.next
+      where
+        by : (o : Option Bytes) → IfSome o (λ text. AreRead name text start i place listed rs) → IfSome o (λ text. IsNext name start.version text rs place m.held behind) → IfSome o (λ text. AreRead name text start (i + 1) behind new (rs ++ m.held ∷ []))
+        by None f k = tt
+        by (Some text) f k = one_more name text start i place listed rs f m.held behind m.one new l m.last m.stands k
+
+    pub far_all : (rooms : List ℕ) → IsHeld name listed rooms rs → start.count ≤ i → ListsAllNext name told start (Ok (listed, place))
+    far_all rooms held l = by told far
+      where
+        by : (o : Option Bytes) → IfSome o (λ text. AreRead name text start i place listed rs) → ListsAllNext name o start (Ok (listed, place))
+        by None f = tt
+        by (Some text) f = (rs, all_listed name text start i place listed rs f rooms held l)

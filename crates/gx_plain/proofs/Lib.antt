@@ -12,4 +12,5 @@ pub mod PlainTexts
 pub mod ShortLines
 pub mod StartLines
 pub mod TailsOfRefs
+pub mod TestedRefs
 pub mod WholeTexts

@@ -1,5 +1,5 @@
 -- What is held of a plain text that was opened tells the repository that it is read as.
-use Rattle.std.proofs.Common.{◌≡◌, ◌≢◌, ℕ, zero, suc, ◌+◌, ◌-◌, ◌<◌, ◌≤◌, List, [], ◌∷◌, ◌++◌, length, get_or, Option, Some, None, Ok, Err, refl, sym, ap, ◌∙◌, subst, arith}
+use Rattle.std.proofs.Common.{◌≡◌, ◌≢◌, ℕ, zero, suc, ◌+◌, ◌-◌, ◌<◌, ◌≤◌, List, [], ◌∷◌, ◌++◌, length, drop, get_or, Option, Some, None, Ok, Err, refl, sym, ap, ◌∙◌, subst, arith}
 use Rattle.std.specs.Prelude.{IfSome, slice_get, slice_index}
 use Rattle.std.specs.Bool.{passes}
 use Rattle.std.specs.List.{AllZip}
@@ -11,7 +11,7 @@ use Rattle.gx_model.specs.declared.objects.Kind.{Kind}
 use Rattle.gx_model.specs.declared.store_versions.Version.{Version}
 use Rattle.gx_model.specs.Texts.{Bytes}
 use Rattle.gx_model.specs.Histories.{Record, Records, object_of}
-use Rattle.gx_model.specs.Objects.{line}
+use Rattle.gx_model.specs.Objects.{IsNamer, line}
 use Rattle.gx_model.specs.Objects.Naming.{kind_word}
 use Rattle.gx_model.specs.Laws.StoreLaws.{StoresAreRead}
 use Rattle.gx_model.specs.Records.Growth.{record_named}
@@ -21,6 +21,10 @@ use Rattle.gx_model.specs.Stores.StoreText.{length_text, stored_record}
 use Rattle.gx_model.proofs.Stores.StoreTexts.{ok_is}
 use Rattle.gx_model.proofs.Texts.PathTests.{same_is}
 use Rattle.gx_objects.specs.Answers.{GoesUp, StandsThere}
+use Rattle.gx_objects.proofs.Named.{refs_are}
+use Rattle.gx_look.specs.Refs.{AreLines}
+use Rattle.gx_look.specs.Tails.{refs_text}
+use Rattle.gx_look.proofs.CheckedRefs.{lines_of}
 use Rattle.gx_store.specs.Stores.{place_named}
 use Rattle.gx_repo.proofs.Places.{is_place, no_place, no_record, no_record_named, record_at_place}
 use Rattle.gx_listed.specs.Listings.{HaveHeads, Listed, ListsAll, ListsIfTold, number_named}
@@ -169,6 +173,14 @@ module _ (name : Kind → Bytes → Bytes) where
     none_named n none = each_told told (λ r. None ≡ option_map object_of (record_named r.records n)) (λ text e r g.
         let h = (seen text e r g).heads in
         sym (ap (option_map object_of) (no_record_named r.records n (no_place r.records n (sym (none ∙ number_is n listed r.records h))))))
+
+    -- ---- refs
+
+    pub lines_tell : IsNamer name → StoresAreRead name → IfSome (told_by name told) (λ r. AreLines (drop tail.refs tail.text.items) r.refs)
+    lines_tell namer law = each_told told (λ r. AreLines (drop tail.refs tail.text.items) r.refs) (λ text e r g.
+        let w : IsReadAs name text v listed tail = subst (λ t. IsReadIfTold name t v listed tail) e opened.whole in
+        let same : w.repository ≡ r = ok_is w.repository r (sym w.read ∙ g) in
+        lines_of (drop tail.refs tail.text.items) r.refs (subst (λ (x : Records). drop tail.refs tail.text.items ≡ refs_text x.refs) same w.refs) (refs_are name namer r (law.only text r g).0))
 
     -- ---- what is read of a record
 

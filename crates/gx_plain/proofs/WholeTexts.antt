@@ -1,6 +1,6 @@
 -- A plain text as its front, its records, and the refs behind them.
 use Rattle.std.proofs.Common.{◌≡◌, ℕ, ◌-◌, List, [], length, drop, Option, Some, None, Ok, Err, refl, sym, ap, ◌∙◌, subst, arith}
-use Rattle.std.specs.Prelude.{IsOk, codes}
+use Rattle.std.specs.Prelude.{IfSome, IsOk, codes}
 use Rattle.std.specs.Result.{result_ok}
 use Rattle.std.proofs.lemmas.List.{length-drop}
 use Rattle.gx_model.specs.declared.objects.Kind.{Kind}
@@ -14,11 +14,11 @@ use Rattle.gx_listed.specs.Listings.{Listed}
 use Rattle.gx_look.specs.Tails.{refs_text}
 use Rattle.gx_objects.specs.declared.fault.LookFault.{LookFault}
 use Rattle.gx_objects.specs.declared.fault.LookFault.TheVariants.{Damaged}
-use Rattle.gx_plain.specs.Listing.{AreListed, places_from, places_listed}
-use Rattle.gx_plain.specs.Plain.{IsReadAs, told_by}
-use Rattle.gx_plain.specs.Reading.{RefusesWith}
-use Rattle.gx_plain.specs.Refs.{AreTold, refs_behind}
-use Rattle.gx_plain.specs.Starts.{IsStart, start_of}
+use Rattle.gx_plain.specs.Listing.{AreListed, ListsAllNext, places_from, places_listed}
+use Rattle.gx_plain.specs.Plain.{IsReadAs, IsReadIfTold, told_by}
+use Rattle.gx_plain.specs.Reading.{IsRefused, RefusesWith}
+use Rattle.gx_plain.specs.Refs.{AreTold, ReadsTail, refs_behind}
+use Rattle.gx_plain.specs.Starts.{IsStart, ReadsStart, start_of}
 use Rattle.gx_plain.specs.declared.refs.Tail.{Tail}
 use Rattle.gx_plain.specs.declared.start.Start.{Start}
 
@@ -110,11 +110,30 @@ module _ (name : Kind → Bytes → Bytes) where
 
   -- ---- what is told
 
-  -- a text that is read tells a repository
-  pub ok_read : {A : Type 0} (text : Bytes) (v : Version) (listed : List Listed) (tail : Tail A) → IsReadAs name text v listed tail → IsOk (store_of name text)
-  ok_read text v listed tail w = subst IsOk (sym w.read) tt
+  -- a text with a fault tells nothing
+  untold : (text : Bytes) → IsRefused (store_of name text) → told_by name (Some text) ≡ None
+  untold text r = ap result_ok r.1
 
-  -- a text with a fault tells none
-  pub untold : (told : Option Bytes) (why : LookFault) → ((text : Bytes) → told ≡ Some text → RefusesWith why (store_of name text)) → why ≡ Damaged → told_by name told ≡ None
-  untold None why h same = refl
-  untold (Some text) why h same = let r = h text refl same in ap result_ok r.1
+  pub start_untold : (told : Option Bytes) (why : LookFault) → ReadsStart told (Err why) → why ≡ Damaged → told_by name told ≡ None
+  start_untold None why h same = refl
+  start_untold (Some text) why h same = untold text (no_start text why h same)
+
+  pub records_untold : (told : Option Bytes) (start : Start) (why : LookFault) → ReadsStart told (Ok start) → ListsAllNext name told start (Err why) → why ≡ Damaged → told_by name told ≡ None
+  records_untold None start why f h same = refl
+  records_untold (Some text) start why f h same = untold text (no_records text start f why h same)
+
+  pub tail_untold : {A : Type 0} (told : Option Bytes) (start : Start) (listed : List Listed) (place : ℕ) (why : LookFault) → ReadsStart told (Ok start) → ListsAllNext name told start (Ok (listed, place))
+      → ReadsTail {A = A} name start.version told listed place (Err why) → why ≡ Damaged → told_by name told ≡ None
+  tail_untold None start listed place why f a h same = refl
+  tail_untold (Some text) start listed place why f a h same = untold text (no_refs text start f listed place a.0 a.1 why (h a.0 (told_so text start f listed place a.0 a.1)) same)
+
+  pub read_whole : {A : Type 0} (told : Option Bytes) (start : Start) (listed : List Listed) (place : ℕ) (tail : Tail A) → ReadsStart told (Ok start) → ListsAllNext name told start (Ok (listed, place))
+      → ReadsTail name start.version told listed place (Ok tail) → IsReadIfTold name told start.version listed tail
+  read_whole None start listed place tail f a h = tt
+  read_whole (Some text) start listed place tail f a h =
+      let r = h a.0 (told_so text start f listed place a.0 a.1) in
+      read_so text start f listed place a.0 a.1 tail r.0 r.1 r.2
+
+  pub read_ok : {A : Type 0} (told : Option Bytes) (v : Version) (listed : List Listed) (tail : Tail A) → IsReadIfTold name told v listed tail → IfSome told (λ text. IsOk (store_of name text))
+  read_ok None v listed tail w = tt
+  read_ok (Some text) v listed tail w = subst IsOk (sym w.read) tt

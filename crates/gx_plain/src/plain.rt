@@ -15,6 +15,7 @@ use gx_look::{find_by_names, without_end};
 use gx_at::ReadAt;
 use gx_listed::Listing;
 use gx_model::Version;
+use gx_model::store_laws::stores_are_read;
 use gx_object::{Name, Namer};
 use gx_objects::{LookFault, Object, Objects};
 use gx_store::{Prefix, names_begun_by};
@@ -101,6 +102,7 @@ impl<S: ReadAt, N: Namer, B: Allocator + Copy> Objects for Plain<S, N, B> {
     ghost stands = { λ plain. places_in (N.name_of plain.0) plain.1 };
 
     fn sound_if_told(&self) {
+        stores_are_read();
         let _ = &self.namer;
     }
 
@@ -150,6 +152,7 @@ impl<S: ReadAt, N: Namer, B: Allocator + Copy> Objects for Plain<S, N, B> {
 
     /// Cost: one pass over the names of all objects.
     fn by_digits(&self, digits: &[u8]) -> Result<Prefix, LookFault> {
+        stores_are_read();
         match names_begun_by(digits) {
             Some(ends) => Ok(found_between(&self.listing, &ends)),
             None => Ok(Prefix::Absent),
@@ -161,6 +164,7 @@ impl<S: ReadAt, N: Namer, B: Allocator + Copy> Objects for Plain<S, N, B> {
         &'a self,
         _room: &'a mut Vec<u8, A>,
     ) -> Result<&'a [u8], LookFault> {
+        stores_are_read();
         let lines = &self.tail.text.as_slice()[self.tail.refs..];
         match without_end(lines) {
             Some(refs) => Ok(refs),
@@ -170,6 +174,7 @@ impl<S: ReadAt, N: Namer, B: Allocator + Copy> Objects for Plain<S, N, B> {
 
     /// Cost: one pass over the refs for each name.
     fn object_of_ref(&self, name: &[u8]) -> Result<Option<Name>, LookFault> {
+        stores_are_read();
         let lines = &self.tail.text.as_slice()[self.tail.refs..];
         Ok(find_by_names(lines, name))
     }

@@ -13,4 +13,5 @@ pub mod ShortLines
 pub mod StartLines
 pub mod TailsOfRefs
 pub mod TestedRefs
+pub mod ToldParts
 pub mod WholeTexts

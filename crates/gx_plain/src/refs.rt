@@ -36,7 +36,8 @@ pub(crate) fn read_tail<S: ReadAt, N: Namer, A: Allocator + Copy>(
     place: u64,
 ) -> Result<Tail<A>, LookFault>
     ensures lines { IfOk result HoldsLines }
-    ensures tail { ReadsTail (N.name_of namer.now) version (S.text source.now) listing.now place result }
+    ensures tail { ReadsTail (N.name_of namer.now) version (S.text source.now)
+        listing.now place result }
 {
     let left = u64::MAX - place;
     let mut text = Vec::new(alloc);

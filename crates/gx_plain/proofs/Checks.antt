@@ -1,5 +1,6 @@
 -- What is against a body, by what is listed of the records before it.
 use Rattle.std.proofs.Common.{◌≡◌, ◌≢◌, inl, inr, ℕ, ◌+◌, ◌<◌, ◌≤◌, true, false, Bool, ◌&&◌, List, [], ◌∷◌, length, drop, get_or, slice_get, max, Option, Some, None, refl, sym, ap, ◌∙◌, subst, arith}
+use Rattle.std.specs.Prelude.{IfSome}
 use Rattle.std.specs.List.{list_all}
 use Rattle.std.specs.Option.{option_map}
 use Rattle.std.proofs.lemmas.Bool.{false_from_ne_true}
@@ -12,7 +13,7 @@ use Rattle.gx_model.specs.declared.store_faults.FileFault.TheVariants as fault
 use Rattle.gx_model.specs.Texts.{Bytes}
 use Rattle.gx_model.specs.Histories.{Record}
 use Rattle.gx_model.specs.Laws.StoreLaws.{BodiesAreRead, IsBody}
-use Rattle.gx_model.specs.Objects.{CommitParts, Entry, IsCommitText, IsTagText, TagParts}
+use Rattle.gx_model.specs.Objects.{CommitParts, Entry, IsCommitText, IsTagText, IsTreeText, TagParts}
 use Rattle.gx_model.specs.Records.Growth.{same_kind}
 use Rattle.gx_model.specs.Records.HistoryOf.{entries_in}
 use Rattle.gx_model.specs.Records.RecordFaults.{are_links_held, content_fault, is_bad_below, is_body, is_entry_held, is_held, is_of_kind}
@@ -23,7 +24,7 @@ use Rattle.gx_repo.proofs.CheckedEntries.{empty_entry, full_entry, held_at_place
 use Rattle.gx_repo.proofs.ContentFaults.{bad_below, commit_dangling, commit_fine, empty_below, fine_below, long_below, not_canonical, not_held, nothing_against, tag_dangling, tag_fine, told_bad, widest_room}
 use Rattle.gx_repo.proofs.HeldRecords.{kind_is}
 use Rattle.gx_repo.proofs.Places.{is_place}
-use Rattle.gx_repo.proofs.ReadTrees.{IsLeft, left_bad, left_dangling, left_end, left_next}
+use Rattle.gx_repo.proofs.ReadTrees.{IsLeft, left_bad, left_dangling, left_end, left_first, left_next}
 use Rattle.gx_repo.proofs.RecordRooms.{rooms_count, rooms_small}
 use Rattle.gx_listed.specs.Listings.{HaveHeads, Head, Listed, number_named}
 use Rattle.gx_kept.proofs.ListedRecords.{number_is, record_listed}
@@ -132,6 +133,10 @@ module _ (listed : List Listed) (rooms : List ℕ) (body : Bytes) where
   -- these are left of a tree's entries, whatever is held
   abbrev pub AreLeft : ℕ → Option (List Entry) → Type 0
   AreLeft far left = (name : Kind → Bytes → Bytes) (rs : List Record) → IsHeld name listed rooms rs → IsLeft rs body (Some far) left
+
+  -- before one is read all are
+  pub tree_first : BodiesAreRead → (entries : Option (List Entry)) → IfSome entries (λ es. IsTreeText es body) → ((es : List Entry) → IsTreeText es body → entries ≡ Some es) → AreLeft 0 entries
+  tree_first law entries found only = λ name rs h. left_first rs body law entries found only
 
   -- an entry that names a tree without entries is against the body
   left_empty : (rs : List Record) (e : Entry) (far : ℕ) (old new : Option (List Entry)) → old ≡ option_map (λ left. e ∷ left) new → IsLeft rs body (Some far) old → None ≡ entry_room rs e

@@ -9,6 +9,7 @@ pub mod NextRecords
 pub mod NextRefs
 pub mod PartsOfRecords
 pub mod PlainTexts
+pub mod RefTargets
 pub mod ShortLines
 pub mod StartLines
 pub mod TailsOfRefs

@@ -1,8 +1,13 @@
 -- A record that stands at a place of a text under its name, and what is read of it.
-use Rattle.std.proofs.Common.{◌≡◌, ◌≢◌, ℕ, length, Option, Some, None, Result, Ok, Err, refl, sym, ap, subst, ◌∙◌}
+use Rattle.std.proofs.Common.{◌≡◌, Bool, ◌≢◌, ℕ, length, Option, Some, None, Result, Ok, Err, refl, sym, ap, subst, ◌∙◌}
 use Rattle.gx_model.specs.declared.objects.Kind.{Kind}
 use Rattle.gx_model.specs.declared.store_versions.Version.{Version}
-use Rattle.gx_model.specs.Texts.{Bytes}
+use Rattle.gx_model.specs.Texts.{Bytes, same_bytes}
+use Rattle.gx_model.specs.Texts.RefNames.{tag_ref}
+use Rattle.gx_model.specs.Objects.{IsTagText, TagParts}
+use Rattle.gx_model.proofs.ObjectTexts.BodiesReadBack.{tag_read}
+use Rattle.gx_repo.specs.Refs.{TellsOwnRef}
+use Rattle.gx_plain.specs.Refs.{TellsTag}
 use Rattle.gx_model.specs.Histories.{Record}
 use Rattle.gx_model.proofs.Stores.StoreTexts.{ok_is}
 use Rattle.gx_look.specs.Reading.{Gives}
@@ -34,3 +39,18 @@ module _ (name : Kind → Bytes → Bytes) (v : Version) (told : Option Bytes) (
 
     pub named_so : name found.kind (body_in room found) ≡ called
     named_so = let f = found_is in (λ i. name (f.0 i) (f.1 i)) ∙ sym here.named ∙ here.name_is
+
+-- ---- tags
+
+-- what isn't read of a record isn't told of a tag
+pub tag_unread : (name : Kind → Bytes → Bytes) (v : Version) (told : Option Bytes) (at : ℕ) (called ref room : Bytes) (why : LookFault) → TellsRecord name v told at called room (Err why) → TellsTag name v told at called ref (Err why)
+tag_unread name v None at called ref room why h = tt
+tag_unread name v (Some text) at called ref room why h = λ held here parts t. h held here
+
+-- the tag that is read tells whether its own name makes a ref's
+pub tag_told : (name : Kind → Bytes → Bytes) (v : Version) (told : Option Bytes) (at : ℕ) (called ref room : Bytes) (found : Found) (answer : Bool) → TellsRecord name v told at called room (Ok found)
+    → TellsOwnRef ref (body_in room found) answer → TellsTag name v told at called ref (Ok answer)
+tag_told name v None at called ref room found answer h o = tt
+tag_told name v (Some text) at called ref room found answer h o = λ held here parts t.
+    let same = (h held here).1 in
+    o parts (subst (IsTagText parts) (sym same) t) ∙ ap (λ (q : TagParts). same_bytes ref (tag_ref q.name)) (sym (tag_read parts held.body t))

@@ -65,7 +65,7 @@ place_listed [] i one e = absurd (cc)
 place_listed (o ∷ os) zero one e = let same : o ≡ one = cc in ap (λ (x : Listed). x.1.place) same
 place_listed (o ∷ os) (suc i) one e = place_listed os i one e
 
-zip_at : {X Y : Type 0} (R : X → Y → Type 0) (xs : List X) (ys : List Y) (i : ℕ) (x : X) (y : Y) → AllZip R xs ys → slice_get xs i ≡ Some x → slice_get ys i ≡ Some y → R x y
+pub zip_at : {X Y : Type 0} (R : X → Y → Type 0) (xs : List X) (ys : List Y) (i : ℕ) (x : X) (y : Y) → AllZip R xs ys → slice_get xs i ≡ Some x → slice_get ys i ≡ Some y → R x y
 zip_at R [] ys i x y h e f = absurd (cc)
 zip_at R (a ∷ xs) [] i x y h e f = absurd h
 zip_at R (a ∷ xs) (b ∷ ys) zero x y h e f = let p : a ≡ x = cc in let q : b ≡ y = cc in subst (R x) q (subst (λ z. R z b) p h.0)

@@ -1,13 +1,12 @@
 -- The refs behind the records of a plain text. Source: this project's own format, and git-check-ref-format(1).
 use Rattle.std.specs.Prelude.{◌≡◌, ℕ, ◌≤◌, Bool, List, [], ◌∷◌, ◌++◌, length, drop, codes, Option, Some, None, Result, Ok, Err, ⊤}
 use Rattle.gx_model.specs.declared.objects.Kind.{Kind}
-use Rattle.gx_model.specs.declared.objects.Kind.TheVariants as kinds
 use Rattle.gx_model.specs.declared.store_versions.Version.{Version}
 use Rattle.gx_model.specs.Faults.{◌>>=◌}
 use Rattle.gx_model.specs.Texts.{Bytes, same_bytes}
 use Rattle.gx_model.specs.Texts.RefNames.{tag_ref}
 use Rattle.gx_model.specs.Histories.{Record}
-use Rattle.gx_model.specs.Laws.StoreLaws.{IsBody}
+use Rattle.gx_model.specs.Objects.{IsTagText, TagParts}
 use Rattle.gx_model.specs.Records.Growth.{record_named}
 use Rattle.gx_model.specs.Records.HistoryOf.{tag_parts_in}
 use Rattle.gx_model.specs.Records.Publishing.{Ref}
@@ -47,7 +46,7 @@ module _ (name : Kind → Bytes → Bytes) (v : Version) where
   abbrev pub TellsTag : Option Bytes → ℕ → Bytes → Bytes → Result Bool LookFault → Type 0
   TellsTag None place called ref result = ⊤
   TellsTag (Some text) place called ref result =
-      (held : Record) → IsStoredAt name v text place called held → held.kind ≡ kinds.Tag → IsBody held.kind held.body
+      (held : Record) → IsStoredAt name v text place called held → (parts : TagParts) → IsTagText parts held.body
       → Gives (λ is_own. is_own ≡ same_bytes ref (tag_ref (tag_parts_in held.body).name)) result
 
   -- whether a ref may hold its object

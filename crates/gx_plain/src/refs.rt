@@ -1,6 +1,7 @@
 //! The refs behind the records of a plain text. Source: this project's own format, and git-check-ref-format(1).
 
 ghost use Rattle.std.specs.Prelude.{IfOk};
+ghost use Rattle.gx_repo.specs.Refs.{TellsOwnRef};
 ghost use Rattle.gx_plain.specs.Refs.{HoldsLines, ReadsTail, TellsTag, TellsTarget, TestsTargets};
 
 use crate::fill::read_front;
@@ -113,7 +114,7 @@ fn is_target<S: ReadAt, N: Namer, A: Allocator + Copy>(
     match standing.kind {
         Kind::Blob | Kind::Tree => Ok(false),
         Kind::Commit => Ok(true),
-        Kind::Tag => is_own_ref(
+        Kind::Tag => is_named_by(
             source,
             namer,
             version,
@@ -126,7 +127,7 @@ fn is_target<S: ReadAt, N: Namer, A: Allocator + Copy>(
 }
 
 /// Whether a ref's name is made by the own name of the tag of this name at a place. `Damaged` where there stands none.
-fn is_own_ref<S: ReadAt, N: Namer, A: Allocator + Copy>(
+fn is_named_by<S: ReadAt, N: Namer, A: Allocator + Copy>(
     source: &S,
     namer: &N,
     version: Version,
@@ -139,11 +140,18 @@ fn is_own_ref<S: ReadAt, N: Namer, A: Allocator + Copy>(
         name.now.bytes ref_name.now result }
 {
     let found = read_named(source, namer, version, place, name, room)?;
-    let Ok(tag) = decode_tag(&room.as_slice()[found.start..found.end]) else {
-        return Err(LookFault::Damaged);
+    Ok(is_own_ref(ref_name, &room.as_slice()[found.start..found.end]))
+}
+
+/// Whether a ref's name is made by the own name of the tag with this body.
+fn is_own_ref(name: &[u8], body: &[u8]) -> bool
+    ensures { TellsOwnRef name.now body.now result }
+{
+    let Ok(tag) = decode_tag(body) else {
+        return false;
     };
-    match ref_name.strip_prefix(b"refs/tags/") {
-        Some(rest) => Ok(rest == tag.name()),
-        None => Ok(false),
+    match name.strip_prefix(b"refs/tags/") {
+        Some(rest) => rest == tag.name(),
+        None => false,
     }
 }

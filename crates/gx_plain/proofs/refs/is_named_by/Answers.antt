@@ -1,0 +1,8 @@
+use Rattle.std.proofs.lemmas.Result.{err_from_is_err_and}
+use Rattle.gx_plain.proofs.NamedRecords.{tag_unread}
+use Rattle.gx_plain.proofs.refs.is_named_by.Goals as goal
+
+pub returns-in_err-found : goal.returns-in_err-found
+returns-in_err-found g c =
+    let p = err_from_is_err_and c.from_residual.result c.from_residual.ensures.1 in
+    rw (p.1, p.2) (tag_unread (g.N.Namer.name_of c.args.namer.now) c.args.version (g.S.ReadAt.text c.args.source.now) c.args.place c.args.name.now.bytes c.args.ref_name.now c.read_named.new.room.items c.in_err-found.field-0.0 c.in_err-found.ensures.record)

@@ -1,7 +1,7 @@
 -- Lines and bodies of a text that are read in a front of it.
 use Rattle.std.proofs.Common.{◌≡◌, ℕ, suc, ◌+◌, ◌-◌, ◌<◌, ◌≤◌, eqb, Bool, true, false, [], ◌∷◌, ◌++◌, append_assoc, length, replicate, take, drop, Option, Some, None, Ok, Err, refl, sym, ap, ◌∙◌, subst, arith}
 use Rattle.std.proofs.Math.Seq.{take-append-add}
-use Rattle.std.proofs.lemmas.List.{length-append, length-drop, length-take-le, take-append-drop, take_all}
+use Rattle.std.proofs.lemmas.List.{length-append, length-drop, length-take, length-take-le, take-append-drop, take_all}
 use Rattle.gx_model.specs.declared.store_faults.FileFault.TheVariants as fault
 use Rattle.gx_model.specs.Texts.{Bytes, cut_at, lacks}
 use Rattle.gx_model.specs.Stores.StoreReading.{Stored, stored_body, stored_line}
@@ -25,6 +25,14 @@ front_short (Some text) at count came room buffer h l r e =
     let ends = r.1 e in
     let long = length-drop at text in
     h ∙ take_all (length room) (drop at text) (omega (arith, ends, long)) ∙ sym (take_all count (drop at text) (omega (arith, ends, long, l)))
+
+-- a room with fewer bytes than were wanted has all that is left
+pub rest_is : (told : Option Bytes) (at count : ℕ) (room : Bytes) → IsFrontAt told at count room → length room < count → (text : Bytes) → told ≡ Some text → room ≡ drop at text
+rest_is None at count room h l text e = absurd (cc)
+rest_is (Some t) at count room h l text e =
+    let same : t ≡ text = cc in
+    let long = ap length h ∙ length-take count (drop at t) in
+    h ∙ take_all count (drop at t) (omega arith) ∙ ap (drop at) same
 
 -- what came stands behind what was there
 came_stands : (told : Option Bytes) (at came : ℕ) (new : Bytes) → ReadsAt told at new (Ok came) → came ≤ length new → StandsAt told at (take came new)

@@ -15,4 +15,5 @@ pub mod StartLines
 pub mod TailsOfRefs
 pub mod TestedRefs
 pub mod ToldParts
+pub mod ToldTails
 pub mod WholeTexts

@@ -1,5 +1,5 @@
 -- What is held of a plain text that was opened tells the repository that it is read as.
-use Rattle.std.proofs.Common.{◌≡◌, ◌≢◌, ℕ, zero, suc, ◌+◌, ◌-◌, ◌<◌, ◌≤◌, List, [], ◌∷◌, ◌++◌, length, drop, get_or, Option, Some, None, Ok, Err, refl, sym, ap, ◌∙◌, subst, arith}
+use Rattle.std.proofs.Common.{◌≡◌, ◌≢◌, ℕ, zero, suc, ◌+◌, ◌-◌, ◌<◌, ◌≤◌, List, [], ◌∷◌, ◌++◌, length, map, drop, get_or, Option, Some, None, Ok, Err, refl, sym, ap, ◌∙◌, subst, arith}
 use Rattle.std.specs.Prelude.{IfSome, slice_get, slice_index}
 use Rattle.std.specs.Bool.{passes}
 use Rattle.std.specs.List.{AllZip}
@@ -20,15 +20,20 @@ use Rattle.gx_model.specs.Stores.StoreReading.{Stored, store_of}
 use Rattle.gx_model.specs.Stores.StoreText.{length_text, stored_record}
 use Rattle.gx_model.proofs.Stores.StoreTexts.{ok_is}
 use Rattle.gx_model.proofs.Texts.PathTests.{same_is}
-use Rattle.gx_objects.specs.Answers.{GoesUp, StandsThere}
+use Rattle.gx_objects.specs.Answers.{FindsBegun, GoesUp, StandsThere}
 use Rattle.gx_objects.proofs.Named.{refs_are}
 use Rattle.gx_look.specs.Refs.{AreLines}
 use Rattle.gx_look.specs.Tails.{refs_text}
 use Rattle.gx_look.proofs.CheckedRefs.{lines_of}
+use Rattle.gx_object.specs.declared.name.Name.{Name}
+use Rattle.gx_store.specs.Prefixes.{AreEnds, BeginNone, found_between}
+use Rattle.gx_store.specs.declared.prefix.Prefix.{Prefix}
+use Rattle.gx_store.specs.declared.prefix.Prefix.TheVariants.{Absent}
 use Rattle.gx_store.specs.Stores.{place_named}
 use Rattle.gx_repo.proofs.Places.{is_place, no_place, no_record, no_record_named, record_at_place}
 use Rattle.gx_listed.specs.Listings.{HaveHeads, Listed, ListsAll, ListsIfTold, number_named}
 use Rattle.gx_kept.proofs.ListedRecords.{number_is, one_listed, same_length}
+use Rattle.gx_plain.proofs.BegunNames.{all_names, begun_listed, none_begun}
 use Rattle.gx_plain.specs.Listing.{places_from, places_listed}
 use Rattle.gx_plain.specs.Plain.{IsOpened, IsReadAs, IsReadIfTold, places_in, places_of, told_by}
 use Rattle.gx_plain.specs.Records.{AreStored, IsStoredAt, TellsRecord, body_in}
@@ -173,6 +178,16 @@ module _ (name : Kind → Bytes → Bytes) where
     none_named n none = each_told told (λ r. None ≡ option_map object_of (record_named r.records n)) (λ text e r g.
         let h = (seen text e r g).heads in
         sym (ap (option_map object_of) (no_record_named r.records n (no_place r.records n (sym (none ∙ number_is n listed r.records h))))))
+
+    -- ---- digits
+
+    pub digits_tell : IsNamer name → StoresAreRead name → (digits : Bytes) (ends : Name × Name) (found : Prefix) → AreEnds digits ends.0 ends.1 → found ≡ found_between ends (map (λ one. one.0) listed)
+        → IfSome (told_by name told) (λ r. FindsBegun digits r found)
+    digits_tell namer law digits ends found are e = each_told told (λ r. FindsBegun digits r found) (λ text is r g.
+        e ∙ begun_listed digits ends are listed r.records (seen text is r g).heads (all_names name namer r.records (law.only text r g).0.named))
+
+    pub no_digits_tell : IsNamer name → StoresAreRead name → (digits : Bytes) → BeginNone digits → IfSome (told_by name told) (λ r. FindsBegun digits r Absent)
+    no_digits_tell namer law digits none = each_told told (λ r. FindsBegun digits r Absent) (λ text is r g. none_begun digits none r.records (all_names name namer r.records (law.only text r g).0.named))
 
     -- ---- refs
 

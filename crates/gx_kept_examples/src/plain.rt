@@ -1,54 +1,37 @@
-//! Plain texts of random stores, as they are grown and asked, and where a byte is changed.
+//! Plain texts, as they are grown and asked, beside what is made of them in memory.
 
-use crate::stores::{Dice, Grown};
 use gx_at::TextAt;
 use gx_kept::KeptFault;
-use gx_object::{Kind, Name, Sha1Namer};
-use gx_objects::{LookFault, Objects};
+use gx_object::{Name, Sha1Namer};
+use gx_objects::Objects;
 use gx_plain::{Plain, grow};
-use gx_repo::Repo;
 use gx_text::Growing;
 use std::alloc::Global;
 use std::hash::RandomState;
 
-/// A random repository, of fewer steps than `most`.
-fn random_repo(
-    alloc: Global,
-    dice: &mut Dice,
-    most: u64,
-    state: RandomState,
-) -> Option<Repo<Sha1Namer, Global>> {
-    let mut grown = Grown::new(alloc, state);
-    for _ in 0..dice.below(most) {
-        grown.step(alloc, dice)?;
-    }
-    Some(grown.repo)
-}
+/// A commit with one file, as the format of stores says.
+const STORE: &[u8] = b"gxstore 2\nobjects 3\n\
+blob 10 83baae61804e65cc73a7201a7252750c76066a30\nversion 1\n\n\
+tree 36 d8329fc1cc938780ffdd9f94e0d364e0ea74f579\n\
+100644 test.txt\0\x83\xba\xaea\x80N\x65\xccs\xa7 \x1arRu\x0cv\x06j0\n\
+commit 98 02d6adf1689e06135d2b4b4d471f1ae489887b53\n\
+tree d8329fc1cc938780ffdd9f94e0d364e0ea74f579\n\
+author A <a@x> 1 +0000\ncommitter A <a@x> 1 +0000\n\nv1\n\
+refs 1\n02d6adf1689e06135d2b4b4d471f1ae489887b53 refs/heads/main\nend\n";
 
-/// The text of a repository in version 1.
-fn first_version(alloc: Global, repo: &Repo<Sha1Namer, Global>) -> Option<Vec<u8>> {
-    let mut sink = Growing::new(alloc);
-    gx_file::send_text(&mut sink, b"gxstore 1\n").ok()?;
-    gx_file::send_count(&mut sink, b"objects", repo.store().len()).ok()?;
-    for place in 0..repo.store().len() {
-        let (_name, kind, body) = repo.store().record(place)?;
-        gx_file::send_count(&mut sink, word(kind), body.len()).ok()?;
-        gx_file::send_text(&mut sink, body).ok()?;
-        gx_file::send_text(&mut sink, b"\n").ok()?;
-    }
-    gx_file::send_refs(repo, &mut sink).ok()?;
-    gx_file::send_text(&mut sink, b"end\n").ok()?;
-    Some(sink.into_bytes())
-}
-
-fn word(kind: Kind) -> &'static [u8] {
-    match kind {
-        Kind::Blob => b"blob",
-        Kind::Tree => b"tree",
-        Kind::Commit => b"commit",
-        Kind::Tag => b"tag",
-    }
-}
+/// Texts of stores, and of none.
+const TEXTS: [&[u8]; 10] = [
+    STORE,
+    b"gxstore 1\nobjects 1\nblob 2\nv1\nrefs 0\nend\n",
+    b"gxstore 2\nobjects 0\nrefs 0\nend\n",
+    b"gxstore 2\nobjects 0\nrefs 0\nend\n\n",
+    b"gxstore 2\nobjects 1\nrefs 0\nend\n",
+    b"gxstore 2\nobjects 18446744073709551615\nrefs 0\nend\n",
+    b"gxstore 1\nobjects 1\ntree 2\nv1\nrefs 0\nend\n",
+    b"gxstore 1\nobjects 2\nblob 2\nv1\nblob 2\nv1\nrefs 0\nend\n",
+    b"gxstore 2\nobjects 1\nblob 2 83baae61804e65cc73a7201a7252750c76066a30\nv1\nrefs 0\nend\n",
+    b"gxstore 3\n",
+];
 
 /// What is grown of a text that is read in pieces, or why nothing is.
 fn grown(
@@ -62,151 +45,49 @@ fn grown(
     Ok(sink.into_bytes())
 }
 
-/// Whether both texts of a random store are grown as the repository in memory is written; and how many objects it has.
-fn is_grown(alloc: Global, seed: u64, state: RandomState) -> Option<usize> {
-    let mut dice = Dice { state: seed };
-    let repo = random_repo(alloc, &mut dice, 12, state)?;
-    let written = gx_growing_file::write(alloc, &repo).ok()?;
-    let second = gx_file::write(alloc, &repo).ok()?;
-    let first = first_version(alloc, &repo)?;
-    gx_file::read(alloc, Sha1Namer, first.as_slice(), state).ok()?;
-    for text in [first, second] {
-        let piece = 1 + dice.below(5_000) as usize;
-        let next = grown(alloc, text.as_slice(), piece, state).ok()?;
-        if next.as_slice() != written.as_slice() {
-            return None;
-        }
+/// Whether a text is grown as where it is read as a whole, and is damaged where it isn't read so.
+fn is_as_in_memory(alloc: Global, text: &[u8], piece: usize, state: RandomState) -> bool {
+    match gx_file::read(alloc, Sha1Namer, text, state) {
+        Ok(repo) => match (
+            grown(alloc, text, piece, state),
+            gx_growing_file::write(alloc, &repo),
+        ) {
+            (Ok(grown), Ok(written)) => grown.as_slice() == written.as_slice(),
+            _ => false,
+        },
+        Err(_) => grown(alloc, text, piece, state).err() == Some(KeptFault::Damaged),
     }
-    Some(repo.store().len())
 }
 
 #[test]
-fn random_stores_are_grown_as_in_memory(rt: HostRuntime) {
+fn plain_texts_are_grown_as_in_memory(rt: HostRuntime) {
     let Ok(state) = RandomState::new(&rt) else {
         return assert!(rt; false);
     };
-    let mut most = 0;
-    for seed in 0..40 {
-        let Some(count) = is_grown(rt.alloc(), seed, state) else {
-            return assert!(rt; false);
-        };
-        most = most.max(count);
+    for text in TEXTS {
+        for piece in [1, 5_000] {
+            assert!(rt; is_as_in_memory(rt.alloc(), text, piece, state));
+        }
     }
-    assert!(rt; most > 20);
 }
 
-/// Whether an object of a name is told as by a repository in memory.
-fn is_object_told<O: Objects>(
-    alloc: Global,
-    plain: &O,
-    repo: &Repo<Sha1Namer, Global>,
-    name: &Name,
-) -> Option<()> {
+/// Whether the store tells the object of its ref, by that and by digits.
+fn is_told(alloc: Global, state: RandomState) -> Option<bool> {
+    let (text, piece) = (STORE, 100);
+    let plain = Plain::open(alloc, Sha1Namer, TextAt { text, piece }, state).ok()?;
     let mut room = Vec::new(alloc);
-    match plain.object(name, &mut room).ok()? {
-        Some(object) => (repo.store().get(name) == Some((object.kind, object.body))).then_some(())?,
-        None => repo.store().get(name).is_none().then_some(())?,
-    }
-    for length in [1, 2, 3, 40] {
-        let digits = name.hex();
-        let begun = digits.get(..length)?;
-        let found = plain.by_digits(begun).ok()?;
-        (found == repo.store().by_prefix(begun)).then_some(())?;
-    }
-    Some(())
-}
-
-/// Whether a random store's text answers as the repository in memory.
-fn is_told(alloc: Global, seed: u64, state: RandomState) -> Option<()> {
-    let mut dice = Dice { state: seed };
-    let repo = random_repo(alloc, &mut dice, 6, state)?;
-    let text = gx_file::write(alloc, &repo).ok()?;
-    let source = TextAt {
-        text: text.as_slice(),
-        piece: 100,
-    };
-    let plain = Plain::open(alloc, Sha1Namer, source, state).ok()?;
-    for place in 0..repo.store().len() {
-        let (name, _kind, _body) = repo.store().record(place)?;
-        is_object_told(alloc, &plain, &repo, &name)?;
-    }
-    is_object_told(alloc, &plain, &repo, &Name { bytes: [7; 20] })?;
-    for word in [b"a".as_slice(), b"refs/heads/b", b"v1", b"origin", b"none"] {
-        let found = plain.object_of_ref(word).ok()?;
-        (found == repo.find_ref(word).ok()?).then_some(())?;
-    }
-    Some(())
+    let commit = plain.object_of_ref(b"main").ok()??;
+    let begun = plain.by_digits(b"02d6").ok()?;
+    let object = plain.object(&commit, &mut room).ok()??;
+    let is_whole = object.body.len() == 98 && begun == gx_store::Prefix::Unique(commit);
+    let none = plain.object(&Name { bytes: [7; 20] }, &mut room).ok()?;
+    Some(is_whole && none.is_none() && plain.listing().len() == 3)
 }
 
 #[test]
-fn random_stores_tell_what_they_hold(rt: HostRuntime) {
+fn plain_text_tells_what_it_holds(rt: HostRuntime) {
     let Ok(state) = RandomState::new(&rt) else {
         return assert!(rt; false);
     };
-    for seed in 0..20 {
-        assert!(rt; is_told(rt.alloc(), seed, state).is_some());
-    }
-}
-
-/// Whether a text is opened where it is read in memory, and is damaged where it isn't.
-fn is_as_read(alloc: Global, text: &[u8], state: RandomState) -> bool {
-    let read = gx_file::read(alloc, Sha1Namer, text, state).is_ok();
-    match grown(alloc, text, 777, state) {
-        Ok(_) => read,
-        Err(fault) => !read && fault == KeptFault::Damaged,
-    }
-}
-
-/// How many texts are refused of those that a random store's gives with a byte changed, or cut off.
-fn refused(alloc: Global, seed: u64, second: bool, state: RandomState) -> Option<usize> {
-    let mut dice = Dice { state: seed };
-    let repo = random_repo(alloc, &mut dice, 3, state)?;
-    let mut text = if second {
-        gx_file::write(alloc, &repo).ok()?
-    } else {
-        first_version(alloc, &repo)?
-    };
-    let mut count = 0;
-    for place in 0..text.len() {
-        is_as_read(alloc, text.get(..place)?, state).then_some(())?;
-        for flip in [1, 32] {
-            let held = *text.get(place)?;
-            *text.get_mut(place)? = held ^ flip;
-            is_as_read(alloc, text.as_slice(), state).then_some(())?;
-            *text.get_mut(place)? = held;
-            count += 1;
-        }
-    }
-    Some(count)
-}
-
-#[test]
-fn what_is_refused_in_memory_is_damaged(rt: HostRuntime) {
-    let Ok(state) = RandomState::new(&rt) else {
-        return assert!(rt; false);
-    };
-    for seed in 1..3 {
-        assert!(rt; refused(rt.alloc(), seed, seed % 2 == 0, state).is_some());
-    }
-}
-
-#[test]
-fn other_texts_are_no_plain_ones(rt: HostRuntime) {
-    let Ok(state) = RandomState::new(&rt) else {
-        return assert!(rt; false);
-    };
-    let texts = [
-        b"".as_slice(),
-        b"gxstore 3\n",
-        b"gxstore 2\nobjects 0\nrefs 0\nend\n\n",
-        b"gxstore 2\nobjects 1\nblob 18446744073709551614 0000000000000000000000000000000000000000\n",
-        b"gxstore 2\nobjects 18446744073709551615\nrefs 0\nend\n",
-    ];
-    for text in texts {
-        let found = Plain::open(rt.alloc(), Sha1Namer, TextAt { text, piece: 9 }, state);
-        match found {
-            Ok(_) => assert!(rt; false),
-            Err(fault) => assert!(rt; fault != LookFault::OutOfMemory),
-        }
-    }
+    assert!(rt; is_told(rt.alloc(), state) == Some(true));
 }

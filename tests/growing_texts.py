@@ -127,6 +127,13 @@ def live_runs(text: bytes) -> list[Run]:
     return [Run(int(row[0]), int(row[1]), bytes.fromhex(row[2].decode())) for row in rows]
 
 
+def with_runs(text: bytes, runs: list[Run]) -> bytes:
+    """A growing text of one segment without refs, whose tail tells these runs in place of its own."""
+    start, last = picked_slot(text)[1], tail(runs, {})
+    ends = slot(start + len(last), start, sha256(last))
+    return head(b"a", ends, UNUSED) + text[HEAD:start] + last
+
+
 class Lines:
     """Reads a text line by line, from a place on."""
 

@@ -5,10 +5,12 @@ that a commit can be named, and their files are some that it has, and others.
 from __future__ import annotations
 
 import random
+import shutil
 from collections.abc import Callable
 from dataclasses import dataclass, field
+from pathlib import Path
 
-from programs import Program, Word
+from programs import Done, Program, Word
 
 PATHS = b"a b d/a d/b d/e/a d/e/f/g d- d.c e/a e/b/c z".split() + [b"x y"]
 NAMES = [b"refs/heads/" + name for name in b"m n o/p q r s/t".split()]
@@ -17,6 +19,9 @@ NONCE = b"gx: stands for: "
 BODIES = [b"one\n", b"two\n", b"three\n", b"a\n", b"b\n", b"", b"x" * 200, NONCE[:9]] * 6 + [NONCE]
 SUFFIXES = [b"^", b"^2", b"^{commit}", b"^{}", b"~1^2", b"^0~1", b"^{tree}"]
 UNKNOWN = [b"nothing", b"1" * 40, b"refs/heads/none"]
+ZEROS = b"0" * 40
+NOT_SMALL = Done(1, b"", b"gx: no small repository\n")
+Git = Callable[..., bytes]
 
 
 def block(body: bytes) -> bytes:
@@ -208,6 +213,36 @@ class StreamMaker:
         return b"".join(self.out)
 
 
+def refs_set(stream: bytes) -> list[bytes]:
+    """The refs that commands of a stream may set."""
+    refs = set()
+    for line in stream.splitlines():
+        word, _, name = line.partition(b" ")
+        if word in (b"commit", b"reset"):
+            refs.add(name)
+        elif word == b"tag":
+            refs.add(b"refs/tags/" + name)
+    return sorted(refs)
+
+
+def push_lines(randoms: random.Random, known: Known, stream: bytes) -> list[bytes]:
+    """Lines of a push, which hold most times: of the refs that a stream may set, and of others."""
+    choose, at = randoms.choice, randoms.random
+    signs = choose([b"+", b"+", b"+", b"++++-", b"+++++~", b"~+-"])
+    others = [*known.refs, *NAMES, b"refs/tags/v1", b"bad..name", b"HEAD"]
+    refs = refs_set(stream) + randoms.sample(others, choose([0, 0, 0, 1, 2]))
+    lines = []
+    for ref in dict.fromkeys(refs):
+        held = known.refs.get(ref, ZEROS)
+        old = held if at() < 0.99 else choose([ZEROS, *known.commits[:1], b"1" * 39, held.upper()])
+        sign = bytes([choose(signs)]).replace(b"~", b"")
+        lines += [b"%s%s %s" % (sign, old, ref)] * (at() < 0.98)
+    randoms.shuffle(lines)
+    if at() < 0.03:
+        lines.insert(randoms.randrange(len(lines) + 1), choose([b"", b"x", ZEROS, b"-" + ZEROS]))
+    return lines + lines[:1] * (at() < 0.03)
+
+
 def made_large(gx: Program, store: Word) -> None:
     """Makes a growing store that no stream of here outweighs."""
     gx.prints("init", "--growing", store)
@@ -224,3 +259,118 @@ def made_base(gx: Program, store: Word, randoms: random.Random) -> Known:
             known = Known.of(gx, store)
             left -= bool(known.commits)
     return known
+
+
+class Ways:
+    """A store, and an import into copies of it in each way: one or a push, by its options."""
+
+    def __init__(self, gx: Program, folder: Path):
+        self.gx, self.base = gx, folder / "base"
+        self.copy, self.stream = folder / "copy", folder / "stream"
+
+    def imported(self, way: list[str], options: list[str], is_file: bool) -> tuple[Done, bytes]:
+        """What an import gives, and the text that FILE has then. The stream is read of a file, or
+        comes through a pipe."""
+        shutil.copy(self.base, self.copy)
+        words = [*way, "import", "--report", "--explain", *options, self.copy]
+        with self.stream.open("rb") as file:
+            done = self.gx(*words, stdin=file if is_file else file.read())
+        return done, self.copy.read_bytes()
+
+    def compare(self, stream: bytes, options: list[str]) -> str:
+        """The same comes of both ways. Answers by which one it comes where both are free, or that the
+        stream is refused."""
+        self.stream.write_bytes(stream)
+        before = self.base.read_bytes()
+        whole = self.imported(["--way=whole"], options, True)
+        assert self.imported([], options, False) == whole
+        assert self.imported([], options, True) == whole
+        small = self.imported(["--way=small"], options, True)
+        if small[0] == NOT_SMALL:
+            assert small[1] == before
+        else:
+            assert small == whole
+            assert whole[0].status == 0
+        if whole[0].status:
+            return "refused"
+        self.copy.write_bytes(whole[1])
+        self.gx.prints("verify", self.copy)
+        return "whole" if small[0] == NOT_SMALL else "small"
+
+
+# ---- streams of git
+
+
+class History:
+    """A repository of git that grows."""
+
+    def __init__(self, git: Git, folder: Path, randoms: random.Random):
+        self.run, self.folder, self.random, self.time = git, folder, randoms, 1000
+        git("init", "-q", "--bare", folder)
+
+    def git(self, *words: str | bytes, stdin: bytes = b"") -> bytes:
+        return self.run(*words, cwd=self.folder, stdin=stdin)
+
+    def refs(self) -> dict[bytes, bytes]:
+        lines = self.git("for-each-ref", "--format=%(objectname) %(refname)").splitlines()
+        return {name: digits for digits, name in (line.split(b" ", 1) for line in lines)}
+
+    def heads(self) -> dict[bytes, bytes]:
+        return {name: it for name, it in self.refs().items() if name.startswith(b"refs/heads/")}
+
+    def holds(self, commit: bytes, other: bytes) -> bool:
+        return self.git("merge-base", commit, other).strip() == other
+
+    def change(self) -> bytes:
+        path = self.random.choice(b"a b d/a d/b d/e/c lib/x/y/z README src/m.c src/n.c".split())
+        if self.random.random() < 0.15:
+            return b"D %s\n" % path
+        body = b"line %d\n" % self.random.randrange(8) * self.random.randrange(1, 9)
+        mode = self.random.choice([b"100644", b"100755"])
+        return b"M %s inline %s\ndata %d\n%s\n" % (mode, path, len(body), body)
+
+    def commit(self, branch: bytes, parents: list[bytes], changes: int) -> None:
+        self.time += 10
+        head = b"commit %s\ncommitter C <c@x> %d +0000\ndata 2\nm\n\n" % (branch, self.time)
+        words = [b"from", *[b"merge"] * (len(parents) - 1)]
+        lines = [b"%s %s\n" % link for link in zip(words, parents)]
+        lines += [self.change() for _ in range(changes)]
+        self.git("fast-import", "--quiet", "--force", stdin=head + b"".join(lines) + b"\n")
+
+    def some(self, most: int) -> bytes:
+        return self.random.choice(self.git("rev-list", "--all").split()[:most])
+
+    def step(self) -> None:
+        """A commit on a branch, a branch from an older commit, a merge, a branch that moves to
+        another's commit, or a tag of either kind."""
+        at, heads = self.random.random(), self.heads()
+        if not heads:
+            return self.commit(b"refs/heads/main", [], 5)
+        first, second = (self.random.choice(sorted(heads)) for _ in range(2))
+        if at < 0.55:
+            return self.commit(first, [heads[first]], self.random.choice([1, 1, 2, 4]))
+        if at < 0.67:
+            return self.commit(b"refs/heads/t%d" % self.random.randrange(9**9), [self.some(30)], 2)
+        if at < 0.85:
+            if not self.holds(heads[first], heads[second]):
+                self.commit(first, [heads[first], heads[second]], 1)
+        elif at < 0.92:
+            if self.holds(heads[second], heads[first]):
+                self.git("update-ref", first, heads[second])
+        else:
+            name = f"v{self.random.randrange(9**9)}"
+            words = ["-m", "t"] if self.random.random() < 0.6 else []
+            self.git("tag", *words, name, self.some(10))
+        return None
+
+
+def changes_of(history: History, told: dict[bytes, bytes]) -> bytes:
+    """What is new in a repository, as git-remote-gx has git write it."""
+    refs = history.refs()
+    changed = [name for name in refs if told.get(name) != refs[name]]
+    if not changed:
+        return b""
+    options = ["--reencode=no", "--reference-excluded-parents", "--signed-tags=verbatim"]
+    excluded = [b"^" + digits for digits in sorted(set(told.values()))]
+    words = ["fast-export", "--use-done-feature", *options, "--tag-of-filtered-object=drop"]
+    return history.git(*words, *changed, *excluded)

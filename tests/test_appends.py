@@ -14,7 +14,7 @@ from pathlib import Path
 import pytest
 
 from growing_reading import verdict
-from growing_texts import HEAD, GrowingText, Record
+from growing_texts import HEAD, GrowingText, Record, Run, live_runs, with_runs
 from programs import Done, Program, counted, run_program
 from store_files import (
     COMMITTED,
@@ -304,6 +304,16 @@ def test_limit(grown: StoreFile, room: int) -> None:
     grown.kept(done, "write failed", GROWN)
     assert grown.path.stat().st_mtime_ns
     grown.made(grown.take(preexec_fn=lambda: limited(len(whole))), whole)
+
+
+def test_rows_of_many_runs(store: StoreFile) -> None:
+    """A text that tells the same rows again and again doesn't get them all once more."""
+    whole = written(([record("blob", b"%d" % number) for number in range(1000)], {}))
+    run = live_runs(whole)[0]
+    smaller = [Run(run.place, 2 * 3**step, bytes(32)) for step in range(6)]
+    text = with_runs(whole, [run] * 1000 + smaller[::-1])
+    store.path.write_bytes(text)
+    store.kept(store.take(), "store: BadRows", text)
 
 
 # calls that fail, and what is told of them: each before the last two leaves FILE as it was

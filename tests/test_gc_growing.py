@@ -5,8 +5,8 @@ same store read as a whole, also of several segments and runs, and of what is da
 from __future__ import annotations
 
 import contextlib
+import errno
 import fcntl
-import os
 import random
 import re
 import resource
@@ -17,9 +17,11 @@ from pathlib import Path
 
 import pytest
 
+from failing import needs_faults
 from growing_reading import read
-from growing_texts import HEAD, GrowingText, Record, head, picked_slot, sha256, slot, tail
+from growing_texts import GrowingText, Record, with_runs
 from programs import Done, Program, counted
+from stops import Ender, ended_at
 from store_files import NEW, OLD, named
 from test_damaged_looks import draws
 from test_growing import grown
@@ -155,10 +157,7 @@ def test_rows_of_many_runs(gx: Program, tmp_path: Path) -> None:
     blobs = [b"%d" % number for number in range(2000)]
     whole, store = GrowingText(), tmp_path / "store"
     whole.append([Record(b"blob", bytes.fromhex(named("blob", body)), body) for body in blobs], {})
-    ends, start = picked_slot(whole.text())
-    last = tail(whole.runs * 4000, {})
-    front = head(b"a", slot(start + len(last), start, sha256(last)), bytes(106))
-    text = front + whole.text()[HEAD:start] + last
+    text = with_runs(whole.text(), whole.runs * 4000)
     store.write_bytes(text)
     room = (64 << 20, 64 << 20)
     done = gx("gc", store, preexec_fn=lambda: resource.setrlimit(resource.RLIMIT_AS, room))
@@ -193,3 +192,29 @@ def test_link_that_is_turned(gx: Program, tmp_path: Path) -> None:
     assert child.wait(60) == 0
     assert other.read_bytes() == before
     assert gx.prints("verify", store).startswith(b"version 3\nobjects 3\nrefs 1\n")
+
+
+MANY = 1 << 30
+
+
+@needs_faults
+@pytest.mark.parametrize("fault", [0, errno.EIO, errno.ENOSPC], ids=["killed", "EIO", "ENOSPC"])
+def test_each_call(
+    gx: Program, tmp_path: Path, randoms: random.Random, times: int, fault: int
+) -> None:
+    """Where a call fails, or gc is killed at it, FILE has its old text or the new one, and the next gc
+    goes on."""
+    store = grown(gx, tmp_path, NEW)
+    text, new = store.read_bytes(), store.with_name("grown.new")
+    words, how = [gx.path, "gc", store], {"env": gx.environment}
+    counter = Ender(MANY)
+    assert ended_at(words, counter, b"", **how) == Done(0, b"", b"")
+    left, calls = store.read_bytes(), MANY - counter.number
+    for number in randoms.sample(range(1, calls + 1), min(calls, 8 * times)):
+        store.write_bytes(text)
+        done = ended_at(words, Ender(number, fault), b"", **how)
+        assert store.read_bytes() in ([text, left] if done.status else [left])
+        assert not (fault and new.exists())
+        assert gx.prints("gc", store) == b""
+        assert store.read_bytes() == left and not new.exists()
+        counted["calls of gc that failed"] += 1

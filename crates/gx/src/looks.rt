@@ -21,6 +21,9 @@ use std::io;
 /// So often is a store opened again whose head another run may have been writing.
 const MOST_LOOKS: u32 = 8;
 
+/// So many bytes a row of a run has.
+const BYTES_OF_ROW: u64 = 28;
+
 /// A growing store file that is open.
 pub(crate) type FileLook<'a> = Look<FileAt<'a>, Sha1Namer, Global>;
 
@@ -83,6 +86,11 @@ pub(crate) fn look_into<'a>(
 pub(crate) fn row_count(look: &FileLook<'_>) -> u64 {
     let runs = look.ending().runs.iter();
     runs.fold(0u64, |sum, run| sum.saturating_add(run.count))
+}
+
+/// Whether a growing store file has room for the rows that it tells. One that hasn't is damaged.
+pub(crate) fn has_room_for_rows(look: &FileLook<'_>) -> bool {
+    row_count(look) <= look.ending().ends / BYTES_OF_ROW
 }
 
 fn is_damaged<T>(look: &Result<T, LookFault>) -> bool {

@@ -49,10 +49,10 @@ fn run_words(rt: &HostRuntime, args: &[String]) -> ExitCode {
         return tell_text(&Run::new(rt, false), tell_version(rt));
     }
     let explains = is_first(all, EXPLAIN);
-    let words = if explains { behind_first(all) } else { all };
+    let words = all.get(usize::from(explains)..).unwrap_or(&[]);
     let run = Run::new(rt, explains);
     match WAYS.iter().find(|way| is_first(words, way.0)) {
-        Some((_, way)) => run_command(&run.by_way(Some(*way)), behind_first(words)),
+        Some((_, way)) => run_command(&run.by_way(Some(*way)), words.get(1..).unwrap_or(&[])),
         None => run_command(&run, words),
     }
 }
@@ -64,11 +64,6 @@ fn words_of<'a>(rt: &HostRuntime, args: &'a [String]) -> Result<Vec<&'a str>, Al
         words.push(arg.as_str())?;
     }
     Ok(words)
-}
-
-/// The words behind the first one.
-fn behind_first<'a, 'b>(words: &'a [&'b str]) -> &'a [&'b str] {
-    words.get(1..).unwrap_or(&[])
 }
 
 fn is_first(words: &[&str], word: &str) -> bool {

@@ -7,10 +7,10 @@ use gx_import::import;
 use gx_object::{Namer, Sha1Namer};
 use gx_objects::Objects;
 use gx_repo::Repo;
+use gx_store::Store;
 use gx_text::{Bytes, Growing};
 use std::alloc::{Allocator, Global};
 use std::hash::RandomState;
-use std::test::Fail;
 
 /// Two commits of three files and a submodule, and a tag of the second.
 pub(crate) const BEFORE: &[u8] = b"commit refs/heads/main\ncommitter C <c@x> 1 +0000\ndata 2\nm\n\
@@ -45,65 +45,81 @@ pub(crate) fn over<N: Namer + Copy, A: Allocator + Copy>(
 
 /// Whether a stream gives a repository in memory the same over a small one as over all of it.
 fn is_same(
-    rt: &HostRuntime,
+    alloc: Global,
     repo: &mut Repo<Sha1Namer, Global>,
     stream: &[u8],
     state: RandomState,
 ) -> bool {
-    let Ok(given) = over(rt.alloc(), Sha1Namer, repo, stream, state) else {
+    let Ok(given) = over(alloc, Sha1Namer, repo, stream, state) else {
         return false;
     };
     let held = repo.store().len();
-    let mut sink = Growing::new(rt.alloc());
-    let source = Bytes::new(stream, 7, false);
-    if import(rt.alloc(), repo, source, &mut sink) != Ok(given.report) {
-        return false;
-    }
-    sink.into_bytes().as_slice() == given.progress.as_slice()
-        && has_lines(rt, repo, &given)
-        && has_objects(repo, held, &given)
+    let mut sink = Growing::new(alloc);
+    let report = import(alloc, repo, Bytes::new(stream, 7, false), &mut sink);
+    report == Ok(given.report)
+        && sink.into_bytes().as_slice() == given.progress.as_slice()
+        && is_given(alloc, repo, held, &given)
 }
 
-/// Whether a repository has just the refs that are given.
-fn has_lines(
-    rt: &HostRuntime,
-    repo: &Repo<Sha1Namer, Global>,
-    given: &Imported<Sha1Namer, Global>,
-) -> bool {
-    let mut room = Vec::new(rt.alloc());
-    let mut count = 0u64;
-    for byte in &given.refs {
-        if *byte == b'\n' {
-            count = count.saturating_add(1);
-        }
-    }
-    match repo.ref_lines(&mut room) {
-        Ok(lines) => lines == given.refs.as_slice() && count == given.ref_count,
-        Err(_) => false,
-    }
-}
-
-/// Whether a repository has just the objects that are given, behind so many.
-fn has_objects(
+/// Whether a repository has just the refs that are given, and just the objects behind so many.
+fn is_given(
+    alloc: Global,
     repo: &Repo<Sha1Namer, Global>,
     held: usize,
     given: &Imported<Sha1Namer, Global>,
 ) -> bool {
-    for place in 0..given.objects.len() {
-        if repo.store().record(held.saturating_add(place)) != given.objects.record(place) {
+    line_count(given.refs.as_slice()) == given.ref_count
+        && has_lines(alloc, repo, given.refs.as_slice())
+        && has_objects(repo, held, &given.objects)
+}
+
+/// How many lines a text has.
+fn line_count(text: &[u8]) -> u64 {
+    let mut count = 0u64;
+    for byte in text {
+        if *byte == b'\n' {
+            count = count.saturating_add(1);
+        }
+    }
+    count
+}
+
+/// Whether a repository has the refs of these lines.
+fn has_lines(alloc: Global, repo: &Repo<Sha1Namer, Global>, lines: &[u8]) -> bool {
+    let mut room = Vec::new(alloc);
+    match repo.ref_lines(&mut room) {
+        Ok(held) => held == lines,
+        Err(_) => false,
+    }
+}
+
+/// Whether a repository has just these objects behind so many.
+fn has_objects(
+    repo: &Repo<Sha1Namer, Global>,
+    held: usize,
+    objects: &Store<Sha1Namer, Global>,
+) -> bool {
+    for place in 0..objects.len() {
+        if repo.store().record(held.saturating_add(place)) != objects.record(place) {
             return false;
         }
     }
-    repo.store().len() == held.saturating_add(given.objects.len())
+    repo.store().len() == held.saturating_add(objects.len())
 }
 
+/// Streams, each over what those before it leave: into nothing, what is new, merges, and nothing.
+const STREAMS: [&[u8]; 4] = [BEFORE, AFTER, MERGED, b""];
+
 #[test]
-fn small_repository_gives_what_the_whole_one_gives(rt: HostRuntime) -> Result<(), Fail> {
-    let state = RandomState::new(&rt)?;
+fn small_repository_gives_what_the_whole_one_gives(rt: HostRuntime) {
+    let Ok(state) = RandomState::new(&rt) else {
+        return assert!(rt; false);
+    };
     let mut repo = Repo::new(rt.alloc(), Sha1Namer, state);
-    assert!(rt; is_same(&rt, &mut repo, BEFORE, state), "into nothing");
-    assert!(rt; is_same(&rt, &mut repo, AFTER, state), "what is new");
-    assert!(rt; is_same(&rt, &mut repo, MERGED, state), "merges");
-    assert!(rt; is_same(&rt, &mut repo, b"", state), "nothing");
-    Ok(())
+    for place in 0..4usize {
+        assert!(rt;
+            is_same(rt.alloc(), &mut repo, STREAMS[place], state),
+            "{place}"
+        );
+    }
 }

@@ -1,12 +1,11 @@
 //! Refs that are written as lines, read and found again, and dropped by their lines.
 
-use gx_left_refs::{LeftRefs, left_refs};
+use gx_left_refs::left_refs;
 use gx_object::Name;
 use gx_objects::put_ref;
 use gx_ref_lines::{RefLines, ref_names};
 use gx_repo::DropFault;
-use std::alloc::Global;
-use std::test::Fail;
+use std::alloc::{AllocError, Global};
 
 const ONE: Name = Name { bytes: [31; 20] };
 
@@ -19,150 +18,170 @@ a0a0a0a0a0a0a0a0a0a0a0a0a0a0a0a0a0a0a0a0 refs/tags/v1
 ";
 
 /// Names, and the object of the ref that has one.
-const FOUND: [(&str, Option<Name>); 4] = [
+const FOUND: [(&str, Option<Name>); 5] = [
     ("refs/heads/main", Some(ONE)),
+    ("refs/heads/main-2", Some(ONE)),
     ("refs/tags/v1", Some(TWO)),
     ("refs/heads/maim", None),
     ("refs/heads", None),
 ];
 
 /// What the ref of `main` may be called, as gitrevisions(7) has it.
-const NAMES: &[&str] = &[
-    "main",
-    "refs/main",
-    "refs/tags/main",
-    "refs/heads/main",
-    "refs/remotes/main",
-    "refs/remotes/main/HEAD",
-];
+const NAMES: &str = "main
+refs/main
+refs/tags/main
+refs/heads/main
+refs/remotes/main
+refs/remotes/main/HEAD
+";
 
-/// Names of refs that are dropped, how many are left then, and their lines.
-const DROPPED: [(&[&[u8]], u64, &str); 4] = [
-    (&[], 3, HELD),
+/// Names of refs that are dropped of the three, how many are left, the number of the name that is refused, and the lines that are
+/// left: a name is refused that no ref has, or that is given before.
+const DROPPED: [(&[&[u8]], u64, u64, &str); 7] = [
+    (&[], 3, 0, HELD),
     (
         &[b"refs/heads/main-2", b"refs/tags/v1"],
         1,
+        0,
         "1f1f1f1f1f1f1f1f1f1f1f1f1f1f1f1f1f1f1f1f refs/heads/main\n",
     ),
     (
         &[b"refs/tags/v1", b"refs/heads/main"],
         1,
+        0,
         "1f1f1f1f1f1f1f1f1f1f1f1f1f1f1f1f1f1f1f1f refs/heads/main-2\n",
     ),
     (
         &[b"refs/tags/v1", b"refs/heads/main", b"refs/heads/main-2"],
         0,
+        0,
+        "",
+    ),
+    (&[b"refs/heads"], 0, 1, ""),
+    (&[b"refs/heads/main", b"v1", b"v1"], 0, 2, ""),
+    (
+        &[b"refs/tags/v1", b"refs/heads/main", b"refs/tags/v1"],
+        0,
+        3,
         "",
     ),
 ];
 
-/// Names of which one is of no ref that is left, and its number.
-const UNKNOWN: [(&[&[u8]], u64); 3] = [
-    (&[b"refs/heads"], 1),
-    (&[b"refs/heads/main", b"v1", b"v1"], 2),
-    (&[b"refs/tags/v1", b"refs/heads/main", b"refs/tags/v1"], 3),
+/// A tenth of a hundred refs.
+const TENTH: &[&[u8]] = &[
+    b"r/07", b"r/17", b"r/27", b"r/37", b"r/47", b"r/57", b"r/67", b"r/77", b"r/87", b"r/97",
 ];
 
+/// Puts the lines of three refs.
+fn put_three(text: &mut Vec<u8>) -> Result<(), AllocError> {
+    put_ref(text, b"refs/heads/main", &ONE)?;
+    put_ref(text, b"refs/heads/main-2", &ONE)?;
+    put_ref(text, b"refs/tags/v1", &TWO)
+}
+
 #[test]
-fn refs_are_found_by_their_names(rt: HostRuntime) -> Result<(), Fail> {
+fn refs_have_their_lines(rt: HostRuntime) {
     let mut text = Vec::new(rt.alloc());
-    put_ref(&mut text, b"refs/heads/main", &ONE)?;
-    put_ref(&mut text, b"refs/tags/v1", &TWO)?;
-    let Ok(lines) = RefLines::read(rt.alloc(), text.as_slice()) else {
-        panic!(rt; "not read");
+    assert!(rt; put_three(&mut text).is_ok());
+    assert!(rt; text.as_slice() == HELD.as_bytes());
+}
+
+#[test]
+fn refs_are_found_by_their_names(rt: HostRuntime) {
+    let Ok(lines) = RefLines::read(rt.alloc(), HELD.as_bytes()) else {
+        return assert!(rt; false);
     };
-    assert!(rt; lines.refs.len() == 2, "two");
+    assert!(rt; lines.refs.len() == 3);
     for (name, object) in FOUND {
         assert!(rt; lines.find(name.as_bytes()) == object, "{name}");
     }
-    Ok(())
+}
+
+/// Whether a text is read as lines of refs.
+fn is_read(alloc: Global, text: &[u8]) -> bool {
+    RefLines::read(alloc, text).is_ok()
 }
 
 #[test]
-fn last_line_without_its_end_is_damaged(rt: HostRuntime) -> Result<(), Fail> {
-    let mut text = Vec::new(rt.alloc());
-    assert!(rt; RefLines::read(rt.alloc(), text.as_slice()).is_ok());
-    put_ref(&mut text, b"refs/heads/main", &ONE)?;
-    text.pop();
-    assert!(rt; RefLines::read(rt.alloc(), text.as_slice()).is_err());
-    Ok(())
+fn last_line_without_its_end_is_damaged(rt: HostRuntime) {
+    let line = b"1f1f1f1f1f1f1f1f1f1f1f1f1f1f1f1f1f1f1f1f refs/heads/main";
+    assert!(rt; is_read(rt.alloc(), b""));
+    assert!(rt; !is_read(rt.alloc(), line));
 }
 
-#[test]
-fn six_names_are_looked_for(rt: HostRuntime) -> Result<(), Fail> {
-    let names = ref_names(rt.alloc(), b"main")?;
-    assert!(rt; names.len() == NAMES.len(), "six");
-    for (name, wanted) in names.iter().zip(NAMES) {
-        assert!(rt; name.as_slice() == wanted.as_bytes(), "{wanted}");
+/// Puts texts as lines.
+fn put_lines(text: &mut Vec<u8>, lines: &[Vec<u8>]) -> Result<(), AllocError> {
+    for line in lines {
+        text.extend_from_slice(line.as_slice())?;
+        text.push(b'\n')?;
     }
     Ok(())
 }
 
-/// What is left of refs, by their lines.
-fn left(
-    alloc: Global,
-    lines: &[u8],
-    names: &[&[u8]],
-) -> Option<Result<LeftRefs<Global>, DropFault>> {
-    let held = RefLines::read(alloc, lines).ok()?;
-    Some(left_refs(alloc, &held, names))
+/// The ref names of a word, as lines.
+fn names_of(alloc: Global, word: &[u8]) -> Result<Vec<u8>, AllocError> {
+    let names = ref_names(alloc, word)?;
+    let mut text = Vec::new(alloc);
+    put_lines(&mut text, names.as_slice())?;
+    Ok(text)
 }
 
-/// Whether so many of the three refs are left, with these lines.
-fn leaves(alloc: Global, names: &[&[u8]], count: u64, lines: &str) -> bool {
-    match left(alloc, HELD.as_bytes(), names) {
-        Some(Ok(left)) => left.count == count && left.lines.as_slice() == lines.as_bytes(),
-        _ => false,
+#[test]
+fn six_names_are_looked_for(rt: HostRuntime) {
+    match names_of(rt.alloc(), b"main") {
+        Ok(names) => assert!(rt; names.as_slice() == NAMES.as_bytes()),
+        Err(_) => assert!(rt; false),
     }
 }
 
-/// The number of the name that is refused, and 0 where none is.
-fn refused(alloc: Global, names: &[&[u8]]) -> u64 {
-    match left(alloc, HELD.as_bytes(), names) {
-        Some(Err(DropFault::UnknownRef { number })) => number,
-        _ => 0,
+/// How many refs are left of those of some lines, the number of the name that is refused, and whether these lines are left.
+fn dropped(alloc: Global, held: &[u8], names: &[&[u8]], lines: &[u8]) -> Option<(u64, u64, bool)> {
+    let held = RefLines::read(alloc, held).ok()?;
+    match left_refs(alloc, &held, names) {
+        Ok(left) => Some((left.count, 0, left.lines.as_slice() == lines)),
+        Err(DropFault::UnknownRef { number }) => Some((0, number, lines.is_empty())),
+        Err(DropFault::OutOfMemory) => None,
     }
 }
 
 #[test]
 fn refs_of_other_names_are_left(rt: HostRuntime) {
-    for (names, count, lines) in DROPPED {
-        assert!(rt; leaves(rt.alloc(), names, count, lines), "{lines}");
+    for (names, count, number, lines) in DROPPED {
+        let dropped = dropped(rt.alloc(), HELD.as_bytes(), names, lines.as_bytes());
+        assert!(rt;
+            dropped == Some((count, number, true)),
+            "{count} {number} {lines}"
+        );
     }
 }
 
-#[test]
-fn first_unknown_name_is_told(rt: HostRuntime) {
-    for (names, number) in UNKNOWN {
-        assert!(rt; refused(rt.alloc(), names) == number, "{number}");
-    }
-}
-
-#[test]
-fn a_tenth_of_a_hundred_refs_goes(rt: HostRuntime) -> Result<(), Fail> {
-    let alloc = rt.alloc();
-    let mut all = Vec::new(alloc);
-    let mut rest = Vec::new(alloc);
-    let mut gone = Vec::new(alloc);
+/// Puts the lines of a hundred refs, or of those whose names don't end with a seven.
+fn put_hundred(text: &mut Vec<u8>, has_sevens: bool) -> Result<(), AllocError> {
     for first in b"0123456789" {
         for second in b"0123456789" {
-            let name = [b'r', b'/', *first, *second];
-            put_ref(&mut all, name.as_slice(), &ONE)?;
-            if *second == b'7' {
-                gone.push(name)?;
-            } else {
-                put_ref(&mut rest, name.as_slice(), &ONE)?;
+            if has_sevens || *second != b'7' {
+                put_ref(text, &[b'r', b'/', *first, *second], &ONE)?;
             }
         }
     }
-    let mut names = Vec::new(alloc);
-    for name in gone.as_slice() {
-        names.push(name.as_slice())?;
-    }
-    let Some(Ok(left)) = left(alloc, all.as_slice(), names.as_slice()) else {
-        panic!(rt; "not dropped");
-    };
-    assert!(rt; left.count == 90);
-    assert!(rt; left.lines.as_slice() == rest.as_slice());
     Ok(())
+}
+
+/// The lines of a hundred refs, or of those whose names don't end with a seven.
+fn hundred(alloc: Global, has_sevens: bool) -> Option<Vec<u8>> {
+    let mut text = Vec::new(alloc);
+    put_hundred(&mut text, has_sevens).ok()?;
+    Some(text)
+}
+
+/// What is left of a hundred refs when those go whose names end with a seven.
+fn dropped_sevens(alloc: Global) -> Option<(u64, u64, bool)> {
+    let all = hundred(alloc, true)?;
+    let rest = hundred(alloc, false)?;
+    dropped(alloc, all.as_slice(), TENTH, rest.as_slice())
+}
+
+#[test]
+fn a_tenth_of_a_hundred_refs_goes(rt: HostRuntime) {
+    assert!(rt; dropped_sevens(rt.alloc()) == Some((90, 0, true)));
 }

@@ -2,7 +2,7 @@
 
 use gx_asked::Asked;
 use gx_command::Features;
-use gx_object::{Kind, Name, Sha1Namer};
+use gx_object::{Kind, Sha1Namer};
 use gx_objects::Objects;
 use gx_ref_lines::RefLines;
 use gx_repo::{RefChange, Repo};
@@ -10,7 +10,6 @@ use gx_small_repo::{base_given, small_repository};
 use gx_stand_ins::StandIn;
 use std::alloc::Global;
 use std::hash::RandomState;
-use std::test::Fail;
 
 /// Four commits, of which the last two have a directory and a submodule more, and a tag of the third.
 const RECORDS: [(Kind, &[u8]); 10] = [
@@ -57,33 +56,56 @@ const RECORDS: [(Kind, &[u8]); 10] = [
     ),
 ];
 
-/// Which of these a small repository has itself: all but the second blob and the second commit, for which others stand, and the
-/// first commit, for which nothing asks.
-const ITSELF: [bool; 10] = [
-    true, false, true, true, true, false, false, true, true, true,
+/// Whether a small repository has each of these, and whether it has it itself: others stand for the second blob and the second
+/// commit, and nothing asks for the first commit.
+const HELD: [(bool, bool); 10] = [
+    (true, true),
+    (true, false),
+    (true, true),
+    (true, true),
+    (true, true),
+    (false, false),
+    (true, false),
+    (true, true),
+    (true, true),
+    (true, true),
 ];
+
+/// The refs of the whole one, and the places of their objects: nothing asks for the second.
+const REFS: [(&[u8], usize); 3] = [
+    (b"refs/heads/main", 8),
+    (b"refs/heads/unasked", 5),
+    (b"refs/tags/v1", 9),
+];
+
+/// Words of which both are to give the same.
+const BASES: [&[u8]; 4] = [b"main", b"v1", b"587be6b4", b"unheard"];
 
 /// A commit with a file that stands already, by its digits, and branches from a tag's parent and from a branch's.
 const STREAM: &[u8] = b"commit refs/heads/main\ncommitter C <c@x> 4 +0000\ndata 2\nn\n\
     from refs/heads/main^0\nM 100644 587be6b4c3f93f93c489c0111bba5596147a26cb h\n\
     reset refs/heads/old\nfrom v1~1\n\nreset refs/heads/other\nfrom main~1\n\n";
 
-/// The whole repository, with a branch, a tag, and a branch for which nothing asks.
-fn whole(alloc: Global, state: RandomState) -> Option<Repo<Sha1Namer, Global>> {
-    let mut repo = Repo::new(alloc, Sha1Namer, state);
+/// Makes an empty repository the whole one. Answers whether all of it is there.
+fn is_filled(repo: &mut Repo<Sha1Namer, Global>) -> bool {
+    add_records(repo).is_some() && hold_refs(repo).is_some()
+}
+
+/// Adds the records.
+fn add_records(repo: &mut Repo<Sha1Namer, Global>) -> Option<()> {
     for (kind, body) in RECORDS {
         repo.add_record(kind, body).ok()?;
     }
-    hold(&mut repo, b"refs/heads/main", 8)?;
-    hold(&mut repo, b"refs/heads/unasked", 5)?;
-    hold(&mut repo, b"refs/tags/v1", 9)?;
-    Some(repo)
+    Some(())
 }
 
-/// Has a ref hold the object at a place.
-fn hold(repo: &mut Repo<Sha1Namer, Global>, name: &[u8], place: usize) -> Option<()> {
-    let (target, _kind, _body) = repo.store().record(place)?;
-    repo.publish(&[RefChange { name, target }]).ok()
+/// Has each ref hold its object.
+fn hold_refs(repo: &mut Repo<Sha1Namer, Global>) -> Option<()> {
+    for (name, place) in REFS {
+        let (target, _kind, _body) = repo.store().record(place)?;
+        repo.publish(&[RefChange { name, target }]).ok()?;
+    }
+    Some(())
 }
 
 /// The small repository of what the stream asks for.
@@ -98,11 +120,16 @@ fn small(
     small_repository(alloc, Sha1Namer, repo, &asked, &lines, state).ok()
 }
 
-/// Whether a small repository has an object of this name, and whether it is that object itself.
-fn held(small: &Repo<StandIn<Sha1Namer>, Global>, name: &Name, body: &[u8]) -> (bool, bool) {
-    match small.store().get(name) {
-        Some((_kind, here)) => (true, here == body),
-        None => (false, false),
+/// Whether a small repository has the object at a place, and whether it has it itself.
+fn held(
+    repo: &Repo<Sha1Namer, Global>,
+    small: &Repo<StandIn<Sha1Namer>, Global>,
+    place: usize,
+) -> Option<(bool, bool)> {
+    let (name, _kind, body) = repo.store().record(place)?;
+    match small.store().get(&name) {
+        Some((_kind, here)) => Some((true, here == body)),
+        None => Some((false, false)),
     }
 }
 
@@ -115,30 +142,26 @@ fn is_same_base(
     base_given(repo, base).ok() == base_given(small, base).ok()
 }
 
+/// Whether a small repository has nine objects and two refs.
+fn has_no_more(small: &Repo<StandIn<Sha1Namer>, Global>) -> bool {
+    small.store().len() == 9 && small.refs().count() == 2
+}
+
 #[test]
-fn small_repository_has_what_is_asked_for(rt: HostRuntime) -> Result<(), Fail> {
-    let state = RandomState::new(&rt)?;
-    let Some(repo) = whole(rt.alloc(), state) else {
-        panic!(rt; "whole");
+fn small_repository_has_what_is_asked_for(rt: HostRuntime) {
+    let Ok(state) = RandomState::new(&rt) else {
+        return assert!(rt; false);
     };
+    let mut repo = Repo::new(rt.alloc(), Sha1Namer, state);
+    assert!(rt; is_filled(&mut repo));
     let Some(small) = small(rt.alloc(), &repo, state) else {
-        panic!(rt; "small");
+        return assert!(rt; false);
     };
-    for place in 0..10 {
-        if let Some((name, _kind, body)) = repo.store().record(place) {
-            let is_asked_for = place != 5;
-            assert!(rt;
-                held(&small, &name, body) == (is_asked_for, ITSELF[place]),
-                "object"
-            );
-        }
+    for place in 0..10usize {
+        assert!(rt; held(&repo, &small, place) == Some(HELD[place]), "{place}");
     }
-    for base in [b"main".as_slice(), b"v1", b"587be6b4", b"unheard"] {
-        assert!(rt; is_same_base(&repo, &small, base), "base");
+    for base in BASES {
+        assert!(rt; is_same_base(&repo, &small, base));
     }
-    assert!(rt;
-        small.store().len() == 9 && small.refs().count() == 2,
-        "no more"
-    );
-    Ok(())
+    assert!(rt; has_no_more(&small));
 }

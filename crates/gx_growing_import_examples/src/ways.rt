@@ -1,6 +1,6 @@
 //! Streams that go the whole way.
 
-ghost use Rattle.std.specs.Prelude.{◌≡◌, IfSome};
+ghost use Rattle.std.specs.Prelude.{◌≡◌};
 
 use crate::imports::{BEFORE, over};
 use gx_devices::ShortNamer;
@@ -11,45 +11,87 @@ use gx_repo::Repo;
 use gx_text::{Bytes, Growing};
 use std::alloc::Global;
 use std::hash::RandomState;
-use std::test::Fail;
 
 /// A blob that would stand for another.
 const STAND_IN: &[u8] = b"blob\ndata 36\ngx: stands for: 01234567890123456789\n";
 
-/// A repository in memory, of this stream.
-fn made<N: Namer + Copy>(
-    rt: &HostRuntime,
-    namer: N,
-    stream: &[u8],
-    state: RandomState,
-) -> Option<Repo<N, Global>>
-    ensures namer { IfSome result (λ repo. repo.0 ≡ namer) }
+/// A commit of no files.
+const COMMIT: &[u8] = b"commit refs/heads/main\ncommitter C <c@x> 1 +0000\ndata 0\n";
+
+/// The stream of a repository, how often it stands there, a stream over a small one of it, and the way that this goes. The name of
+/// the blob that would stand for another is the one that git gives it.
+const WAYS: [(&[u8], usize, &[u8], &str); 8] = [
+    (BEFORE, 1, b"feature done\ndone\n", "short"),
+    (BEFORE, 1, b"x\n", "Unread"),
+    (BEFORE, 1, b"feature done\n", "Unread"),
+    (BEFORE, 1, STAND_IN, "StandsForAnother"),
+    (
+        BEFORE,
+        1,
+        b"commit refs/heads/main\ncommitter C <c@x> 4 +0000\ndata 16\ngx: stands for: \n",
+        "StandsForAnother",
+    ),
+    (
+        BEFORE,
+        1,
+        b"reset refs/heads/old\nfrom refs/heads/none\n\n",
+        "Refused",
+    ),
+    (
+        STAND_IN,
+        1,
+        b"commit refs/heads/main\ncommitter C <c@x> 4 +0000\ndata 0\n\
+        M 100644 aa77e1b441312518a4b88e61808790e4f21043df a\n",
+        "NotTaken",
+    ),
+    (
+        COMMIT,
+        4200,
+        b"reset refs/heads/old\nfrom main~4190\n",
+        "TooMany",
+    ),
+];
+
+/// Two blobs of other lengths.
+const TWO_BLOBS: &[u8] = b"blob\ndata 2\nx\nblob\ndata 3\nxy\n";
+
+/// Streams over these, and the ways that they go, where objects have names by their lengths.
+const SHORT_WAYS: [(&[u8], &str); 3] = [
+    (b"blob\ndata 2\nx\n", "short"),
+    (b"blob\ndata 2\ny\n", "NameHeld"),
+    (b"reset refs/heads/main\nfrom 11111111\n", "Differs"),
+];
+
+/// A text so many times.
+fn repeated(alloc: Global, text: &[u8], times: usize) -> Option<Vec<u8>> {
+    let mut whole = Vec::new(alloc);
+    for _time in 0..times {
+        whole.extend_from_slice(text).ok()?;
+    }
+    Some(whole)
+}
+
+/// Imports a stream. Answers whether that is accepted.
+fn is_imported<N: Namer>(alloc: Global, repo: &mut Repo<N, Global>, stream: &[u8]) -> bool
+    ensures namer { repo.new.0 ≡ repo.old.0 }
 {
-    let mut repo = Repo::new(rt.alloc(), namer, state);
-    let mut sink = Growing::new(rt.alloc());
-    let source = Bytes::new(stream, 64, false);
-    import(rt.alloc(), &mut repo, source, &mut sink).ok()?;
-    Some(repo)
+    let mut sink = Growing::new(alloc);
+    import(alloc, repo, Bytes::new(stream, 64, false), &mut sink).is_ok()
 }
 
-/// The word of the way that a stream goes over a small one of this repository.
-fn way(
-    rt: &HostRuntime,
-    repo: &Repo<Sha1Namer, Global>,
+/// The word of the way that a stream goes over a small repository of what another one makes.
+fn way<N: Namer + Copy>(
+    alloc: Global,
+    namer: N,
+    before: &[u8],
     stream: &[u8],
     state: RandomState,
 ) -> &'static str {
-    word(over(rt.alloc(), Sha1Namer, repo, stream, state).err())
-}
-
-/// The same, where objects have names by their lengths.
-fn short_way(
-    rt: &HostRuntime,
-    repo: &Repo<ShortNamer, Global>,
-    stream: &[u8],
-    state: RandomState,
-) -> &'static str {
-    word(over(rt.alloc(), ShortNamer, repo, stream, state).err())
+    let mut repo = Repo::new(alloc, namer, state);
+    if !is_imported(alloc, &mut repo, before) {
+        return "not made";
+    }
+    word(over(alloc, namer, &repo, stream, state).err())
 }
 
 /// The word of a way.
@@ -69,76 +111,42 @@ fn word(way: Option<WholeWay>) -> &'static str {
     }
 }
 
-#[test]
-fn streams_go_the_whole_way(rt: HostRuntime) -> Result<(), Fail> {
-    let state = RandomState::new(&rt)?;
-    let Some(repo) = made(&rt, Sha1Namer, BEFORE, state) else {
-        assert!(rt; false, "made");
-        return Ok(());
-    };
-    assert!(rt; way(&rt, &repo, b"feature done\ndone\n", state) == "short");
-    assert!(rt; way(&rt, &repo, b"x\n", state) == "Unread");
-    assert!(rt; way(&rt, &repo, b"feature done\n", state) == "Unread");
-    assert!(rt; way(&rt, &repo, STAND_IN, state) == "StandsForAnother");
-    let message = b"commit refs/heads/main\ncommitter C <c@x> 4 +0000\ndata 16\ngx: stands for: \n";
-    assert!(rt; way(&rt, &repo, message, state) == "StandsForAnother");
-    let unknown = b"reset refs/heads/old\nfrom refs/heads/none\n\n";
-    assert!(rt; way(&rt, &repo, unknown, state) == "Refused");
-    Ok(())
-}
-
-#[test]
-fn objects_that_look_like_others_go_the_whole_way(rt: HostRuntime) -> Result<(), Fail> {
-    let state = RandomState::new(&rt)?;
-    let Some(repo) = made(&rt, Sha1Namer, STAND_IN, state) else {
-        assert!(rt; false, "made");
-        return Ok(());
-    };
-    let Some((name, _, _)) = repo.store().record(0) else {
-        assert!(rt; false, "made");
-        return Ok(());
-    };
-    let mut stream = Vec::new(rt.alloc());
-    stream.extend_from_slice(
-        b"commit refs/heads/main\ncommitter C <c@x> 4 +0000\ndata 0\nM 100644 ",
-    )?;
-    stream.extend_from_slice(name.hex().as_slice())?;
-    stream.extend_from_slice(b" a\n")?;
-    assert!(rt; way(&rt, &repo, stream.as_slice(), state) == "NotTaken");
-    Ok(())
-}
-
-#[test]
-fn names_of_others_go_the_whole_way(rt: HostRuntime) -> Result<(), Fail> {
-    let state = RandomState::new(&rt)?;
-    let Some(repo) = made(
-        &rt,
-        ShortNamer,
-        b"blob\ndata 2\nx\nblob\ndata 3\nxy\n",
-        state,
-    ) else {
-        assert!(rt; false, "made");
-        return Ok(());
-    };
-    assert!(rt; short_way(&rt, &repo, b"blob\ndata 2\nx\n", state) == "short");
-    assert!(rt; short_way(&rt, &repo, b"blob\ndata 2\ny\n", state) == "NameHeld");
-    assert!(rt;
-        short_way(&rt, &repo, b"reset refs/heads/main\nfrom 11111111\n", state) == "Differs"
-    );
-    Ok(())
-}
-
-#[test]
-fn many_commits_go_the_whole_way(rt: HostRuntime) -> Result<(), Fail> {
-    let state = RandomState::new(&rt)?;
-    let mut stream = Vec::new(rt.alloc());
-    for _commit in 0..4200 {
-        stream.extend_from_slice(b"commit refs/heads/main\ncommitter C <c@x> 1 +0000\ndata 0\n")?;
+/// Whether a stream goes this way over a stream that stands so many times.
+fn goes(
+    alloc: Global,
+    (before, times): (&[u8], usize),
+    stream: &[u8],
+    wanted: &str,
+    state: RandomState,
+) -> bool {
+    match repeated(alloc, before, times) {
+        Some(before) => way(alloc, Sha1Namer, before.as_slice(), stream, state) == wanted,
+        None => false,
     }
-    let Some(repo) = made(&rt, Sha1Namer, stream.as_slice(), state) else {
-        assert!(rt; false, "made");
-        return Ok(());
+}
+
+#[test]
+fn streams_go_the_whole_way(rt: HostRuntime) {
+    let Ok(state) = RandomState::new(&rt) else {
+        return assert!(rt; false);
     };
-    assert!(rt; way(&rt, &repo, b"reset refs/heads/old\nfrom main~4190\n", state) == "TooMany");
-    Ok(())
+    for (before, times, stream, word) in WAYS {
+        assert!(rt;
+            goes(rt.alloc(), (before, times), stream, word, state),
+            "{word}"
+        );
+    }
+}
+
+#[test]
+fn names_of_others_go_the_whole_way(rt: HostRuntime) {
+    let Ok(state) = RandomState::new(&rt) else {
+        return assert!(rt; false);
+    };
+    for (stream, word) in SHORT_WAYS {
+        assert!(rt;
+            way(rt.alloc(), ShortNamer, TWO_BLOBS, stream, state) == word,
+            "{word}"
+        );
+    }
 }

@@ -1,6 +1,6 @@
 //! What is kept of random stores.
 
-use crate::stores::{Dice, look_into, random_text};
+use crate::stores::{Dice, Grown, look_into, random_text};
 use gx_kept::{collect, rewrite};
 use gx_object::{Name, Sha1Namer};
 use gx_repo::{Pruned, Repo};
@@ -8,57 +8,105 @@ use gx_text::Growing;
 use std::alloc::Global;
 use std::hash::RandomState;
 
-/// What is kept of a text beside these names, and how much goes.
+/// Collects what is kept of a text beside these names, and answers how much goes.
 fn collected(
     alloc: Global,
     text: &[u8],
     kept: &[Name],
+    sink: &mut Growing<Global>,
     state: RandomState,
-) -> Option<(Vec<u8>, Pruned)> {
+) -> Option<Pruned> {
     let look = look_into(alloc, text)?;
     let listing = look.listing(alloc, state).ok()?;
-    let mut sink = Growing::new(alloc);
-    let gone = collect(alloc, &look, &listing, kept, &mut sink).ok()?;
-    Some((sink.into_bytes(), gone))
+    collect(alloc, &look, &listing, kept, sink).ok()
 }
 
-/// All of a text, written anew.
-fn rewritten(alloc: Global, text: &[u8], state: RandomState) -> Option<Vec<u8>> {
+/// Writes all of a text anew.
+fn rewritten(
+    alloc: Global,
+    text: &[u8],
+    sink: &mut Growing<Global>,
+    state: RandomState,
+) -> Option<()> {
     let look = look_into(alloc, text)?;
     let listing = look.listing(alloc, state).ok()?;
-    let mut sink = Growing::new(alloc);
-    rewrite(alloc, &look, &listing, &mut sink).ok()?;
-    Some(sink.into_bytes())
+    rewrite(alloc, &look, &listing, sink).ok()
 }
 
-/// Names of some objects, and of none.
-fn some_names(alloc: Global, dice: &mut Dice, repo: &Repo<Sha1Namer, Global>) -> Option<Vec<Name>> {
-    let mut names = Vec::new(alloc);
+/// Whether a text is rewritten as this one.
+fn rewrites(alloc: Global, text: &[u8], wanted: &[u8], state: RandomState) -> bool {
+    let mut sink = Growing::new(alloc);
+    let is_done = rewritten(alloc, text, &mut sink, state).is_some();
+    is_done && sink.into_bytes().as_slice() == wanted
+}
+
+/// Whether a text is rewritten as a repository in memory is written.
+fn is_rewritten(
+    alloc: Global,
+    text: &[u8],
+    repo: &Repo<Sha1Namer, Global>,
+    state: RandomState,
+) -> bool {
+    match gx_growing_file::write(alloc, repo) {
+        Ok(whole) => rewrites(alloc, text, whole.as_slice(), state),
+        Err(_) => false,
+    }
+}
+
+/// How many objects go where a text is collected beside these names, as a repository in memory is.
+fn pruned(
+    alloc: Global,
+    text: &[u8],
+    names: &[Name],
+    repo: &mut Repo<Sha1Namer, Global>,
+    state: RandomState,
+) -> Option<usize> {
+    let pruned = repo.prune(names).ok()?;
+    let held = gx_growing_file::write(alloc, repo).ok()?;
+    let mut sink = Growing::new(alloc);
+    let gone = collected(alloc, text, names, &mut sink, state);
+    let is_held = sink.into_bytes().as_slice() == held.as_slice();
+    (is_held && gone == Some(pruned)).then_some(pruned.objects)
+}
+
+/// Puts names of some objects, and of none.
+fn put_names(names: &mut Vec<Name>, dice: &mut Dice, repo: &Repo<Sha1Namer, Global>) -> Option<()> {
     for _ in 0..dice.below(3) {
         let place = dice.below(repo.store().len() as u64);
-        match repo.store().record(place as usize) {
-            Some((name, _kind, _body)) => names.push(name).ok()?,
-            None => names.push(Name { bytes: [7; 20] }).ok()?,
-        }
+        let name = match repo.store().record(place as usize) {
+            Some((name, _kind, _body)) => name,
+            None => Name { bytes: [7; 20] },
+        };
+        names.push(name).ok()?;
     }
-    Some(names)
+    Some(())
 }
 
-/// Whether a random store of so many segments is rewritten and collected as in memory, and how many objects went.
-fn is_as_in_memory(alloc: Global, seed: u64, state: RandomState) -> Option<usize> {
+/// Whether a text is rewritten and collected as a repository in memory, and how many objects go.
+fn gone(
+    alloc: Global,
+    text: &[u8],
+    repo: &mut Repo<Sha1Namer, Global>,
+    dice: &mut Dice,
+    state: RandomState,
+) -> Option<usize> {
+    let mut names = Vec::new(alloc);
+    if put_names(&mut names, dice, repo).is_some() && is_rewritten(alloc, text, repo, state) {
+        pruned(alloc, text, names.as_slice(), repo, state)
+    } else {
+        None
+    }
+}
+
+/// The same of a random store.
+fn gone_of_random(alloc: Global, seed: u64, state: RandomState) -> Option<usize> {
     let mut dice = Dice { state: seed };
     let segments = dice.below(8);
-    let (grown, text) = random_text(alloc, &mut dice, segments, state)?;
-    let names = some_names(alloc, &mut dice, &grown.repo)?;
-    let mut repo = grown.repo;
-    let whole = gx_growing_file::write(alloc, &repo).ok()?;
-    if rewritten(alloc, text.as_slice(), state)?.as_slice() != whole.as_slice() {
-        return None;
+    let mut grown = Grown::new(alloc, state);
+    match random_text(alloc, &mut grown, &mut dice, segments, state) {
+        Some(text) => gone(alloc, text.as_slice(), &mut grown.repo, &mut dice, state),
+        None => None,
     }
-    let (left, gone) = collected(alloc, text.as_slice(), names.as_slice(), state)?;
-    let pruned = repo.prune(names.as_slice()).ok()?;
-    let held = gx_growing_file::write(alloc, &repo).ok()?;
-    (left.as_slice() == held.as_slice() && gone == pruned).then_some(gone.objects)
 }
 
 #[test]
@@ -68,7 +116,7 @@ fn random_stores_are_collected_as_in_memory(rt: HostRuntime) {
     };
     let mut most = 0;
     for seed in 0..40 {
-        let Some(gone) = is_as_in_memory(rt.alloc(), seed, state) else {
+        let Some(gone) = gone_of_random(rt.alloc(), seed, state) else {
             return assert!(rt; false);
         };
         most = most.max(gone);

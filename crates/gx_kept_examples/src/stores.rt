@@ -52,10 +52,8 @@ const REFS: [&[u8]; 4] = [
     b"refs/remotes/origin/HEAD",
 ];
 
-const TEXTS: [&[u8]; 2] = [
-    b"author A <a@b> 0 +0000\n",
-    b"committer A <a@b> 0 +0000\n\nm\n",
-];
+/// What stands behind the parents of a commit.
+const PEOPLE: &[u8] = b"author A <a@b> 0 +0000\ncommitter A <a@b> 0 +0000\n\nm\n";
 
 impl Grown {
     /// An empty one.
@@ -68,29 +66,22 @@ impl Grown {
         }
     }
 
-    /// One of all objects.
-    pub(crate) fn object(&self, dice: &mut Dice) -> Option<Name> {
-        let place = dice.below(self.repo.store().len() as u64);
-        let (name, _kind, _body) = self.repo.store().record(place as usize)?;
-        Some(name)
-    }
-
     /// Adds a blob, a tree of some files and maybe a folder, and a commit, and sets a ref now and then.
     pub(crate) fn step(&mut self, alloc: Global, dice: &mut Dice) -> Option<()> {
-        let mut body = Vec::new(alloc);
-        body.resize(dice.below(200) as usize, b'x').ok()?;
-        body.extend_from_slice(&dice.state.to_be_bytes()).ok()?;
-        let blob = self.add(Kind::Blob, body.as_slice())?;
-        self.blobs.push(blob).ok()?;
-        self.add_tree(alloc, dice)?;
-        self.add_commit(alloc, dice)?;
+        let mut room = Vec::new(alloc);
+        self.step_with(&mut room, dice)
+    }
+
+    /// The same, with room for the bodies.
+    fn step_with(&mut self, room: &mut Vec<u8>, dice: &mut Dice) -> Option<()> {
+        self.add_blob(room, dice)?;
+        self.add_tree(room, dice)?;
+        self.add_commit(room, dice)?;
         if dice.below(3) == 0 {
-            let target = dice.one_of(self.commits.as_slice())?;
-            let name = *REFS.get(dice.below(4) as usize)?;
-            self.repo.publish(&[RefChange { name, target }]).ok()?;
+            self.set_ref(dice)?;
         }
         if dice.below(8) == 0 {
-            self.add_tag(alloc, dice)?;
+            self.add_tag(room, dice)?;
         }
         Some(())
     }
@@ -104,54 +95,78 @@ impl Grown {
         }
     }
 
-    fn add_tree(&mut self, alloc: Global, dice: &mut Dice) -> Option<()> {
-        let mut body = Vec::new(alloc);
-        for name in [b"a", b"b", b"c"] {
-            if name == b"a" || dice.below(2) == 0 {
-                let blob = dice.one_of(self.blobs.as_slice())?;
-                put_entry(&mut body, b"100644 ", name, &blob)?;
-            }
-        }
+    fn add_blob(&mut self, room: &mut Vec<u8>, dice: &mut Dice) -> Option<()> {
+        room.clear();
+        room.resize(dice.below(200) as usize, b'x').ok()?;
+        room.extend_from_slice(&dice.state.to_be_bytes()).ok()?;
+        let blob = self.add(Kind::Blob, room.as_slice())?;
+        self.blobs.push(blob).ok()
+    }
+
+    fn add_tree(&mut self, room: &mut Vec<u8>, dice: &mut Dice) -> Option<()> {
+        room.clear();
+        self.put_files(room, dice)?;
         if dice.below(2) == 0 {
             if let Some(tree) = dice.one_of(self.trees.as_slice()) {
-                put_entry(&mut body, b"40000 ", b"d", &tree)?;
+                put_entry(room, b"40000 ", b"d", &tree)?;
             }
         }
         if dice.below(5) == 0 {
             let bytes = [9; 20];
-            put_entry(&mut body, b"160000 ", b"e", &Name { bytes })?;
+            put_entry(room, b"160000 ", b"e", &Name { bytes })?;
         }
-        let tree = self.add(Kind::Tree, body.as_slice())?;
+        let tree = self.add(Kind::Tree, room.as_slice())?;
         self.trees.push(tree).ok()
     }
 
-    fn add_commit(&mut self, alloc: Global, dice: &mut Dice) -> Option<()> {
-        let mut body = Vec::new(alloc);
+    /// Puts the entries of up to three files.
+    fn put_files(&self, room: &mut Vec<u8>, dice: &mut Dice) -> Option<()> {
+        for name in [b"a", b"b", b"c"] {
+            if name == b"a" || dice.below(2) == 0 {
+                let blob = dice.one_of(self.blobs.as_slice())?;
+                put_entry(room, b"100644 ", name, &blob)?;
+            }
+        }
+        Some(())
+    }
+
+    fn add_commit(&mut self, room: &mut Vec<u8>, dice: &mut Dice) -> Option<()> {
+        room.clear();
         let tree = dice.one_of(self.trees.as_slice())?;
-        put_line(&mut body, b"tree ", &tree)?;
+        put_line(room, b"tree ", &tree)?;
+        self.put_parents(room, dice)?;
+        room.extend_from_slice(PEOPLE).ok()?;
+        let commit = self.add(Kind::Commit, room.as_slice())?;
+        self.commits.push(commit).ok()
+    }
+
+    /// Puts the lines of up to two parents.
+    fn put_parents(&self, room: &mut Vec<u8>, dice: &mut Dice) -> Option<()> {
         let mut last = None;
         for _ in 0..dice.below(3) {
             if let Some(parent) = dice.one_of(self.commits.as_slice()) {
                 if last != Some(parent) {
-                    put_line(&mut body, b"parent ", &parent)?;
+                    put_line(room, b"parent ", &parent)?;
                 }
                 last = Some(parent);
             }
         }
-        for text in TEXTS {
-            body.extend_from_slice(text).ok()?;
-        }
-        let commit = self.add(Kind::Commit, body.as_slice())?;
-        self.commits.push(commit).ok()
+        Some(())
     }
 
-    fn add_tag(&mut self, alloc: Global, dice: &mut Dice) -> Option<()> {
-        let mut body = Vec::new(alloc);
+    fn set_ref(&mut self, dice: &mut Dice) -> Option<()> {
+        let target = dice.one_of(self.commits.as_slice())?;
+        let name = *REFS.get(dice.below(4) as usize)?;
+        self.repo.publish(&[RefChange { name, target }]).ok()
+    }
+
+    fn add_tag(&mut self, room: &mut Vec<u8>, dice: &mut Dice) -> Option<()> {
+        room.clear();
         let commit = dice.one_of(self.commits.as_slice())?;
-        put_line(&mut body, b"object ", &commit)?;
-        body.extend_from_slice(b"type commit\ntag v1\ntagger A <a@b> 0 +0000\n\nm\n")
+        put_line(room, b"object ", &commit)?;
+        room.extend_from_slice(b"type commit\ntag v1\ntagger A <a@b> 0 +0000\n\nm\n")
             .ok()?;
-        let target = self.add(Kind::Tag, body.as_slice())?;
+        let target = self.add(Kind::Tag, room.as_slice())?;
         let name = b"refs/tags/v1";
         self.repo.publish(&[RefChange { name, target }]).ok()
     }
@@ -170,25 +185,49 @@ fn put_line(body: &mut Vec<u8>, word: &[u8], object: &Name) -> Option<()> {
     body.push(b'\n').ok()
 }
 
-/// A growing text of so many segments, of a repository that takes some random steps before each.
-pub(crate) fn random_text(
+/// The growing text of an empty repository.
+fn empty_text(alloc: Global, state: RandomState) -> Option<Vec<u8>> {
+    let repo = Repo::new(alloc, Sha1Namer, state);
+    gx_growing_file::write(alloc, &repo).ok()
+}
+
+/// A disk with the growing text of an empty repository.
+fn empty_disk(alloc: Global, state: RandomState) -> Option<Disk<Global>> {
+    let text = empty_text(alloc, state)?;
+    Disk::new(alloc, text.as_slice(), Plan::NONE).ok()
+}
+
+/// Grows a repository by some random steps before each of so many segments, which are appended to its text.
+fn grow(
     alloc: Global,
+    grown: &mut Grown,
+    disk: &mut Disk<Global>,
     dice: &mut Dice,
     segments: u64,
-    state: RandomState,
-) -> Option<(Grown, Vec<u8>)> {
-    let mut grown = Grown::new(alloc, state);
-    let text = gx_growing_file::write(alloc, &grown.repo).ok()?;
-    let mut disk = Disk::new(alloc, text.as_slice(), Plan::NONE).ok()?;
+) -> Option<()> {
     for _ in 0..segments {
         let held = grown.repo.store().len();
         for _ in 0..dice.below(6) {
             grown.step(alloc, dice)?;
         }
-        append(alloc, &mut disk, &grown.repo, held)?;
+        append(alloc, disk, &grown.repo, held)?;
     }
-    let text = Vec::from_slice(alloc, disk.text()).ok()?;
-    Some((grown, text))
+    Some(())
+}
+
+/// A growing text of so many segments, of an empty repository that takes some random steps before each.
+pub(crate) fn random_text(
+    alloc: Global,
+    grown: &mut Grown,
+    dice: &mut Dice,
+    segments: u64,
+    state: RandomState,
+) -> Option<Vec<u8>> {
+    let mut disk = empty_disk(alloc, state)?;
+    match grow(alloc, grown, &mut disk, dice, segments) {
+        Some(()) => Vec::from_slice(alloc, disk.text()).ok(),
+        None => None,
+    }
 }
 
 /// Appends what a repository has more than so many objects, and its refs.

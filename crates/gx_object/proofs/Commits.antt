@@ -22,7 +22,7 @@ some_encoding : (x : Bytes) → nat_eq (length x) 0 ≡ false → is_line x ≡ 
 some_encoding [] e h = cc
 some_encoding (b ∷ x) e h = h
 
-encoding_spelled : (bytes : Bytes) → HasOptional is_optional_encoding (codes "encoding") bytes (or_absent (encoding_field bytes) bytes)
+pub encoding_spelled : (bytes : Bytes) → HasOptional is_optional_encoding (codes "encoding") bytes (or_absent (encoding_field bytes) bytes)
 unfolding encoding_field
 encoding_spelled bytes = by (encoding_field bytes) refl
   where

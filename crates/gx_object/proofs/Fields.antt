@@ -55,7 +55,7 @@ line_lacks x h = not_from_false _ (none x h)
     none [] h = refl
     none (b ∷ x) h = let p = and_parts (not (nat_eq b 10)) _ h in or_from _ _ (not-true _ p.0) (none x p.1)
 
-cut_line : (bytes : Bytes) (p : Bytes × Bytes) → cut_at 10 bytes ≡ Some p → is_line p.0 ≡ true
+pub cut_line : (bytes : Bytes) (p : Bytes × Bytes) → cut_at 10 bytes ≡ Some p → is_line p.0 ≡ true
 unfolding cut_at
 cut_line [] p e = absurd cc
 cut_line (b ∷ bytes) p e = by (nat_eq b 10) refl e (λ q f. cut_line bytes q f)

@@ -8,3 +8,4 @@ pub mod Tags
 pub mod Parts
 pub mod Passing
 pub mod Reading
+pub mod WideBodies

@@ -45,7 +45,7 @@ pub fn encode_commit<A: Allocator + Copy>(
     Ok(body)
 }
 
-fn append_parents<A: Allocator + Copy>(
+pub(crate) fn append_parents<A: Allocator + Copy>(
     body: &mut Vec<u8, A>,
     parents: &[Name],
 ) -> Result<(), AllocError>
@@ -59,7 +59,7 @@ fn append_parents<A: Allocator + Copy>(
 }
 
 /// The length of a parent's line: a word, a space, 40 digits and a line feed.
-const PARENT_LINE: usize = 48;
+pub(crate) const PARENT_LINE: usize = 48;
 
 /// A commit's body, seen as its parts. Its readers take no memory, and each costs the same for every body.
 #[derive(Drop)]
@@ -166,7 +166,7 @@ fn read_commit(body: &[u8]) -> Option<CommitView<'_>>
 }
 
 /// The lines of the parents, and what follows them.
-fn split_parents(bytes: &[u8]) -> (&[u8], &[u8])
+pub(crate) fn split_parents(bytes: &[u8]) -> (&[u8], &[u8])
     ensures lines { result.0.now ≡ parent_lines (parents_of bytes.now).0 }
     ensures names { IsTrue (list_all is_name (parents_of bytes.now).0) }
     ensures rest { result.1.now ≡ (parents_of bytes.now).1 }
@@ -179,7 +179,7 @@ fn split_parents(bytes: &[u8]) -> (&[u8], &[u8])
 }
 
 /// What the line of an encoding has, where there is one, and what follows.
-fn split_encoding(bytes: &[u8]) -> (Option<&[u8]>, &[u8])
+pub(crate) fn split_encoding(bytes: &[u8]) -> (Option<&[u8]>, &[u8])
     ensures text { option_copied result.0 ≡ (encoding_and_rest bytes.now).0 }
     ensures rest { result.1.now ≡ (encoding_and_rest bytes.now).1 }
 {
@@ -202,7 +202,7 @@ fn cut_encoding(bytes: &[u8]) -> Option<(&[u8], &[u8])>
 }
 
 /// The name in the line at a place among lines of parents.
-fn parent_at(lines: &[u8], place: usize) -> Option<Name>
+pub(crate) fn parent_at(lines: &[u8], place: usize) -> Option<Name>
     ensures { FindsParent lines.now place result }
 {
     if place >= lines.len() / PARENT_LINE {

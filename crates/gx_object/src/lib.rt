@@ -2,6 +2,8 @@
 //! What is encoded is the canonical body of its parts, and only canonical bodies are decoded.
 #![tactic(auto)]
 
+mod any_commit;
+mod any_tag;
 mod commit;
 mod earlier_files;
 mod entry;
@@ -11,9 +13,14 @@ mod name;
 mod namer;
 mod order;
 mod tag;
+mod tail;
 mod tree;
 mod tree_reader;
 
+pub use any_commit::{
+    AnyCommit, AnyCommitParts, ParentNames, decode_any_commit, encode_any_commit,
+};
+pub use any_tag::{AnyTag, decode_any_tag, encode_any_tag};
 pub use commit::{CommitParts, CommitView, decode_commit, encode_commit};
 pub use entry::{Entry, append_entry};
 pub use fault::BadObject;

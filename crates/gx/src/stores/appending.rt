@@ -7,7 +7,7 @@ use super::host::Host;
 use super::process::most_bytes_of_a_file;
 use crate::fault::RunFault;
 use crate::looks::file_at::FileAt;
-use crate::looks::{FileLook, row_count};
+use crate::looks::{FileLook, has_room_for_rows, row_count};
 use crate::run::{Run, Subject};
 use gx_additions::{AdditionFault, append_additions, append_objects, append_refs};
 use gx_append::{AppendFault, Device};
@@ -56,8 +56,8 @@ pub(crate) struct InPlace<'a> {
 }
 
 impl<'a> InPlace<'a> {
-    /// Opens a store file that is a growing one: one that this user may write, and that has no other name, which would show the
-    /// change, too.
+    /// Opens a store file that is a growing one, and has room for the rows that it tells: one that this user may write, and that has no
+    /// other name, which would show the change, too.
     pub(super) fn open(host: Host<'a>, place: &Place) -> Option<InPlace<'a>> {
         let mut host = host;
         let file = host.open_to_write(place.store()).ok()?;
@@ -68,6 +68,9 @@ impl<'a> InPlace<'a> {
         }
         let source = FileAt::read_only(host.run, file.try_clone().ok()?);
         let look = Look::open(host.run.rt.alloc(), Sha1Namer, source).ok()?;
+        if !has_room_for_rows(&look) {
+            return None;
+        }
         Some(InPlace {
             host,
             file,

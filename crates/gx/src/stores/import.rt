@@ -1,6 +1,7 @@
 //! Imports into store files.
 
 use super::next_text::NextText;
+use super::push::push_whole;
 use super::small::{Short, import_small};
 use crate::fault::RunFault;
 use crate::run::{Run, Way};
@@ -20,9 +21,10 @@ use std::hash::RandomState;
 /// What an import left, with the lines of the refs that it changed, where they are asked for.
 type Left = Option<(Repo<Sha1Namer, Global>, Vec<u8>)>;
 
-/// What an import is asked for.
+/// What an import is asked for: as a push, where it has lines.
 #[derive(Clone, Copy)]
-pub(super) struct Asks {
+pub(super) struct Asks<'a> {
+    pub(super) lines: Option<&'a [Vec<u8>]>,
     pub(super) features: Features,
     pub(super) report: bool,
     pub(super) state: RandomState,
@@ -48,14 +50,12 @@ pub(crate) fn import(
 ) -> Result<(), RunFault> {
     let mut next = NextText::claim_next(run, file)?;
     let asks = Asks {
+        lines: None,
         features,
         report,
         state,
     };
-    let progress = ProgressLine::new(run);
-    let told = import_told(run, &mut next, &progress, asks);
-    progress.clear();
-    let told = told?;
+    let told = import_told(run, &mut next, asks)?;
     let (form, bytes) = (next.form(), next.size());
     drop(next);
     tell_changes(run, &told.changes);
@@ -69,12 +69,24 @@ pub(crate) fn import(
     Ok(())
 }
 
-/// Imports standard input over a small repository, where that can be done, and else over all of the store file.
-fn import_told(
+/// Imports standard input over a small repository, where that can be done, and else over all of the store file, and shows how far it is.
+pub(super) fn import_told(
+    run: &Run<'_>,
+    next: &mut NextText<'_>,
+    asks: Asks<'_>,
+) -> Result<Told, RunFault> {
+    let progress = ProgressLine::new(run);
+    let told = import_in_way(run, next, &progress, asks);
+    progress.clear();
+    told
+}
+
+/// Does so in one way, where that is asked for.
+fn import_in_way(
     run: &Run<'_>,
     next: &mut NextText<'_>,
     progress: &ProgressLine<'_>,
-    asks: Asks,
+    asks: Asks<'_>,
 ) -> Result<Told, RunFault> {
     let input = Noted::input(run).shown_by(progress);
     let mut stream = Kept::new(run.rt.alloc(), input);
@@ -89,18 +101,22 @@ fn import_told(
         Short::Not { .. } if way == Some(Way::Small) => Err(RunFault::NotSmall),
         Short::Not { sent } => {
             stream.read_again();
-            import_whole(run, next, &mut stream, Beside::behind(progress, sent), asks)
+            let output = Beside::behind(progress, sent);
+            match asks.lines {
+                None => import_whole(run, next, &mut stream, output, asks),
+                Some(lines) => push_whole(run, next, &mut stream, output, lines, asks),
+            }
         }
     }
 }
 
-/// Imports a stream over all of a store file, and shows how far it is.
+/// Imports a stream over all of a store file.
 fn import_whole(
     run: &Run<'_>,
     next: &mut NextText<'_>,
     stream: &mut Kept<'_>,
     output: Beside<'_>,
-    asks: Asks,
+    asks: Asks<'_>,
 ) -> Result<Told, RunFault> {
     let repo = next.read_repo(asks.state)?;
     stream.tell_typed(run);
@@ -128,7 +144,7 @@ fn imported(
     repo: Repo<Sha1Namer, Global>,
     input: &mut Traced<&mut Kept<'_>>,
     output: Beside<'_>,
-    asks: Asks,
+    asks: Asks<'_>,
     told: &mut Explanation<Global>,
 ) -> (Left, Result<ImportReport, CliFault>) {
     let alloc = run.rt.alloc();

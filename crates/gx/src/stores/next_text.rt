@@ -6,7 +6,7 @@ use super::differing::Differing;
 use super::host::Host;
 use crate::fault::RunFault;
 use crate::looks::file_at::FileAt;
-use crate::looks::{FileLook, growing_at, plain_at, row_count};
+use crate::looks::{FileLook, growing_at, has_room_for_rows, plain_at};
 use crate::run::{Run, Subject};
 use crate::stores::files::open_text;
 use crate::streams::devices::{Noted, flushed};
@@ -22,9 +22,6 @@ use std::io::{BufWriter, Write};
 
 /// So many bytes are written at once.
 const BUFFER: usize = 1 << 16;
-
-/// So many bytes a row of a run has.
-const BYTES_OF_ROW: u64 = 28;
 
 /// The next text of a store file, in a run that tells why it couldn't be written. It has the form of the text that was read, unless
 /// another one is asked for.
@@ -181,7 +178,7 @@ impl<'a> NextText<'a> {
             return Ok(None);
         };
         let look = Look::open(run.rt.alloc(), Sha1Namer, source)?;
-        let has_room = row_count(&look) <= look.ending().ends / BYTES_OF_ROW;
+        let has_room = has_room_for_rows(&look);
         Ok(has_room.then_some(look))
     }
 
@@ -199,7 +196,7 @@ impl<'a> NextText<'a> {
         let stamp = self.stamp()?;
         let store = self.open_store(stamp)?;
         let gone = write_kept(self.host.run, &mut self.text, store, look, kept, state)?;
-        if self.is_written()? {
+        if gone.objects > 0 || self.is_written()? {
             self.put_in_place()?;
         } else if !settle(self.host, self.text.place(), stamp)? {
             return Err(changed(self.host.run));

@@ -1,17 +1,17 @@
 //! Pushes into a store file.
 
+use super::import::{Asks, Told, import_told};
 use super::next_text::NextText;
 use super::told_lines;
 use crate::fault::RunFault;
 use crate::run::Run;
 use crate::streams::explanation::explained;
-use crate::streams::progress::{Beside, ProgressLine};
-use crate::streams::reports::{tell_changes, tell_import, tell_nameless, tell_typed_stream};
+use crate::streams::kept::Kept;
+use crate::streams::progress::Beside;
+use crate::streams::reports::{tell_changes, tell_import, tell_nameless};
 use crate::streams::traced::Traced;
-use gx_cli::{CliFault, Explanation, Pushed, Repo, push_opened, refused_text};
-use gx_object::Sha1Namer;
+use gx_cli::{CliFault, Explanation, Features, Pushed, push_opened, refused_text};
 use gx_text::{FromRead, IntoWrite};
-use std::alloc::Global;
 use std::hash::RandomState;
 
 /// Imports standard input into a store file as a push, whose lines are in the file `told`. They are read once the store file is claimed,
@@ -27,43 +27,56 @@ pub(crate) fn push(
 ) -> Result<(), RunFault> {
     let mut next = NextText::claim_next(run, file)?;
     let lines = told_lines(run, told)?;
-    let repo = next.read_repo(state)?;
-    tell_typed_stream(run);
-    let (pushed, nameless) = push_shown(run, repo, lines.as_slice(), done, report);
-    if let Err(CliFault::Push { number, .. }) = &pushed {
-        explain_line(run, &mut next, lines.as_slice(), *number, state);
-    }
-    let pushed = pushed?;
-    next.publish_added(&pushed.repo)?;
+    let asks = Asks {
+        lines: Some(lines.as_slice()),
+        features: Features { done, force: true },
+        report,
+        state,
+    };
+    let told = import_told(run, &mut next, asks)?;
     drop(next);
     if report {
-        tell_changes(run, &pushed.changes);
+        tell_changes(run, &told.changes);
     }
-    tell_import(run, &pushed.report, report);
+    tell_import(run, &told.answer?, report);
     if report {
-        tell_nameless(run, nameless);
+        tell_nameless(run, told.nameless);
     }
     Ok(())
 }
 
-/// Pushes standard input, and shows how far it is. Where a report is asked for, identities without a name are counted.
-fn push_shown(
+/// Imports a stream over all of a store file as a push.
+pub(super) fn push_whole(
     run: &Run<'_>,
-    repo: Repo<Sha1Namer, Global>,
+    next: &mut NextText<'_>,
+    stream: &mut Kept<'_>,
+    output: Beside<'_>,
     lines: &[Vec<u8>],
-    done: bool,
-    report: bool,
-) -> (Result<Pushed<Sha1Namer, Global>, CliFault>, u64) {
+    asks: Asks<'_>,
+) -> Result<Told, RunFault> {
     let alloc = run.rt.alloc();
-    let progress = ProgressLine::new(run);
-    let mut input = Traced::input(run, &progress, report);
+    let repo = next.read_repo(asks.state)?;
+    stream.tell_typed(run);
+    let mut input = Traced::new(run, &mut *stream, asks.report);
     let mut told = Explanation::none();
-    let mut sink = IntoWrite::new(Beside::new(&progress));
-    let source = FromRead::new(&mut input);
+    let (source, mut sink) = (FromRead::new(&mut input), IntoWrite::new(output));
+    let done = asks.features.done;
     let pushed = push_opened(alloc, repo, lines, source, &mut sink, done, &mut told);
-    progress.clear();
-    let nameless = input.trail().map_or(0, |trail| trail.nameless());
-    (explained(run, input.trail(), pushed, &told), nameless)
+    let pushed = explained(run, input.trail(), pushed, &told);
+    if let Err(CliFault::Push { number, .. }) = &pushed {
+        explain_line(run, next, lines, *number, asks.state);
+    }
+    let Pushed {
+        repo,
+        changes,
+        report,
+    } = pushed?;
+    next.publish_added(&repo)?;
+    Ok(Told {
+        changes,
+        answer: Ok(report),
+        nameless: input.trail().map_or(0, |trail| trail.nameless()),
+    })
 }
 
 /// Keeps the line that tells what a refused line is about, should that be told. The store file, which no one has changed, is read

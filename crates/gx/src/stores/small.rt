@@ -1,4 +1,4 @@
-//! Imports over small repositories: of a growing store file no more is read than what the texts of a stream ask for.
+//! Imports and pushes over small repositories: of a growing store file no more is read than what the texts of a stream ask for.
 
 use super::appending::InPlace;
 use super::before::body_bytes;
@@ -10,6 +10,7 @@ use crate::run::Run;
 use crate::streams::kept::Kept;
 use crate::streams::progress::{Beside, ProgressLine};
 use gx_growing_import::{Imported, import_over};
+use gx_growing_push::{look_at_lines, push_over};
 use gx_object::Sha1Namer;
 use gx_objects::{LookFault, Objects};
 use gx_ref_lines::RefLines;
@@ -28,17 +29,23 @@ pub(super) enum Short {
 /// What an import gives a store file.
 type New = Imported<Sha1Namer, Global>;
 
-/// Imports a stream over a small repository of a growing store file, where that can be done, and appends what is new.
+/// Imports a stream over a small repository of a growing store file, where that can be done, and appends what is new. Where these are
+/// the lines of a push, no ref changes but as they have it; they are looked at before the stream is read.
 pub(super) fn import_small(
     run: &Run<'_>,
     next: &NextText<'_>,
     stream: &mut Kept<'_>,
     progress: &ProgressLine<'_>,
-    asks: Asks,
+    asks: Asks<'_>,
 ) -> Result<Short, RunFault> {
     let Some(opened) = next.open_in_place() else {
         return Ok(Short::Not { sent: 0 });
     };
+    if let Some(lines) = asks.lines {
+        if look_at_lines(run.rt.alloc(), &opened.look, lines).is_err() {
+            return Ok(Short::Not { sent: 0 });
+        }
+    }
     stream.tell_typed(run);
     let most = opened.size();
     let Some(nameless) = stream.read_commands(run, asks.features, asks.report, most) else {
@@ -65,16 +72,27 @@ pub(super) fn import_small(
 
 /// What a stream gives a store file, where that is told by a small repository. What outweighs the file isn't: a whole text takes its
 /// place then.
-fn new_of(run: &Run<'_>, opened: &InPlace<'_>, stream: &Kept<'_>, asks: Asks) -> Option<New> {
-    let (alloc, look, front) = (run.rt.alloc(), &opened.look, stream.front());
+fn new_of(run: &Run<'_>, opened: &InPlace<'_>, stream: &Kept<'_>, asks: Asks<'_>) -> Option<New> {
+    let front = stream.front();
     if opened.is_outweighed_by(front.len() as u64) {
         return None;
     }
-    let (features, state) = (asks.features, asks.state);
-    let imported = import_over(alloc, Sha1Namer, look, front, false, features, state);
-    let new = imported.ok()?;
+    let new = imported(run, opened, front, asks)?;
     let bytes = body_bytes(&new.objects, 0);
     (!opened.is_outweighed_by(bytes)).then_some(new)
+}
+
+/// What a stream gives a store file by an import, or by a push.
+fn imported(run: &Run<'_>, opened: &InPlace<'_>, stream: &[u8], asks: Asks<'_>) -> Option<New> {
+    let (alloc, look) = (run.rt.alloc(), &opened.look);
+    let (features, state) = (asks.features, asks.state);
+    match asks.lines {
+        None => import_over(alloc, Sha1Namer, look, stream, false, features, state).ok(),
+        Some(lines) => {
+            let done = features.done;
+            push_over(alloc, Sha1Namer, look, lines, stream, false, done, state).ok()
+        }
+    }
 }
 
 /// Appends what is new to a store file, which stays as it is where nothing is. Answers the lines of the refs that changed, where they

@@ -1,0 +1,3 @@
+pub mod KeptRefs
+pub mod LeftPushes
+pub mod WholePushes

@@ -1,0 +1,3 @@
+pub mod Pushing
+pub mod Settling
+pub mod Wanting

@@ -24,7 +24,7 @@ use Rattle.gx_plain.proofs.AddedRecords.{of_told}
 -- ---- places
 
 -- where records end that stand one behind the other
-ends_from : Version → ℕ → List Record → ℕ
+abbrev pub ends_from : Version → ℕ → List Record → ℕ
 ends_from v place [] = place
 ends_from v place (r ∷ rs) = ends_from v (place + length (stored_record v r)) rs
 
@@ -54,7 +54,7 @@ module _ (name : Kind → Bytes → Bytes) (text : Bytes) (start : Start) where
     pub stand : AreStored name start.version text listed rs
 
   pub none_read : AreRead 0 start.place [] []
-  none_read = record { so = refl; ends = refl; places = refl; stand = tt }
+  none_read = record { so = (let e : start.count ≡ start.count - 0 = omega arith in ap (λ n. next_records name start.version n [] (drop start.place text)) e); ends = refl; places = refl; stand = tt }
 
   module _ (i place : ℕ) (listed : List Listed) (rs : List Record) (far : AreRead i place listed rs) where
     pub one_more : (held : Record) (behind : ℕ) (one : Listed) (new : List Listed) → i < start.count → new ≡ listed ++ one ∷ [] → one.1.place ≡ place → IsNext name start.version text rs place held behind

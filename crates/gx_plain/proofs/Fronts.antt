@@ -1,13 +1,17 @@
 -- Lines and bodies of a text that are read in a front of it.
-use Rattle.std.proofs.Common.{◌≡◌, ℕ, suc, ◌+◌, ◌-◌, ◌<◌, ◌≤◌, eqb, Bool, true, false, [], ◌∷◌, ◌++◌, append_assoc, length, replicate, take, drop, Option, Some, None, Ok, Err, refl, sym, ap, ◌∙◌, subst, arith}
+use Rattle.std.proofs.Common.{◌≡◌, ℕ, suc, ◌+◌, ◌-◌, ◌<◌, ◌≤◌, eqb, Bool, true, false, [], ◌∷◌, ◌++◌, append_assoc, append-nil, length, replicate, take, drop, Option, Some, None, Result, Ok, Err, refl, sym, ap, ◌∙◌, subst, arith}
 use Rattle.std.proofs.Math.Seq.{take-append-add}
 use Rattle.std.proofs.lemmas.List.{length-append, length-drop, length-take, length-take-le, take-append-drop, take_all}
+use Rattle.gx_model.specs.declared.store_faults.FileFault.{FileFault}
 use Rattle.gx_model.specs.declared.store_faults.FileFault.TheVariants as fault
+use Rattle.gx_model.specs.Faults.{NeedsNoMemory}
 use Rattle.gx_model.specs.Texts.{Bytes, cut_at, lacks}
 use Rattle.gx_model.specs.Stores.StoreReading.{Stored, stored_body, stored_line}
 use Rattle.gx_model.proofs.Stores.StoreTexts.{body_of, body_read, if_there, line_read}
 use Rattle.gx_model.proofs.Texts.Cuts.{cut_spelled, map_some, some_is}
 use Rattle.gx_at.specs.Reads.{ReadsAt, StandsAt, part}
+use Rattle.gx_lines.specs.Reads.{Reads}
+use Rattle.gx_file.proofs.Steps.{explained}
 use Rattle.gx_look.proofs.ReadOn.{both_stand, grown_room}
 use Rattle.gx_plain.specs.Reading.{IsFrontAt, IsRefused}
 
@@ -50,6 +54,12 @@ module _ (told : Option Bytes) (at : ℕ) (old made whole new post behind : Byte
       let b = length-take-le came new (omega arith) in
       omega arith
 
+  -- where nothing came, the text ends
+  pub came_short : (count : ℕ) → done ≤ count → StandsAt told at old → ReadsAt told (at + done) new (Ok came) → came ≡ 0 → IsFrontAt told at count (take (done + came) (take size ((take done whole ++ (new ++ post)) ++ behind)))
+  came_short count h f r none =
+      let room = came_room ∙ ap (λ n. old ++ take n new) none ∙ append-nil old in
+      subst (IsFrontAt told at count) (sym room) (front_short told at count came old new f (omega (arith, h, d)) (subst (λ n. ReadsAt told (at + n) new (Ok came)) d r) none)
+
   pub came_long : came ≤ more → length (take (done + came) (take size ((take done whole ++ (new ++ post)) ++ behind))) ≡ done + came
   came_long c =
       let a = ap length came_room ∙ length-append old (take came new) in
@@ -66,6 +76,11 @@ module _ (told : Option Bytes) (at : ℕ) (old made whole new post behind : Byte
 pub refused_unless : {Y : Type 0} (given : Stored Y) → ((y : Y) → given ≡ Ok y → ⊥) → IsRefused given
 refused_unless (Ok y) h = absurd (h y refl)
 refused_unless (Err why) h = (why, refl)
+
+-- what a reader refuses, the definition does
+pub refuses : {X Y : Type 0} (view : X → Y) (result : Result X FileFault) (given : Stored Y) (why : FileFault) → Reads view result given → NeedsNoMemory fault.OutOfMemory result → result ≡ Err why → given ≡ Err why
+refuses view (Ok x) given why r m e = absurd (cc)
+refuses view (Err f) given why r m e = let same : f ≡ why = cc in subst (λ k. given ≡ Err k) same (explained f given m r)
 
 -- ---- lines
 

@@ -15,5 +15,6 @@ pub mod StartLines
 pub mod TailsOfRefs
 pub mod TestedRefs
 pub mod ToldParts
+pub mod ToldStarts
 pub mod ToldTails
 pub mod WholeTexts

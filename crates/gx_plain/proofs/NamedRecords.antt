@@ -2,18 +2,18 @@
 use Rattle.std.proofs.Common.{◌≡◌, Bool, ◌≢◌, ℕ, length, Option, Some, None, Result, Ok, Err, refl, sym, ap, subst, ◌∙◌}
 use Rattle.gx_model.specs.declared.objects.Kind.{Kind}
 use Rattle.gx_model.specs.declared.store_versions.Version.{Version}
-use Rattle.gx_model.specs.Texts.{Bytes, same_bytes}
-use Rattle.gx_model.specs.Texts.RefNames.{tag_ref}
-use Rattle.gx_model.specs.Objects.{IsTagText, TagParts}
-use Rattle.gx_model.proofs.ObjectTexts.BodiesReadBack.{tag_read}
-use Rattle.gx_repo.specs.Refs.{TellsOwnRef}
-use Rattle.gx_plain.specs.Refs.{TellsTag}
+use Rattle.gx_model.specs.declared.objects.Kind.TheVariants as kinds
+use Rattle.gx_model.specs.Texts.{Bytes}
 use Rattle.gx_model.specs.Histories.{Record}
+use Rattle.gx_model.specs.Objects.{IsTagText}
+use Rattle.gx_model.specs.Stores.StoreReading.{is_target_of_kind}
 use Rattle.gx_model.proofs.Stores.StoreTexts.{ok_is}
+use Rattle.gx_repo.specs.Refs.{HasTagParts}
 use Rattle.gx_look.specs.Reading.{Gives}
 use Rattle.gx_objects.specs.declared.fault.LookFault.{LookFault}
 use Rattle.gx_objects.specs.declared.fault.LookFault.TheVariants.{Damaged}
 use Rattle.gx_plain.specs.Records.{IsStoredAt, Parts, ReadsParts, TellsRecord, body_in, shown_parts}
+use Rattle.gx_plain.specs.Refs.{TellsTag}
 use Rattle.gx_plain.specs.declared.records.Found.{Found}
 
 -- what is told of a record is told of each text that is
@@ -28,7 +28,7 @@ module _ (name : Kind → Bytes → Bytes) (v : Version) (told : Option Bytes) (
   unrefused why h = λ same. let r = subst (λ t. ReadsParts v t at room (Err why)) is h same in let clash = sym here.parts ∙ r.1 in cc clash
 
   module _ (found : Found) (read : ReadsParts v told at room (Ok found)) where
-    given : Parts
+    abbrev given : Parts
     given = ((held.kind, (length held.body, here.stated)), (held.body, here.rest))
 
     same : shown_parts text at room found ≡ given
@@ -49,8 +49,8 @@ tag_unread name v (Some text) at called ref room why h = λ held here parts t. h
 
 -- the tag that is read tells whether its own name makes a ref's
 pub tag_told : (name : Kind → Bytes → Bytes) (v : Version) (told : Option Bytes) (at : ℕ) (called ref room : Bytes) (found : Found) (answer : Bool) → TellsRecord name v told at called room (Ok found)
-    → TellsOwnRef ref (body_in room found) answer → TellsTag name v told at called ref (Ok answer)
+    → (HasTagParts kinds.Tag (body_in room found) → answer ≡ is_target_of_kind ref kinds.Tag (body_in room found)) → TellsTag name v told at called ref (Ok answer)
 tag_told name v None at called ref room found answer h o = tt
 tag_told name v (Some text) at called ref room found answer h o = λ held here parts t.
     let same = (h held here).1 in
-    o parts (subst (IsTagText parts) (sym same) t) ∙ ap (λ (q : TagParts). same_bytes ref (tag_ref q.name)) (sym (tag_read parts held.body t))
+    o (λ k. (parts, subst (IsTagText parts) (sym same) t)) ∙ ap (is_target_of_kind ref kinds.Tag) same

@@ -72,7 +72,7 @@ module _ (rs : List Record) where
       pub so : next_refs count rs None lines ≡ put_before far (next_refs (count - i) rs last rest)
 
     pub none_far : AreFar 0 None lines
-    none_far = record { far = []; so = put_none (next_refs count rs None lines) }
+    none_far = record { far = []; so = (let e : count ≡ count - 0 = omega arith in put_none (next_refs count rs None lines) ∙ ap (λ n. put_before [] (next_refs n rs None lines)) e) }
 
     module _ (i : ℕ) (last : Option Bytes) (rest : Bytes) (a : AreFar i last rest) where
       next_of : i < count → next_refs count rs None lines ≡ put_before a.far (next_ref rs last rest >>= λ x. next_refs (count - (i + 1)) rs (Some x.0.0) x.1 >>= λ xs. Ok (x.0 ∷ xs.0, xs.1))

@@ -76,6 +76,15 @@ zip_at R (a ∷ xs) [] i x y h e f = absurd h
 zip_at R (a ∷ xs) (b ∷ ys) zero x y h e f = let p : a ≡ x = cc in let q : b ≡ y = cc in subst (R x) q (subst (λ z. R z b) p h.0)
 zip_at R (a ∷ xs) (b ∷ ys) (suc i) x y h e f = zip_at R xs ys i x y h.1 e f
 
+-- what stands nowhere is none of the records
+pub unplaced : (told : Option Records) (stands : ℕ → ℕ) (n : Bytes) → IfSome told (λ r. StandsThere stands n r None) → IfSome told (λ r. None ≡ option_map object_of (record_named r.records n))
+unplaced None stands n h = tt
+unplaced (Some r) stands n h = by (place_named r.records n) refl h
+  where
+    by : (o : Option ℕ) → place_named r.records n ≡ o → None ≡ option_map stands o → None ≡ option_map object_of (record_named r.records n)
+    by None e f = sym (ap (option_map object_of) (no_record_named r.records n (no_place r.records n e)))
+    by (Some i) e f = absurd (cc)
+
 -- ---- what is told
 
 module _ (name : Kind → Bytes → Bytes) where

@@ -1,5 +1,5 @@
 -- Whether refs may hold objects that are listed of a plain text.
-use Rattle.std.proofs.Common.{◌≡◌, ℕ, true, false, Bool, List, slice_get, take, get_or, Some, None, sym, ap, ◌∙◌, subst}
+use Rattle.std.proofs.Common.{◌≡◌, ℕ, true, false, Bool, List, slice_get, take, get_or, Option, Some, None, Result, Ok, Err, refl, sym, ap, ◌∙◌, subst}
 use Rattle.std.specs.Bool.{passes}
 use Rattle.std.proofs.lemmas.Option.{slice_get-get_or}
 use Rattle.gx_model.specs.declared.objects.Kind.{Kind}
@@ -14,12 +14,15 @@ use Rattle.gx_model.specs.Records.HistoryOf.{tag_parts_in}
 use Rattle.gx_model.specs.Records.Sound.{IsLinked}
 use Rattle.gx_model.specs.Stores.StoreReading.{is_target, is_target_of_kind}
 use Rattle.gx_model.proofs.Texts.PathTests.{same_is}
+use Rattle.gx_repo.specs.declared.publishing.RefChange.{RefChange}
 use Rattle.gx_repo.proofs.Places.{is_place, no_place, no_record, no_record_named, record_at_place}
 use Rattle.gx_repo.proofs.RecordRooms.{linked_at}
 use Rattle.gx_listed.specs.Listings.{Head, Listed, number_named}
 use Rattle.gx_kept.proofs.ListedRecords.{number_is, record_listed}
+use Rattle.gx_look.specs.Reading.{Gives}
+use Rattle.gx_objects.specs.declared.fault.LookFault.{LookFault}
 use Rattle.gx_plain.specs.Records.{IsStoredAt}
-use Rattle.gx_plain.specs.Refs.{AreTold}
+use Rattle.gx_plain.specs.Refs.{AreTold, TellsTag, TellsTarget}
 use Rattle.gx_plain.proofs.PlainTexts.{zip_at}
 
 module _ (name : Kind → Bytes → Bytes) (v : Version) (text : Bytes) (listed : List Listed) (rs : List Record) (h : AreTold name v text listed rs) (ref n : Bytes) where
@@ -69,7 +72,32 @@ module _ (name : Kind → Bytes → Bytes) (v : Version) (text : Bytes) (listed 
     pub tag_text : one.1.kind ≡ kinds.Tag → (p : TagParts) × IsTagText p t.held.body
     tag_text e =
         let linked = subst (λ k. IsLinked (take t.number rs) k t.held.body) (sym t.kind ∙ e) (linked_at name rs t.number t.held h.sound t.at) in
-        (linked.0, linked.1.0)
+        (linked.0, linked.1)
 
     pub tag_target : one.1.kind ≡ kinds.Tag → (answer : Bool) → answer ≡ same_bytes ref (tag_ref (tag_parts_in t.held.body).name) → answer ≡ is_target ref (record_named rs n)
     tag_target e answer a = a ∙ sym (target_is kinds.Tag e)
+
+-- ---- of what tells a text
+
+-- what is told of each text is told
+pub each_target : (name : Kind → Bytes → Bytes) (v : Version) (told : Option Bytes) (listed : List Listed) (change : RefChange) (result : Result Bool LookFault)
+    → ((text : Bytes) → told ≡ Some text → (rs : List Record) → AreTold name v text listed rs → Gives (λ may. may ≡ is_target change.name.now (record_named rs change.target.bytes)) result)
+    → TellsTarget name v told listed change result
+each_target name v None listed change result h = tt
+each_target name v (Some text) listed change result h = h text refl
+
+gives_more : {X : Type 0} (P Q : X → Type 0) (result : Result X LookFault) → ((x : X) → P x → Q x) → Gives P result → Gives Q result
+gives_more P Q (Ok x) f h = f x h
+gives_more P Q (Err why) f h = h
+
+-- a tag that is read tells whether a ref may hold it
+pub tag_tells : (name : Kind → Bytes → Bytes) (v : Version) (told : Option Bytes) (listed : List Listed) (change : RefChange) (i : ℕ) (one : Listed)
+    → Some i ≡ number_named listed change.target.bytes → slice_get listed i ≡ Some one → one.1.kind ≡ kinds.Tag
+    → (result : Result Bool LookFault) → TellsTag name v told one.1.place change.target.bytes change.name.now result → TellsTarget name v told listed change result
+tag_tells name v None listed change i one e at k result h = tt
+tag_tells name v (Some text) listed change i one e at k result h = λ rs told.
+    let t = target_of name v text listed rs told change.name.now change.target.bytes i one e at in
+    let p = tag_text name v text listed rs told change.name.now change.target.bytes one t k in
+    gives_more (λ own. own ≡ same_bytes change.name.now (tag_ref (tag_parts_in t.held.body).name)) (λ may. may ≡ is_target change.name.now (record_named rs change.target.bytes)) result
+    (tag_target name v text listed rs told change.name.now change.target.bytes one t k)
+    (h t.held t.stored p.0 p.1)

@@ -1,17 +1,19 @@
 -- The refs of a plain text that are tested so far, and what comes of them.
-use Rattle.std.proofs.Common.{◌≡◌, ◌≢◌, ℕ, ◌+◌, ◌<◌, ◌≤◌, List, [], ◌∷◌, ◌++◌, codes, Option, Some, None, Ok, Err, refl, ap, ◌∙◌}
+use Rattle.std.proofs.Common.{◌≡◌, ◌≢◌, ℕ, ◌+◌, ◌<◌, ◌≤◌, Bool, List, [], ◌∷◌, ◌++◌, codes, Option, Some, None, Ok, Err, refl, ap, ◌∙◌, subst}
 use Rattle.std.specs.Prelude.{IfSome}
 use Rattle.gx_model.specs.declared.objects.Kind.{Kind}
 use Rattle.gx_model.specs.declared.store_versions.Version.{Version}
 use Rattle.gx_model.specs.Texts.{Bytes}
 use Rattle.gx_model.specs.Histories.{Record}
 use Rattle.gx_model.specs.Records.Publishing.{Ref}
-use Rattle.gx_model.specs.Stores.StoreReading.{next_ref, next_refs}
+use Rattle.gx_model.specs.Records.Growth.{record_named}
+use Rattle.gx_model.specs.Stores.StoreReading.{is_target, next_ref, next_refs}
 use Rattle.gx_listed.specs.Listings.{Listed}
 use Rattle.gx_objects.specs.declared.fault.LookFault.{LookFault}
 use Rattle.gx_objects.specs.declared.fault.LookFault.TheVariants.{Damaged}
 use Rattle.gx_plain.specs.Reading.{IsRefused}
-use Rattle.gx_plain.specs.Refs.{AreTold, TestsTargets}
+use Rattle.gx_repo.specs.declared.publishing.RefChange.{RefChange}
+use Rattle.gx_plain.specs.Refs.{AreTold, TellsTarget, TestsTargets}
 use Rattle.gx_plain.proofs.NextRefs.{AreFar, all_far, no_end, none_far, one_far, refused_far, refused_then}
 
 module _ (name : Kind → Bytes → Bytes) (v : Version) (told : Option Bytes) (listed : List Listed) (count : ℕ) (lines : Bytes) where
@@ -36,6 +38,19 @@ module _ (name : Kind → Bytes → Bytes) (v : Version) (told : Option Bytes) (
       by : (o : Option Bytes) → TestsTargets name v o listed count lines (Err why)
       by None = tt
       by (Some text) = λ rs h same. absurd (other same)
+
+  -- what isn't told of one ref isn't of all
+  pub untold_tested : (change : RefChange) (why : LookFault) → TellsTarget name v told listed change (Err why) → TestsTargets name v told listed count lines (Err why)
+  untold_tested change why h = by told h
+    where
+      by : (o : Option Bytes) → TellsTarget name v o listed change (Err why) → TestsTargets name v o listed count lines (Err why)
+      by None k = tt
+      by (Some text) k = λ rs held same. absurd (k rs held same)
+
+  -- whether a ref may hold its object is told of each text that is
+  pub told_target : (change : RefChange) (may : Bool) → TellsTarget name v told listed change (Ok may)
+      → (text : Bytes) → told ≡ Some text → (rs : List Record) → AreTold name v text listed rs → may ≡ is_target change.name.now (record_named rs change.target.bytes)
+  told_target change may h text is rs held = (subst (λ o. TellsTarget name v o listed change (Ok may)) is h) rs held
 
   module _ (i : ℕ) (last : Option Bytes) (rest : Bytes) (far : FarIfTold i last rest) where
     pub refused_tested : i < count → ((text : Bytes) → told ≡ Some text → (rs : List Record) → AreTold name v text listed rs → IsRefused (next_ref rs last rest)) → TestsTargets name v told listed count lines (Err Damaged)

@@ -16,6 +16,16 @@ use Rattle.gx_plain.specs.declared.heading.Heading.{Heading}
 use Rattle.gx_plain.specs.declared.records.Found.{Found}
 use Rattle.gx_plain.proofs.PartsOfRecords.{body_there, ends_before, no_body, no_heading, no_line}
 
+-- what follows a line is a part of what was read
+pub line_fits : (first : Bytes) (l : Bytes × Bytes) → stored_line first ≡ Ok l → length l.1 < length first
+line_fits first l e = let long = ap length (line_of first l e) ∙ length-append l.0 (10 ∷ l.1) in omega arith
+
+-- a room has the bytes from a place on, and more than stand before an end
+pub record HasFront (told : Option Bytes) (at end : ℕ) (room : Bytes) : Type 0 where
+  pub count : ℕ
+  pub front : IsFrontAt told at count room
+  pub enough : end < length room
+
 -- other faults tell nothing of the text
 pub unknown_parts : (v : Version) (told : Option Bytes) (at : ℕ) (room : Bytes) (why : LookFault) → (why ≡ Damaged → ⊥) → ReadsParts v told at room (Err why)
 unknown_parts v None at room why h = tt

@@ -122,10 +122,10 @@ module _ (name : Kind → Bytes → Bytes) where
   records_untold None start why f h same = refl
   records_untold (Some text) start why f h same = untold text (no_records text start f why h same)
 
-  pub tail_untold : {A : Type 0} (told : Option Bytes) (start : Start) (listed : List Listed) (place : ℕ) (why : LookFault) → ReadsStart told (Ok start) → ListsAllNext name told start (Ok (listed, place))
-      → ReadsTail {A = A} name start.version told listed place (Err why) → why ≡ Damaged → told_by name told ≡ None
-  tail_untold None start listed place why f a h same = refl
-  tail_untold (Some text) start listed place why f a h same = untold text (no_refs text start f listed place a.0 a.1 why (h a.0 (told_so text start f listed place a.0 a.1)) same)
+  pub tail_untold : (A : Type 0) (told : Option Bytes) (start : Start) (listed : List Listed) (place : ℕ) (why : LookFault) → ReadsStart told (Ok start) → ListsAllNext name told start (Ok (listed, place))
+      → ReadsTail name start.version {A = A} told listed place (Err why) → why ≡ Damaged → told_by name told ≡ None
+  tail_untold A None start listed place why f a h same = refl
+  tail_untold A (Some text) start listed place why f a h same = untold text (no_refs text start f listed place a.0 a.1 why (h a.0 (told_so text start f listed place a.0 a.1)) same)
 
   pub read_whole : {A : Type 0} (told : Option Bytes) (start : Start) (listed : List Listed) (place : ℕ) (tail : Tail A) → ReadsStart told (Ok start) → ListsAllNext name told start (Ok (listed, place))
       → ReadsTail name start.version told listed place (Ok tail) → IsReadIfTold name told start.version listed tail
@@ -136,4 +136,4 @@ module _ (name : Kind → Bytes → Bytes) where
 
   pub read_ok : {A : Type 0} (told : Option Bytes) (v : Version) (listed : List Listed) (tail : Tail A) → IsReadIfTold name told v listed tail → IfSome told (λ text. IsOk (store_of name text))
   read_ok None v listed tail w = tt
-  read_ok (Some text) v listed tail w = subst IsOk (sym w.read) tt
+  read_ok (Some text) v listed tail w = subst IsOk (sym w.read) refl

@@ -51,14 +51,14 @@ fn tree_room<A: Allocator + Copy>(
                 let room = entry_room(listing, rooms, &entry)?;
                 widest = usize::max(widest, room);
             }
-            Ok(None) => break,
+            Ok(None) => {
+                if widest > MOST_ROOM {
+                    return None;
+                }
+                return Some(widest);
+            }
             Err(BadObject) => return None,
         }
-    }
-    if widest > MOST_ROOM {
-        None
-    } else {
-        Some(widest)
     }
 }
 

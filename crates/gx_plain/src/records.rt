@@ -58,9 +58,9 @@ pub(crate) fn read_parts<S: ReadAt, A: Allocator + Copy>(
             return Err(LookFault::Damaged);
         }
     }
-    if read_body(heading.length, &room.as_slice()[start..]).is_err() {
+    let Ok((_body, _rest)) = read_body(heading.length, &room.as_slice()[start..]) else {
         return Err(LookFault::Damaged);
-    }
+    };
     Ok(Found {
         kind: heading.kind,
         stated: heading.stated,

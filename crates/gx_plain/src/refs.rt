@@ -1,20 +1,19 @@
 //! The refs behind the records of a plain text. Source: this project's own format, and git-check-ref-format(1).
 
 ghost use Rattle.std.specs.Prelude.{IfOk};
-ghost use Rattle.gx_repo.specs.Refs.{TellsOwnRef};
 ghost use Rattle.gx_plain.specs.Refs.{HoldsLines, ReadsTail, TellsTag, TellsTarget, TestsTargets};
 
 use crate::fill::read_front;
 use crate::records::read_named;
-use gx_look::are_refs;
 use gx_at::ReadAt;
 use gx_file::{is_after, read_ref};
 use gx_lines::read_count;
 use gx_listed::Listing;
+use gx_look::are_refs;
 use gx_model::Version;
-use gx_object::{Kind, Name, Namer, decode_tag};
+use gx_object::{Kind, Name, Namer};
 use gx_objects::LookFault;
-use gx_repo::RefChange;
+use gx_repo::{RefChange, is_target};
 use std::alloc::Allocator;
 
 /// What stands behind the records of a text, and where the lines of its refs begin in it.
@@ -77,7 +76,7 @@ fn test_targets<S: ReadAt, N: Namer, A: Allocator + Copy>(
         let Ok((change, behind)) = read_ref(rest) else {
             return Err(LookFault::Damaged);
         };
-        if !is_target(source, namer, version, listing, &change, &mut room)? {
+        if !may_hold(source, namer, version, listing, &change, &mut room)? {
             return Err(LookFault::Damaged);
         }
         if !is_after(last, change.name) {
@@ -94,7 +93,7 @@ fn test_targets<S: ReadAt, N: Namer, A: Allocator + Copy>(
 }
 
 /// Whether a ref may hold its object: a commit, or a tag whose own name makes the ref's.
-fn is_target<S: ReadAt, N: Namer, A: Allocator + Copy>(
+fn may_hold<S: ReadAt, N: Namer, A: Allocator + Copy>(
     source: &S,
     namer: &N,
     version: Version,
@@ -108,7 +107,7 @@ fn is_target<S: ReadAt, N: Namer, A: Allocator + Copy>(
     let Some(number) = listing.number(&change.target) else {
         return Ok(false);
     };
-    let Some((name, standing)) = listing.get(number) else {
+    let Some((_name, standing)) = listing.get(number) else {
         return Ok(false);
     };
     match standing.kind {
@@ -119,7 +118,7 @@ fn is_target<S: ReadAt, N: Namer, A: Allocator + Copy>(
             namer,
             version,
             standing.place,
-            &name,
+            &change.target,
             change.name,
             room,
         ),
@@ -140,18 +139,6 @@ fn is_named_by<S: ReadAt, N: Namer, A: Allocator + Copy>(
         name.now.bytes ref_name.now result }
 {
     let found = read_named(source, namer, version, place, name, room)?;
-    Ok(is_own_ref(ref_name, &room.as_slice()[found.start..found.end]))
-}
-
-/// Whether a ref's name is made by the own name of the tag with this body.
-fn is_own_ref(name: &[u8], body: &[u8]) -> bool
-    ensures { TellsOwnRef name.now body.now result }
-{
-    let Ok(tag) = decode_tag(body) else {
-        return false;
-    };
-    match name.strip_prefix(b"refs/tags/") {
-        Some(rest) => rest == tag.name(),
-        None => false,
-    }
+    let body = &room.as_slice()[found.start..found.end];
+    Ok(is_target(ref_name, Kind::Tag, body))
 }

@@ -115,16 +115,16 @@ module _ (listed : List Listed) (rooms : List ℕ) (e : Entry) where
 -- the number of an object has a room, which isn't large
 pub room_within : (listed : List Listed) (rooms : List ℕ) → AreHeld listed rooms → (k : Kind) (n : Bytes) (i : ℕ) → FindsHeld listed k n (Some i) → i < length rooms
 room_within listed rooms h k n i f =
-    let p = is_place h.1.0 n i (sym (f h.1.0 h.1.1.heads).0) in
-    let all = rooms_count h.1.0 in
-    let same = ap length h.1.1.rooms_are in
+    let p = is_place h.1 n i (sym (f h.1 h.2.heads).0) in
+    let all = rooms_count h.1 in
+    let same = ap length h.2.rooms_are in
     let within = p.within in
     omega arith
 
 pub room_small : (listed : List Listed) (rooms : List ℕ) → AreHeld listed rooms → (i : ℕ) → get_or rooms i 0 ≤ 4096
 room_small listed rooms h i =
-    let small = rooms_small h.0 h.1.1.namer h.1.0 h.1.1.sound i in
-    let same = ap (λ ns. get_or ns i 0) h.1.1.rooms_are in
+    let small = rooms_small h.0 h.2.namer h.1 h.2.sound i in
+    let same = ap (λ ns. get_or ns i 0) h.2.rooms_are in
     omega arith
 
 -- ---- trees

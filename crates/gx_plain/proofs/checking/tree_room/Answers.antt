@@ -1,5 +1,6 @@
+use Rattle.std.proofs.Common.{sym, subst}
 use Rattle.gx_object.specs.Entries.{shown}
-use Rattle.gx_plain.proofs.Checks.{tree_bad, tree_fine, tree_first, tree_long, tree_next, tree_unlooked}
+use Rattle.gx_plain.proofs.Checks.{AreLeft, tree_bad, tree_fine, tree_first, tree_long, tree_next, tree_unlooked}
 use Rattle.gx_plain.proofs.checking.tree_room.Goals as goal
 
 pub loop-init : goal.loop-init
@@ -14,7 +15,8 @@ loop-smaller g c = rw c.in-Ok-Some.field-0-is at c.in-Ok-Some.ensures.most
 
 pub loop-preserved : goal.loop-preserved
 loop-preserved g c =
-    tree_next c.args.listing.now c.args.rooms.now c.args.body.now (shown c.in-Ok-Some.entry) c.loop.widest c.in_ok-room-in-Ok-Some.room c.loop.reader.entries c.read.new.self.entries (rw c.in-Ok-Some.field-0-is at c.in-Ok-Some.ensures.next) c.loop.invariant c.in_ok-room-in-Ok-Some.ensures
+    subst (λ widest. AreLeft c.args.listing.now c.args.rooms.now c.args.body.now widest c.read.new.self.entries) (sym c.max-widest.ensures)
+    (tree_next c.args.listing.now c.args.rooms.now c.args.body.now (shown c.in-Ok-Some.entry) c.loop.widest c.in_ok-room-in-Ok-Some.room c.loop.reader.entries c.read.new.self.entries (rw c.in-Ok-Some.field-0-is at c.in-Ok-Some.ensures.next) c.loop.invariant c.in_ok-room-in-Ok-Some.ensures)
 
 pub returns-in-Err : goal.returns-in-Err
 returns-in-Err g c = tree_bad c.args.listing.now c.args.rooms.now c.args.body.now c.loop.widest c.loop.reader.entries c.in-Err.ensures.fault c.loop.invariant

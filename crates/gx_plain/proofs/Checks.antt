@@ -1,5 +1,5 @@
 -- What is against a body, by what is listed of the records before it.
-use Rattle.std.proofs.Common.{◌≡◌, ◌≢◌, inl, inr, ℕ, ◌+◌, ◌<◌, ◌≤◌, true, false, Bool, ◌&&◌, List, [], ◌∷◌, length, drop, get_or, slice_get, max, Option, Some, None, refl, sym, ap, ◌∙◌, subst, arith}
+use Rattle.std.proofs.Common.{◌≡◌, ◌≢◌, ◌⊎◌, inl, inr, ℕ, ◌+◌, ◌<◌, ◌≤◌, true, false, Bool, ◌&&◌, List, [], ◌∷◌, length, drop, get_or, slice_get, max, Option, Some, None, refl, sym, ap, ◌∙◌, subst, arith}
 use Rattle.std.specs.Prelude.{IfSome}
 use Rattle.std.specs.List.{list_all}
 use Rattle.std.specs.Option.{option_map}
@@ -74,6 +74,12 @@ own_entry rs e other = by e.mode refl
     by Gitlink g = ap Some (sym (own_room rs Gitlink e.component e.name (λ z. cc)))
     by Dir g = absurd (other g)
 
+-- the mode of a file is none of the others
+file_mode : (m : Mode) → (m ≡ File) ⊎ ((m ≡ Exec) ⊎ (m ≡ Link)) → (m ≢ Gitlink) × (m ≢ Dir)
+file_mode m (inl e) = (λ g. let l : File ≡ Gitlink = sym e ∙ g in cc l, λ g. let l : File ≡ Dir = sym e ∙ g in cc l)
+file_mode m (inr (inl e)) = (λ g. let l : Exec ≡ Gitlink = sym e ∙ g in cc l, λ g. let l : Exec ≡ Dir = sym e ∙ g in cc l)
+file_mode m (inr (inr e)) = (λ g. let l : Link ≡ Gitlink = sym e ∙ g in cc l, λ g. let l : Link ≡ Dir = sym e ∙ g in cc l)
+
 module _ (listed : List Listed) (rooms : List ℕ) (e : Entry) where
   pub link_looked : e.mode ≡ Gitlink → LooksAtEntry listed rooms e (Some (1 + length e.component))
   link_looked g = λ name rs h. (ap (λ m. is_entry_held rs m e.name) g, own_entry rs e (λ z. let l = sym g ∙ z in cc l))
@@ -89,11 +95,11 @@ module _ (listed : List Listed) (rooms : List ℕ) (e : Entry) where
       by Gitlink g = absurd (a g)
       by Dir g = absurd (b g)
 
-  pub file_looked : e.mode ≢ Gitlink → e.mode ≢ Dir → (i : ℕ) → FindsHeld listed kinds.Blob e.name (Some i) → LooksAtEntry listed rooms e (Some (1 + length e.component))
-  file_looked a b i f = λ name rs h. (file_held rs a b ∙ (f rs h.heads).1, own_entry rs e b)
+  pub file_looked : (e.mode ≡ File) ⊎ ((e.mode ≡ Exec) ⊎ (e.mode ≡ Link)) → (i : ℕ) → FindsHeld listed kinds.Blob e.name (Some i) → LooksAtEntry listed rooms e (Some (1 + length e.component))
+  file_looked m i f = λ name rs h. let d = file_mode e.mode m in (file_held rs d.0 d.1 ∙ (f rs h.heads).1, own_entry rs e d.1)
 
-  pub no_file : e.mode ≢ Gitlink → e.mode ≢ Dir → FindsHeld listed kinds.Blob e.name None → LooksAtEntry listed rooms e None
-  no_file a b f = λ name rs h. inl (file_held rs a b ∙ f rs h.heads)
+  pub no_file : (e.mode ≡ File) ⊎ ((e.mode ≡ Exec) ⊎ (e.mode ≡ Link)) → FindsHeld listed kinds.Blob e.name None → LooksAtEntry listed rooms e None
+  no_file m f = λ name rs h. let d = file_mode e.mode m in inl (file_held rs d.0 d.1 ∙ f rs h.heads)
 
   pub no_directory : e.mode ≡ Dir → FindsHeld listed kinds.Tree e.name None → LooksAtEntry listed rooms e None
   no_directory m f = λ name rs h. inl (ap (λ x. is_entry_held rs x e.name) m ∙ f rs h.heads)

@@ -13,6 +13,8 @@ use Rattle.gx_at.specs.Reads.{ReadsAt, StandsAt, part}
 use Rattle.gx_lines.specs.Reads.{Reads}
 use Rattle.gx_file.proofs.Steps.{explained}
 use Rattle.gx_look.proofs.ReadOn.{both_stand, grown_room}
+use Rattle.gx_objects.specs.declared.fault.LookFault.{LookFault}
+use Rattle.gx_look.specs.Reading.{EndsBefore}
 use Rattle.gx_plain.specs.Reading.{IsFrontAt, IsRefused}
 
 -- ---- a room
@@ -37,6 +39,14 @@ rest_is (Some t) at count room h l text e =
     let same : t ≡ text = cc in
     let long = ap length h ∙ length-take count (drop at t) in
     h ∙ take_all count (drop at t) (omega arith) ∙ ap (drop at) same
+
+-- a front with fewer bytes than were wanted tells that the text ends
+pub ends_short : (told : Option Bytes) (at end count : ℕ) (room : Bytes) (why : LookFault) → IsFrontAt told at count room → count ≡ end + 1 → length room ≤ end → EndsBefore told (at + end + 1) why
+ends_short None at end count room why h e l = tt
+ends_short (Some text) at end count room why h e l = λ same.
+    let few = ap length h ∙ length-take count (drop at text) in
+    let long = length-drop at text in
+    omega arith
 
 -- what came stands behind what was there
 came_stands : (told : Option Bytes) (at came : ℕ) (new : Bytes) → ReadsAt told at new (Ok came) → came ≤ length new → StandsAt told at (take came new)

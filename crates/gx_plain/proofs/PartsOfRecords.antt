@@ -67,11 +67,10 @@ module _ (v : Version) (text : Bytes) (c : ℕ) where
           omega arith
 
       -- where the text ends before the LF, there is no record
-      pub ends_before : (room : Bytes) (whole : ℕ) → whole ≡ start + k.1.0 + 1 → room ≡ take whole text → length room < whole → IsRefused (next_parts v text)
-      ends_before room whole w r short = refused_unless (next_parts v text) (λ p h.
+      pub ends_before : length text < start + k.1.0 + 1 → IsRefused (next_parts v text)
+      ends_before short = refused_unless (next_parts v text) (λ p h.
           let b = both_steps (stored_body k.1.0 behind) (λ body. Ok (k, body)) p (sym heading_then ∙ h) in
           let long = body_within b.0 b.1 in
-          let a = ap length r ∙ length-take whole text in
           absurd (omega arith))
 
       module _ (room : Bytes) (m : ℕ) (front : room ≡ take m text) (enough : start + k.1.0 + 1 ≤ length room) where

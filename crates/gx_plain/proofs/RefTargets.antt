@@ -1,5 +1,5 @@
 -- Whether refs may hold objects that are listed of a plain text.
-use Rattle.std.proofs.Common.{◌≡◌, ℕ, true, false, Bool, List, slice_get, take, get_or, Option, Some, None, Result, Ok, Err, refl, sym, ap, ◌∙◌, subst}
+use Rattle.std.proofs.Common.{◌≡◌, ◌⊎◌, inl, inr, ℕ, true, false, Bool, List, slice_get, take, get_or, Option, Some, None, Result, Ok, Err, refl, sym, ap, ◌∙◌, subst}
 use Rattle.std.specs.Bool.{passes}
 use Rattle.std.proofs.lemmas.Option.{slice_get-get_or}
 use Rattle.gx_model.specs.declared.objects.Kind.{Kind}
@@ -62,11 +62,15 @@ module _ (name : Kind → Bytes → Bytes) (v : Version) (text : Bytes) (listed 
     pub commit_target : one.1.kind ≡ kinds.Commit → true ≡ is_target ref (record_named rs n)
     commit_target e = sym (target_is kinds.Commit e)
 
-    pub blob_target : one.1.kind ≡ kinds.Blob → false ≡ is_target ref (record_named rs n)
+    blob_target : one.1.kind ≡ kinds.Blob → false ≡ is_target ref (record_named rs n)
     blob_target e = sym (target_is kinds.Blob e)
 
-    pub tree_target : one.1.kind ≡ kinds.Tree → false ≡ is_target ref (record_named rs n)
+    tree_target : one.1.kind ≡ kinds.Tree → false ≡ is_target ref (record_named rs n)
     tree_target e = sym (target_is kinds.Tree e)
+
+    pub other_target : (one.1.kind ≡ kinds.Blob) ⊎ (one.1.kind ≡ kinds.Tree) → false ≡ is_target ref (record_named rs n)
+    other_target (inl e) = blob_target e
+    other_target (inr e) = tree_target e
 
     -- a tag's body is one of its kind
     pub tag_text : one.1.kind ≡ kinds.Tag → (p : TagParts) × IsTagText p t.held.body

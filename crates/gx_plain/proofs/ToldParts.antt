@@ -10,6 +10,7 @@ use Rattle.gx_model.proofs.Stores.StoreTexts.{line_of}
 use Rattle.gx_object.specs.Parts.{bytes_if}
 use Rattle.gx_objects.specs.declared.fault.LookFault.{LookFault}
 use Rattle.gx_objects.specs.declared.fault.LookFault.TheVariants.{Damaged}
+use Rattle.gx_look.specs.Reading.{EndsBefore}
 use Rattle.gx_plain.specs.Reading.{IsFrontAt, IsRefused}
 use Rattle.gx_plain.specs.Records.{IsParts, ReadsParts, end_of, next_parts, shown_heading}
 use Rattle.gx_plain.specs.declared.heading.Heading.{Heading}
@@ -19,12 +20,6 @@ use Rattle.gx_plain.proofs.PartsOfRecords.{body_there, ends_before, no_body, no_
 -- what follows a line is a part of what was read
 pub line_fits : (first : Bytes) (l : Bytes × Bytes) → stored_line first ≡ Ok l → length l.1 < length first
 line_fits first l e = let long = ap length (line_of first l e) ∙ length-append l.0 (10 ∷ l.1) in omega arith
-
--- a room has the bytes from a place on, and more than stand before an end
-pub record HasFront (told : Option Bytes) (at end : ℕ) (room : Bytes) : Type 0 where
-  pub count : ℕ
-  pub front : IsFrontAt told at count room
-  pub enough : end < length room
 
 -- other faults tell nothing of the text
 pub unknown_parts : (v : Version) (told : Option Bytes) (at : ℕ) (room : Bytes) (why : LookFault) → (why ≡ Damaged → ⊥) → ReadsParts v told at room (Err why)
@@ -55,9 +50,15 @@ module _ (v : Version) (told : Option Bytes) (at : ℕ) (first : Bytes) (c : ℕ
       start_is : start ≡ length l.0 + 1
       start_is = let long = ap length (line_of first l line) ∙ length-append l.0 (10 ∷ l.1) in omega arith
 
-      pub ends_told : (room : Bytes) → IsFrontAt told at (end + 1) room → length room ≤ end → ReadsParts v told at room (Err Damaged)
-      ends_told room read short = refused_parts v told at room (λ text is.
-          ends_before v (drop at text) c l (line_in text is) (shown_heading heading) start said start_is room (end + 1) (omega arith) (subst (λ t. IsFrontAt t at (end + 1) room) is read) (omega arith))
+      pub ends_told : (room : Bytes) (why : LookFault) → EndsBefore told (at + end + 1) why → ReadsParts v told at room (Err why)
+      ends_told room why short = by told refl short
+        where
+          by : (o : Option Bytes) → told ≡ o → EndsBefore o (at + end + 1) why → ReadsParts v o at room (Err why)
+          by None is h = tt
+          by (Some text) is h = λ same.
+              let few = h same in
+              let long = length-drop at text in
+              ends_before v (drop at text) c l (line_in text is) (shown_heading heading) start said start_is (omega arith)
 
       module _ (room : Bytes) (m : ℕ) (read : IsFrontAt told at m room) (enough : end < length room) where
         read_in : (text : Bytes) → told ≡ Some text → room ≡ take m (drop at text)

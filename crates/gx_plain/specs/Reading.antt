@@ -12,6 +12,10 @@ abbrev pub IsFrontAt : Option Bytes → ℕ → ℕ → Bytes → Type 0
 IsFrontAt None at count room = ⊤
 IsFrontAt (Some text) at count room = room ≡ part text at count
 
+-- these are some bytes of it from a place on
+abbrev pub HasFront : Option Bytes → ℕ → Bytes → Type 0
+HasFront told at room = (count : ℕ) × IsFrontAt told at count room
+
 -- there is a fault
 abbrev pub IsRefused : {Y : Type 0} → Stored Y → Type 0
 IsRefused given = (why : FileFault) × (given ≡ Err why)

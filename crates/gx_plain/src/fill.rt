@@ -2,7 +2,8 @@
 
 ghost use Rattle.std.specs.Prelude.{◌≢◌, ◌+◌, ◌<◌, ◌≤◌, ◌^◌, length, IfErr, OnOk};
 ghost use Rattle.gx_objects.specs.declared.fault.LookFault.TheVariants.{Damaged};
-ghost use Rattle.gx_plain.specs.Reading.{IsFrontAt};
+ghost use Rattle.gx_look.specs.Reading.{EndsBefore};
+ghost use Rattle.gx_plain.specs.Reading.{HasFront, IsFrontAt};
 
 use gx_at::ReadAt;
 use gx_objects::LookFault;
@@ -37,4 +38,28 @@ pub(crate) fn read_front<S: ReadAt, A: Allocator + Copy>(
         }
     }
     Ok(())
+}
+
+/// Has a room, which has bytes from a place on, have more of them than stand before an end. `Damaged` where the text ends before.
+pub(crate) fn read_behind<S: ReadAt, A: Allocator + Copy>(
+    source: &S,
+    at: u64,
+    end: usize,
+    room: &mut Vec<u8, A>,
+) -> Result<(), LookFault>
+    requires near { at + end + 1 < 2 ^ 64 }
+    requires front { HasFront (S.text source.now) at room.old.items }
+    ensures front { OnOk result (HasFront (S.text source.now) at room.new.items) }
+    ensures behind { OnOk result (end < length room.new.items) }
+    ensures fault { IfErr result (EndsBefore (S.text source.now) (at + end + 1)) }
+{
+    if end < room.len() {
+        return Ok(());
+    }
+    read_front(source, at, end + 1, room)?;
+    if end < room.len() {
+        Ok(())
+    } else {
+        Err(LookFault::Damaged)
+    }
 }

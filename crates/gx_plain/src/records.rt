@@ -3,7 +3,7 @@
 ghost use Rattle.std.specs.Prelude.{IfOk};
 ghost use Rattle.gx_plain.specs.Records.{HasName, IsRoomOf, ReadsParts, TellsRecord};
 
-use crate::fill::read_front;
+use crate::fill::{read_behind, read_front};
 use crate::heading::heading_of;
 use gx_at::ReadAt;
 use gx_lines::{read_body, read_line};
@@ -13,7 +13,7 @@ use gx_objects::LookFault;
 use std::alloc::Allocator;
 
 /// How many bytes are read together: most records stand in so many, and the line of each one.
-const BLOCK: usize = 4096;
+const BLOCK: u64 = 4096;
 
 /// A record that stands in a room: its kind, the name that its line states, and where its body stands.
 #[derive(Clone, Copy)]
@@ -37,10 +37,11 @@ pub(crate) fn read_parts<S: ReadAt, A: Allocator + Copy>(
     ensures within { IfOk result (IsRoomOf at room.new.items) }
     ensures parts { ReadsParts version (S.text source.now) at room.new.items result }
 {
-    if u64::MAX - at <= BLOCK as u64 {
+    let left = u64::MAX - at;
+    if left <= BLOCK {
         return Err(LookFault::ReadFailed);
     }
-    read_front(source, at, BLOCK, room)?;
+    read_front(source, at, BLOCK as usize, room)?;
     let Ok((line, behind)) = read_line(room.as_slice()) else {
         return Err(LookFault::Damaged);
     };
@@ -48,16 +49,11 @@ pub(crate) fn read_parts<S: ReadAt, A: Allocator + Copy>(
         return Err(LookFault::Damaged);
     };
     let start = room.len() - behind.len();
-    if heading.length >= u64::MAX - at - start as u64 - 1 {
+    if heading.length >= left - start as u64 - 1 {
         return Err(LookFault::ReadFailed);
     }
     let end = start + heading.length as usize;
-    if end >= room.len() {
-        read_front(source, at, end + 1, room)?;
-        if end >= room.len() {
-            return Err(LookFault::Damaged);
-        }
-    }
+    read_behind(source, at, end, room)?;
     let Ok((_body, _rest)) = read_body(heading.length, &room.as_slice()[start..]) else {
         return Err(LookFault::Damaged);
     };

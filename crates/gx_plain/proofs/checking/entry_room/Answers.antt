@@ -29,3 +29,9 @@ returns-then-below-eq0 g c = empty_looked c.args.listing.now c.args.rooms.now (s
 
 pub returns-else-below-eq0 : goal.returns-else-below-eq0
 returns-else-below-eq0 g c = full_looked c.args.listing.now c.args.rooms.now (shown c.args.entry.now) c.in-Dir.is c.in_ok-number-in-Dir.number c.in_ok-number-in-Dir.ensures c.if-below-eq0.false
+
+pub returns-in_err-number_of-in-File : goal.returns-in_err-number_of-in-File
+returns-in_err-number_of-in-File g c = rw c.from_residual-in_err-number_of-in-File.ensures (no_file c.args.listing.now c.args.rooms.now (shown c.args.entry.now) c.in-File.is c.in_err-number_of-in-File.ensures)
+
+pub returns-in-File : goal.returns-in-File
+returns-in-File g c = file_looked c.args.listing.now c.args.rooms.now (shown c.args.entry.now) c.in-File.is c.in_ok-number_of-in-File.field-0 c.in_ok-number_of-in-File.ensures

@@ -1,12 +1,20 @@
-use Rattle.std.proofs.Common.{[], ◌∷◌, ◌++◌, arith}
+use Rattle.std.proofs.Common.{ℕ, List, [], ◌∷◌, ◌++◌, sym, subst, arith}
+use Rattle.std.specs.Prelude.{IfSome}
 use Rattle.std.proofs.lemmas.Result.{err_from_is_err_and}
-use Rattle.gx_plain.proofs.FarRecords.{far_all, far_begun, far_next, far_refused, none_held}
+use Rattle.gx_model.specs.Histories.{Record}
+use Rattle.gx_listed.specs.Listings.{Listed}
+use Rattle.gx_plain.specs.Held.{IsHeld}
+use Rattle.gx_plain.proofs.FarRecords.{AreRead, far_all, far_begun, far_next, far_refused, none_held}
 use Rattle.gx_plain.proofs.listing.list_records.Goals as goal
 
 pub loop-init : goal.loop-init
 loop-init g c =
     let name = g.N.Namer.name_of c.args.namer.now in
-    ([], none_held name (g.met.N.Namer.is_namer c.args.namer.now), far_begun name (g.S.ReadAt.text c.args.source.now) c.args.start.now)
+    let told = g.S.ReadAt.text c.args.source.now in
+    let start = c.args.start.now in
+    subst (λ (listed : List Listed). (rs : List Record) × IsHeld name listed c.new-rooms.result.items rs × IfSome told (λ text. AreRead name text start 0 start.place listed rs)) (sym c.new-listing.ensures)
+    (subst (λ (rooms : List ℕ). (rs : List Record) × IsHeld name [] rooms rs × IfSome told (λ text. AreRead name text start 0 start.place [] rs)) (sym c.new-rooms.ensures.items)
+    ([], none_held name (g.met.N.Namer.is_namer c.args.namer.now), far_begun name told start))
 
 pub add_record-requires : goal.add_record-requires
 add_record-requires g c = record { held = (g.N.Namer.name_of c.args.namer.now, c.loop.invariant.0, c.loop.invariant.1) }

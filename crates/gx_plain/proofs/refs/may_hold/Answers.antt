@@ -1,6 +1,6 @@
 use Rattle.std.proofs.Common.{Ok, sym}
 use Rattle.gx_kept.proofs.ListedRecords.{some_listed, within_listed}
-use Rattle.gx_plain.proofs.RefTargets.{blob_target, commit_target, each_target, no_target, tag_tells, target_of, tree_target}
+use Rattle.gx_plain.proofs.RefTargets.{commit_target, each_target, no_target, other_target, tag_tells, target_of}
 use Rattle.gx_plain.proofs.refs.may_hold.Goals as goal
 
 pub returns-in_default : goal.returns-in_default
@@ -25,18 +25,7 @@ returns-in-Blob g c =
     let n = change.target.bytes in
     let one = (c.in-Some-get._name, c.in-Some-get.standing) in
     each_target name c.args.version (g.S.ReadAt.text c.args.source.now) listed change _ (λ text is rs h.
-    blob_target name c.args.version text listed rs h ref n one (target_of name c.args.version text listed rs h ref n c.in-Some.number one c.in-Some.ensures (sym c.in-Some-get.ensures)) c.in-Blob.is)
-
-pub returns-in-Tree : goal.returns-in-Tree
-returns-in-Tree g c =
-    let name = g.N.Namer.name_of c.args.namer.now in
-    let change = c.args.change.now in
-    let listed = c.args.listing.now in
-    let ref = change.name.now in
-    let n = change.target.bytes in
-    let one = (c.in-Some-get._name, c.in-Some-get.standing) in
-    each_target name c.args.version (g.S.ReadAt.text c.args.source.now) listed change _ (λ text is rs h.
-    tree_target name c.args.version text listed rs h ref n one (target_of name c.args.version text listed rs h ref n c.in-Some.number one c.in-Some.ensures (sym c.in-Some-get.ensures)) c.in-Tree.is)
+    other_target name c.args.version text listed rs h ref n one (target_of name c.args.version text listed rs h ref n c.in-Some.number one c.in-Some.ensures (sym c.in-Some-get.ensures)) c.in-Blob.is)
 
 pub returns-in-Commit : goal.returns-in-Commit
 returns-in-Commit g c =

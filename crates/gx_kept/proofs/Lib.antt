@@ -1,14 +1,14 @@
 mod CollectedTexts
 mod GoneObjects
 mod LaidMarks
-mod ListedRecords
+pub mod ListedRecords
 mod MarkedTexts
-mod MarkedTips
+pub mod MarkedTips
 mod SentMarked
 mod SentObjects
 mod SentRecords
 mod SetMarks
 mod Spreading
-mod Stopping
+pub mod Stopping
 mod TailLines
 mod Weights

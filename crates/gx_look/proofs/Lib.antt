@@ -1,16 +1,16 @@
-mod CheckedRefs
+pub mod CheckedRefs
 mod FoundTogether
 mod HeadPlaces
 mod HeadingsInTexts
-mod JoinedTexts
+pub mod JoinedTexts
 mod LinesOfRefs
 mod ListedRows
 mod ListedTexts
 mod OldTexts
 mod OpenedTexts
-mod Opening
-mod ReadOn
-mod RecordsInRooms
+pub mod Opening
+pub mod ReadOn
+pub mod RecordsInRooms
 mod RowsBetween
 mod RowsOfRuns
 mod RunsInLines

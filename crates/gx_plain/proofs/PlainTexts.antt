@@ -21,7 +21,7 @@ use Rattle.gx_model.specs.Stores.StoreText.{length_text, stored_record}
 use Rattle.gx_model.proofs.Stores.StoreTexts.{ok_is}
 use Rattle.gx_model.proofs.Texts.PathTests.{same_is}
 use Rattle.gx_objects.specs.Answers.{FindsBegun, GoesUp, StandsThere}
-use Rattle.gx_objects.proofs.Named.{refs_are}
+use Rattle.gx_kept.proofs.MarkedTips.{refs_are}
 use Rattle.gx_look.specs.Refs.{AreLines}
 use Rattle.gx_look.specs.Tails.{refs_text}
 use Rattle.gx_look.proofs.CheckedRefs.{lines_of}

@@ -9,7 +9,7 @@ pub returns-in-Gitlink : goal.returns-in-Gitlink
 returns-in-Gitlink g c = link_looked c.args.listing.now c.args.rooms.now (shown c.args.entry.now) c.in-Gitlink.is
 
 pub returns-in_err-number-in-Dir : goal.returns-in_err-number-in-Dir
-returns-in_err-number-in-Dir g c = rw c.from_residual-in_err-number-in-Dir.ensures (no_directory c.args.listing.now c.args.rooms.now (shown c.args.entry.now) c.in-Dir.is c.in_err-number-in-Dir.ensures)
+returns-in_err-number-in-Dir g c = rw c.from_residual.ensures (no_directory c.args.listing.now c.args.rooms.now (shown c.args.entry.now) c.in-Dir.is c.in_err-number-in-Dir.ensures)
 
 pub offset_bounds-rooms-number : goal.offset_bounds-rooms-number
 offset_bounds-rooms-number g c =
@@ -33,5 +33,5 @@ returns-else-below-eq0 g c = full_looked c.args.listing.now c.args.rooms.now (sh
 pub returns-in_err-number_of-in-File : goal.returns-in_err-number_of-in-File
 returns-in_err-number_of-in-File g c = rw c.from_residual-in_err-number_of-in-File.ensures (no_file c.args.listing.now c.args.rooms.now (shown c.args.entry.now) c.in-File.is c.in_err-number_of-in-File.ensures)
 
-pub returns-in-File : goal.returns-in-File
-returns-in-File g c = file_looked c.args.listing.now c.args.rooms.now (shown c.args.entry.now) c.in-File.is c.in_ok-number_of-in-File.field-0 c.in_ok-number_of-in-File.ensures
+pub returns-in_ok-number_of-in-File : goal.returns-in_ok-number_of-in-File
+returns-in_ok-number_of-in-File g c = file_looked c.args.listing.now c.args.rooms.now (shown c.args.entry.now) c.in-File.is c.in_ok-number_of-in-File.field-0 c.in_ok-number_of-in-File.ensures

@@ -1,4 +1,4 @@
-use Rattle.std.proofs.Common.{sym, ap, ◌∙◌, ◌-◌, codes}
+use Rattle.std.proofs.Common.{sym, ap, ◌∙◌, codes, arith}
 use Rattle.std.proofs.lemmas.Result.{err_from_is_err_and}
 use Rattle.gx_model.specs.Stores.StoreReading.{after_magic, stored_count}
 use Rattle.gx_lines.specs.Reads.{shown_count, shown_start}

@@ -1,14 +1,14 @@
 mod CollectedTexts
 mod GoneObjects
 mod LaidMarks
-pub mod ListedRecords
+mod ListedRecords
 mod MarkedTexts
-pub mod MarkedTips
+mod MarkedTips
 mod SentMarked
 mod SentObjects
 mod SentRecords
 mod SetMarks
 mod Spreading
-pub mod Stopping
+mod Stopping
 mod TailLines
 mod Weights

@@ -1,16 +1,16 @@
-pub mod CheckedRefs
+mod CheckedRefs
 mod FoundTogether
 mod HeadPlaces
 mod HeadingsInTexts
-pub mod JoinedTexts
+mod JoinedTexts
 mod LinesOfRefs
 mod ListedRows
 mod ListedTexts
 mod OldTexts
 mod OpenedTexts
-pub mod Opening
-pub mod ReadOn
-pub mod RecordsInRooms
+mod Opening
+mod ReadOn
+mod RecordsInRooms
 mod RowsBetween
 mod RowsOfRuns
 mod RunsInLines

@@ -27,7 +27,7 @@ use Rattle.gx_repo.proofs.Places.{is_place}
 use Rattle.gx_repo.proofs.ReadTrees.{IsLeft, left_bad, left_dangling, left_end, left_first, left_next}
 use Rattle.gx_repo.proofs.RecordRooms.{rooms_count, rooms_small}
 use Rattle.gx_listed.specs.Listings.{HaveHeads, Head, Listed, number_named}
-use Rattle.gx_kept.proofs.ListedRecords.{number_is, record_listed}
+use Rattle.gx_plain.proofs.ListedObjects.{number_is, record_listed}
 use Rattle.gx_plain.specs.Held.{AreHeld, ChecksBody, FindsHeld, IsHeld, LooksAtEntry}
 
 -- ---- one object

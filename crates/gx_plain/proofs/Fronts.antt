@@ -12,7 +12,7 @@ use Rattle.gx_model.proofs.Texts.Cuts.{cut_spelled, map_some, some_is}
 use Rattle.gx_at.specs.Reads.{ReadsAt, StandsAt, part}
 use Rattle.gx_lines.specs.Reads.{Reads}
 use Rattle.gx_file.proofs.Steps.{explained}
-use Rattle.gx_look.proofs.ReadOn.{both_stand, grown_room}
+use Rattle.gx_plain.proofs.RoomsRead.{both_stand, grown_room}
 use Rattle.gx_objects.specs.declared.fault.LookFault.{LookFault}
 use Rattle.gx_look.specs.Reading.{EndsBefore}
 use Rattle.gx_plain.specs.Reading.{IsFrontAt, IsRefused}

@@ -1,25 +1,29 @@
 -- What goes out of a plain text, by what opening it and rewriting it tell.
-use Rattle.std.proofs.Common.{◌≡◌, Option, Some, None, Result, Ok, Err, refl, sym, ◌∙◌, subst}
+use Rattle.std.proofs.Common.{◌≡◌, [], Option, Some, None, Result, Ok, Err, refl, sym, ◌∙◌, subst}
 use Rattle.std.specs.Prelude.{IfSome, IsOk}
 use Rattle.std.specs.Result.{result_ok}
 use Rattle.sha2.specs.Sha256.{sha256}
 use Rattle.gx_model.specs.declared.objects.Kind.{Kind}
 use Rattle.gx_model.specs.Histories.{Records}
 use Rattle.gx_model.specs.Texts.{Bytes}
-use Rattle.gx_model.specs.Texts.Sinks.{Taken}
+use Rattle.gx_model.specs.Texts.Sinks.{Taken, TookFront}
 use Rattle.gx_model.specs.Stores.StoreReading.{Stored, store_of}
 use Rattle.gx_model.proofs.Stores.StoreTexts.{ok_is}
+use Rattle.gx_model.proofs.Texts.SentTexts.{took_nothing}
 use Rattle.gx_growing.specs.GrowingText.{growing_text}
 use Rattle.gx_kept.specs.Collecting.{Rewrites}
 use Rattle.gx_kept.specs.Faults.{IsOnTheWay, Stops, of_look}
 use Rattle.gx_kept.specs.declared.fault.KeptFault.{KeptFault}
 use Rattle.gx_kept.specs.declared.fault.KeptFault.TheVariants.{Damaged, OutOfMemory, ReadFailed, WriteFailed}
-use Rattle.gx_kept.proofs.Stopping.{none_went}
 use Rattle.gx_objects.specs.declared.fault.LookFault.{LookFault}
 use Rattle.gx_objects.specs.declared.fault.LookFault.TheVariants as look
 use Rattle.gx_plain.specs.Growing.{Grows}
 use Rattle.gx_plain.specs.Plain.{told_by}
 use Rattle.gx_plain.specs.Reading.{IsRefused}
+
+-- an empty front of a text went out
+none_went : (was : Option Taken) (text : Bytes) → TookFront was was text
+none_went was text = ([], text, refl, took_nothing was)
 
 module _ (name : Kind → Bytes → Bytes) (was : Option Taken) where
   -- what isn't opened isn't grown

@@ -4,13 +4,16 @@ pub mod Checks
 pub mod FarRecords
 pub mod Fronts
 pub mod GrownTexts
+pub mod ListedObjects
 pub mod NamedRecords
 pub mod NextRecords
 pub mod NextRefs
 pub mod PartsOfRecords
 pub mod PlainTexts
 pub mod RefTargets
+pub mod RoomsRead
 pub mod ShortLines
+pub mod SoundRefs
 pub mod StartLines
 pub mod TailsOfRefs
 pub mod TestedRefs

@@ -19,7 +19,7 @@ use Rattle.gx_repo.specs.Rooms.{room_below}
 use Rattle.gx_repo.proofs.Places.{is_place, no_place, no_record_named, record_at_place}
 use Rattle.gx_repo.proofs.RecordRooms.{rooms_more}
 use Rattle.gx_listed.specs.Listings.{HaveHeads, Listed, head_of, number_named, shown_head}
-use Rattle.gx_kept.proofs.ListedRecords.{number_is}
+use Rattle.gx_plain.proofs.ListedObjects.{number_is}
 use Rattle.gx_objects.specs.declared.fault.LookFault.{LookFault}
 use Rattle.gx_plain.specs.Held.{IsHeld}
 use Rattle.gx_plain.specs.Reading.{IsRefused, RefusesWith}

@@ -21,10 +21,10 @@ use Rattle.gx_model.specs.Stores.StoreText.{length_text, stored_record}
 use Rattle.gx_model.proofs.Stores.StoreTexts.{ok_is}
 use Rattle.gx_model.proofs.Texts.PathTests.{same_is}
 use Rattle.gx_objects.specs.Answers.{FindsBegun, GoesUp, StandsThere}
-use Rattle.gx_kept.proofs.MarkedTips.{refs_are}
+use Rattle.gx_plain.proofs.SoundRefs.{refs_are}
 use Rattle.gx_look.specs.Refs.{AreLines}
 use Rattle.gx_look.specs.Tails.{refs_text}
-use Rattle.gx_look.proofs.CheckedRefs.{lines_of}
+use Rattle.gx_plain.proofs.SoundRefs.{lines_of}
 use Rattle.gx_object.specs.declared.name.Name.{Name}
 use Rattle.gx_store.specs.Prefixes.{AreEnds, BeginNone, found_between}
 use Rattle.gx_store.specs.declared.prefix.Prefix.{Prefix}
@@ -32,7 +32,7 @@ use Rattle.gx_store.specs.declared.prefix.Prefix.TheVariants.{Absent}
 use Rattle.gx_store.specs.Stores.{place_named}
 use Rattle.gx_repo.proofs.Places.{is_place, no_place, no_record, no_record_named, record_at_place}
 use Rattle.gx_listed.specs.Listings.{HaveHeads, Listed, ListsAll, ListsIfTold, number_named}
-use Rattle.gx_kept.proofs.ListedRecords.{number_is, one_listed, same_length}
+use Rattle.gx_plain.proofs.ListedObjects.{number_is, one_listed, same_length}
 use Rattle.gx_plain.proofs.BegunNames.{all_names, begun_listed, none_begun}
 use Rattle.gx_plain.specs.Listing.{places_from, places_listed}
 use Rattle.gx_plain.specs.Plain.{IsOpened, IsReadAs, IsReadIfTold, places_in, places_of, told_by}

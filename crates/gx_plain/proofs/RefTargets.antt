@@ -18,7 +18,7 @@ use Rattle.gx_repo.specs.declared.publishing.RefChange.{RefChange}
 use Rattle.gx_repo.proofs.Places.{is_place, no_place, no_record, no_record_named, record_at_place}
 use Rattle.gx_repo.proofs.RecordRooms.{linked_at}
 use Rattle.gx_listed.specs.Listings.{Head, Listed, number_named}
-use Rattle.gx_kept.proofs.ListedRecords.{number_is, record_listed}
+use Rattle.gx_plain.proofs.ListedObjects.{number_is, record_listed}
 use Rattle.gx_look.specs.Reading.{Gives}
 use Rattle.gx_objects.specs.declared.fault.LookFault.{LookFault}
 use Rattle.gx_plain.specs.Records.{IsStoredAt}

@@ -1,5 +1,5 @@
 -- How short the line of a record is, and those of the front of a plain text.
-use Rattle.std.proofs.Common.{◌≡◌, ℕ, ◌+◌, ◌<◌, ◌≤◌, ◌^◌, Bool, true, false, cond, ◌∷◌, length, Some, None, refl, sym, ap, ◌∙◌, subst, arith}
+use Rattle.std.proofs.Common.{◌≡◌, ℕ, ◌+◌, ◌-◌, ◌<◌, ◌≤◌, ◌^◌, Bool, true, false, cond, ◌∷◌, length, replicate, Some, None, refl, sym, ap, ◌∙◌, subst, arith}
 use Rattle.std.specs.Prelude.{◌&&◌, nat_lt}
 use Rattle.std.specs.Bool.{passes}
 use Rattle.std.specs.List.{list_all}
@@ -9,7 +9,7 @@ use Rattle.std.specs.Map.{lookup}
 use Rattle.std.specs.Option.{option_and_then}
 use Rattle.std.specs.Str.Parse.{digits_value}
 use Rattle.std.proofs.lemmas.Bool.Decides.{nat_tests}
-use Rattle.std.proofs.lemmas.List.{length-append}
+use Rattle.std.proofs.lemmas.List.{length-append, length-replicate}
 use Rattle.std.proofs.lemmas.Option.{cond_some}
 use Rattle.gx_model.specs.declared.objects.Kind.{Kind}
 use Rattle.gx_model.specs.declared.objects.Kind.TheVariants as kind
@@ -25,12 +25,19 @@ use Rattle.gx_model.proofs.ObjectTexts.OneTree.{forty}
 use Rattle.gx_model.proofs.Stores.StoreTexts.{both_some, number_of}
 use Rattle.gx_model.proofs.Texts.Cuts.{cut_spelled}
 use Rattle.gx_model.proofs.Texts.PathTests.{is_true, same_is, second}
-use Rattle.gx_look.proofs.RecordsInRooms.{number_short, word_short}
+use Rattle.gx_growing.specs.GrowingText.{long_number}
+use Rattle.gx_growing.proofs.Fields.{long_length}
 
 -- ---- numbers
 
 pub few_digits : (n : ℕ) → n < 2 ^ 64 → length (number_text n) ≤ 20
-few_digits n h = number_short n h
+few_digits n h =
+    let k = length (number_text n) in
+    let zero : ℕ = 48 in
+    let a = length-append (replicate (20 - k) zero) (number_text n) in
+    let b : length (replicate (20 - k) zero) ≡ 20 - k = length-replicate (20 - k) zero in
+    let c : length (long_number n) ≡ 20 = long_length n h in
+    omega arith
 
 number_small : (x : Bytes) (n : ℕ) → decimal_of x ≡ Some n → n < 2 ^ 64
 number_small x n e =
@@ -47,9 +54,15 @@ stored_small x n e =
 
 -- a number that is read has at most twenty digits
 pub twenty : (x : Bytes) (n : ℕ) → stored_number x ≡ Some n → length x ≤ 20
-twenty x n e = subst (λ z. length z ≤ 20) (sym (number_of x n e)) (number_short n (stored_small x n e))
+twenty x n e = subst (λ z. length z ≤ 20) (sym (number_of x n e)) (few_digits n (stored_small x n e))
 
 -- ---- a record's line
+
+word_short : (k : Kind) → length (kind_word k) ≤ 6
+word_short kind.Blob = omega arith
+word_short kind.Tree = omega arith
+word_short kind.Commit = omega arith
+word_short kind.Tag = omega arith
 
 word_few : (w : Bytes) (k : Kind) → lookup (same_bytes w) kind_words ≡ Some k → length w ≤ 6
 word_few w k e = by (same_bytes w (kind_word kind.Blob)) (same_bytes w (kind_word kind.Tree)) (same_bytes w (kind_word kind.Commit)) (same_bytes w (kind_word kind.Tag)) refl refl refl refl e

@@ -11,7 +11,7 @@ use Rattle.gx_model.specs.Stores.StoreReading.{stored_count}
 use Rattle.gx_model.proofs.Stores.StoreTexts.{count_of}
 use Rattle.gx_listed.specs.Listings.{Listed}
 use Rattle.gx_look.specs.Refs.{PassesRefs}
-use Rattle.gx_look.proofs.Opening.{end_there}
+use Rattle.gx_plain.proofs.RoomsRead.{end_there}
 use Rattle.gx_objects.specs.declared.fault.LookFault.{LookFault}
 use Rattle.gx_objects.specs.declared.fault.LookFault.TheVariants.{Damaged}
 use Rattle.gx_plain.specs.Refs.{ReadsTail, TestsTargets}

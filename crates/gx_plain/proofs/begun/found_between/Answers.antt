@@ -1,7 +1,7 @@
 use Rattle.std.proofs.Common.{◌≡◌, ◌+◌, ◌-◌, cond, drop, map, sym, ap, ◌∙◌, arith}
 use Rattle.gx_store.specs.Prefixes.{found_between, joined}
 use Rattle.gx_store.specs.declared.prefix.Prefix.TheVariants.{Unique}
-use Rattle.gx_kept.proofs.ListedRecords.{some_listed}
+use Rattle.gx_plain.proofs.ListedObjects.{some_listed}
 use Rattle.gx_plain.proofs.BegunNames.{found_none, found_step}
 use Rattle.gx_plain.proofs.begun.found_between.Goals as goal
 

@@ -1,5 +1,5 @@
 use Rattle.std.proofs.Common.{◌≡◌, sym, rules}
-use Rattle.gx_kept.proofs.ListedRecords.{some_listed, within_listed}
+use Rattle.gx_plain.proofs.ListedObjects.{some_listed, within_listed}
 use Rattle.gx_plain.proofs.Checks.{kind_found, none_found, other_found}
 use Rattle.gx_plain.proofs.checking.number_of.Goals as goal
 

@@ -1,6 +1,6 @@
 use Rattle.std.proofs.Common.{◌+◌, refl, arith}
 use Rattle.std.proofs.lemmas.Result.{err_from_is_err_and}
-use Rattle.gx_look.proofs.ReadOn.{other_fault}
+use Rattle.gx_plain.proofs.RoomsRead.{other_fault}
 use Rattle.gx_plain.proofs.Fronts.{ends_short}
 use Rattle.gx_plain.proofs.fill.read_behind.Goals as goal
 

@@ -1,6 +1,6 @@
 use Rattle.std.proofs.Common.{◌≡◌, sym, ap, ◌∙◌, subst}
 use Rattle.std.proofs.lemmas.Result.{err_from_is_err_and}
-use Rattle.gx_look.proofs.RecordsInRooms.{told_apart}
+use Rattle.gx_plain.proofs.RoomsRead.{told_apart}
 use Rattle.gx_plain.specs.Records.{body_in}
 use Rattle.gx_plain.proofs.NamedRecords.{found_is, named_so, told_of, unrefused}
 use Rattle.gx_plain.proofs.records.read_named.Goals as goal

@@ -2,7 +2,7 @@ use Rattle.std.proofs.Common.{◌≡◌, ◌+◌, ◌-◌, ◌<◌, ◌≤◌, l
 use Rattle.std.proofs.lemmas.Result.{err_from_is_err_and}
 use Rattle.gx_model.specs.Stores.StoreReading.{stored_body, stored_line}
 use Rattle.gx_text.specs.Lent.{lent_pair}
-use Rattle.gx_look.proofs.JoinedTexts.{from_place}
+use Rattle.gx_plain.proofs.RoomsRead.{from_place}
 use Rattle.gx_plain.proofs.Fronts.{refuses}
 use Rattle.gx_plain.proofs.ToldParts.{ends_told, found_told, line_fits, no_body_told, no_heading_told, no_line_told, unknown_parts}
 use Rattle.gx_plain.proofs.records.read_parts.Goals as goal

@@ -1,5 +1,5 @@
 use Rattle.std.proofs.Common.{Ok, sym}
-use Rattle.gx_kept.proofs.ListedRecords.{some_listed, within_listed}
+use Rattle.gx_plain.proofs.ListedObjects.{some_listed, within_listed}
 use Rattle.gx_plain.proofs.RefTargets.{commit_target, each_target, no_target, other_target, tag_tells, target_of}
 use Rattle.gx_plain.proofs.refs.may_hold.Goals as goal
 

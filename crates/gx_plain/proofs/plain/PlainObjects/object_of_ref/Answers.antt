@@ -4,7 +4,7 @@ use Rattle.std.proofs.lemmas.Option.{IfSome_then}
 use Rattle.gx_model.specs.Texts.{Bytes}
 use Rattle.gx_objects.specs.Answers.{FindsRef}
 use Rattle.gx_look.specs.Refs.{AreLines}
-use Rattle.gx_look.proofs.JoinedTexts.{from_place}
+use Rattle.gx_plain.proofs.RoomsRead.{from_place}
 use Rattle.gx_plain.specs.Plain.{told_by}
 use Rattle.gx_plain.proofs.PlainTexts.{lines_tell}
 use Rattle.gx_plain.proofs.plain.PlainObjects.object_of_ref.Goals as goal

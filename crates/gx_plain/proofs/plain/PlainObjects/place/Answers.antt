@@ -1,7 +1,7 @@
 use Rattle.std.proofs.Common.{None, Some, sym, subst}
 use Rattle.std.specs.Prelude.{IfSome}
 use Rattle.gx_objects.specs.Answers.{StandsThere}
-use Rattle.gx_kept.proofs.ListedRecords.{some_listed, within_listed}
+use Rattle.gx_plain.proofs.ListedObjects.{some_listed, within_listed}
 use Rattle.gx_plain.specs.Plain.{places_in, told_by}
 use Rattle.gx_plain.proofs.PlainTexts.{none_tells, place_tells}
 use Rattle.gx_plain.proofs.plain.PlainObjects.place.Goals as goal

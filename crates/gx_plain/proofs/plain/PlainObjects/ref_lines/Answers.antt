@@ -8,8 +8,8 @@ use Rattle.gx_model.specs.Texts.{Bytes}
 use Rattle.gx_model.specs.Stores.StoreText.{stored_ref}
 use Rattle.gx_plain.specs.Plain.{told_by}
 use Rattle.gx_look.specs.Refs.{AreLines}
-use Rattle.gx_look.proofs.CheckedRefs.{lines_of}
-use Rattle.gx_look.proofs.JoinedTexts.{from_place}
+use Rattle.gx_plain.proofs.SoundRefs.{lines_of}
+use Rattle.gx_plain.proofs.RoomsRead.{from_place}
 use Rattle.gx_plain.proofs.PlainTexts.{lines_tell}
 use Rattle.gx_plain.proofs.plain.PlainObjects.ref_lines.Goals as goal
 

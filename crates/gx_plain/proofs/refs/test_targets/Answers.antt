@@ -25,8 +25,8 @@ returns-in_default g c =
     let none = refuses shown_change c.read_ref.result (first_ref rest) c.in_default.field-0 c.read_ref.ensures.change c.read_ref.ensures.memory c.in_default.is in
     refused_tested name c.args.version (g.S.ReadAt.text c.args.source.now) c.args.listing.now c.args.count c.args.lines.now c.loop.counter last rest c.loop.invariant c.loop-test.true (λ text is rs h. no_ref rs last rest c.in_default.field-0 none)
 
-pub returns-in_err-branch : goal.returns-in_err-branch
-returns-in_err-branch g c =
+pub returns-in_err-may_hold : goal.returns-in_err-may_hold
+returns-in_err-may_hold g c =
     let p = err_from_is_err_and c.from_residual.result c.from_residual.ensures.1 in
     rw (p.1, p.2) (untold_tested (g.N.Namer.name_of c.args.namer.now) c.args.version (g.S.ReadAt.text c.args.source.now) c.args.listing.now c.args.count c.args.lines.now c.in-Ok.change c.in_err-may_hold.field-0.0 c.in_err-may_hold.ensures)
 

@@ -27,5 +27,20 @@ loop-number-preserved-then-is_between g c =
     let behind = found_between ends (map (λ one. one.0) (drop (i + 1) listed)) in
     record {
       within = omega (arith, c.loop-number.invariant.within);
-      found = c.with_name.ensures ∙ ap (joined (Unique name)) before ∙ sym (step ∙ ap (λ b. cond b (joined (Unique name) behind) behind) (sym c.is_between.ensures ∙ c.if-is_between.true));
+      found = c.with_name-found.ensures ∙ ap (joined (Unique name)) before ∙ sym (step ∙ ap (λ b. cond b (joined (Unique name) behind) behind) (sym c.is_between.ensures ∙ c.if-is_between.true));
+    }
+
+pub loop-number-preserved : goal.loop-number-preserved
+loop-number-preserved g c =
+    let ends = c.args.ends.now in
+    let listed = c.args.listing.now in
+    let i = c.loop-number.number - 1 in
+    let name = c.in-Some.name in
+    let next : i + 1 ≡ c.loop-number.number = omega (arith, c.loop-number-test.true) in
+    let before = c.loop-number.invariant.found ∙ ap (λ n. found_between ends (map (λ one. one.0) (drop n listed))) (sym next) in
+    let step = found_step ends listed i (name, c.in-Some._standing) (sym c.in-Some.ensures) in
+    let behind = found_between ends (map (λ one. one.0) (drop (i + 1) listed)) in
+    record {
+      within = omega (arith, c.loop-number.invariant.within);
+      found = before ∙ sym (step ∙ ap (λ b. cond b (joined (Unique name) behind) behind) (sym c.is_between.ensures ∙ c.if-is_between.false));
     }

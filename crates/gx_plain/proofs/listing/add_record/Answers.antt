@@ -21,7 +21,7 @@ returns-then-not-is_stated g c = λ rs h.
     let name = g.N.Namer.name_of c.args.namer.now in
     let found = c.in_ok-found.found in
     let room = c.read_parts.new.room.items in
-    let named = c.name.ensures ∙ ap (λ z. name found.kind (body_in z found)) c.as_slice.ensures.value in
+    let named = c.name-name.ensures ∙ ap (λ z. name found.kind (body_in z found)) c.as_slice.ensures.value in
     let other = ap (is_stated (bytes_if found.stated)) (sym named) ∙ sym c.is_stated.ensures ∙ c.if-not-is_stated.true in
     misnamed_told name c.args.version (g.S.ReadAt.text c.args.source.now) c.args.place rs c.args.listing.now c.args.rooms.now.items h room found c.in_ok-found.ensures.within c.in_ok-found.ensures.parts other
 
@@ -34,7 +34,7 @@ returns-in_default g c = λ rs h.
     let found = c.in_ok-found.found in
     let room = c.read_parts.new.room.items in
     let old = c.args.listing.now in
-    let named = c.name.ensures ∙ ap (λ z. name found.kind (body_in z found)) c.as_slice.ensures.value in
+    let named = c.name-name.ensures ∙ ap (λ z. name found.kind (body_in z found)) c.as_slice.ensures.value in
     let stated = ap (is_stated (bytes_if found.stated)) (sym named) ∙ sym c.is_stated.ensures ∙ c.if-not-is_stated.false in
     let checked = subst (λ (rooms : List ℕ). ChecksBody old rooms found.kind (body_in c.as_slice.result.now found) None) c.as_slice-2.ensures.value c.in_default.ensures in
     refused_told name c.args.version (g.S.ReadAt.text c.args.source.now) c.args.place rs old c.args.rooms.now.items h room found c.in_ok-found.ensures.within c.in_ok-found.ensures.parts stated
@@ -52,7 +52,7 @@ returns-then-not-branch g c = λ rs h.
     let room = c.read_parts.new.room.items in
     let old = c.args.listing.now in
     let below = c.in-Some.below in
-    let named = c.name.ensures ∙ ap (λ z. name found.kind (body_in z found)) c.as_slice.ensures.value in
+    let named = c.name-name.ensures ∙ ap (λ z. name found.kind (body_in z found)) c.as_slice.ensures.value in
     let stated = ap (is_stated (bytes_if found.stated)) (sym named) ∙ sym c.is_stated.ensures ∙ c.if-not-is_stated.false in
     let checked = subst (λ (rooms : List ℕ). ChecksBody old rooms found.kind (body_in c.as_slice.result.now found) (Some below)) c.as_slice-2.ensures.value c.in-Some.ensures in
     let fine = subst (λ (z : Bytes). ChecksBody old c.args.rooms.now.items found.kind (body_in z found) (Some below)) c.as_slice.ensures.value checked in
@@ -77,13 +77,13 @@ returns g c = λ rs h.
     let old = c.args.listing.now in
     let rooms = c.args.rooms.now.items in
     let below = c.in-Some.below in
-    let named = c.name.ensures ∙ ap (λ z. name found.kind (body_in z found)) c.as_slice.ensures.value in
+    let named = c.name-name.ensures ∙ ap (λ z. name found.kind (body_in z found)) c.as_slice.ensures.value in
     let size = ap (λ z. length (body_in z found)) c.as_slice.ensures.value in
     let stated = ap (is_stated (bytes_if found.stated)) (sym named) ∙ sym c.is_stated.ensures ∙ c.if-not-is_stated.false in
     let checked = subst (λ (rs : List ℕ). ChecksBody old rs found.kind (body_in c.as_slice.result.now found) (Some below)) c.as_slice-2.ensures.value c.in-Some.ensures in
     let fine = subst (λ (z : Bytes). ChecksBody old rooms found.kind (body_in z found) (Some below)) c.as_slice.ensures.value checked in
     let pushed = rw c.if-not-branch.false at c.in_ok-push.ensures.pushes in
-    let one : Listed = (c.name.result, record { place = c.args.place; kind = found.kind; length = length (body_in c.as_slice.result.now found) }) in
+    let one : Listed = (c.name-name.result, record { place = c.args.place; kind = found.kind; length = length (body_in c.as_slice.result.now found) }) in
     let new = ap (number_named old) (sym named) ∙ pushed.1 in
     let head : shown_head one ≡ head_of (record_for name found.kind (body_in room found)) = λ i. record { name = named i; kind = found.kind; size = size i } in
     subst (λ (more : List ℕ). IsOneMore name c.args.version told c.args.place old c.push.new.self more rs (end_of c.args.place found)) (sym c.in_ok-push-2.ensures.items)

@@ -1,4 +1,5 @@
 use Rattle.std.proofs.Common.{Ok, sym}
+use Rattle.gx_listed.specs.Listings.{Listed}
 use Rattle.gx_plain.proofs.ListedObjects.{some_listed, within_listed}
 use Rattle.gx_plain.proofs.RefTargets.{commit_target, each_target, no_target, other_target, tag_tells, target_of}
 use Rattle.gx_plain.proofs.refs.may_hold.Goals as goal
@@ -23,7 +24,7 @@ returns-in-Blob g c =
     let listed = c.args.listing.now in
     let ref = change.name.now in
     let n = change.target.bytes in
-    let one = (c.in-Some-get._name, c.in-Some-get.standing) in
+    let one : Listed = (c.in-Some-get._name, c.in-Some-get.standing) in
     each_target name c.args.version (g.S.ReadAt.text c.args.source.now) listed change _ (λ text is rs h.
     other_target name c.args.version text listed rs h ref n one (target_of name c.args.version text listed rs h ref n c.in-Some.number one c.in-Some.ensures (sym c.in-Some-get.ensures)) c.in-Blob.is)
 
@@ -34,7 +35,7 @@ returns-in-Commit g c =
     let listed = c.args.listing.now in
     let ref = change.name.now in
     let n = change.target.bytes in
-    let one = (c.in-Some-get._name, c.in-Some-get.standing) in
+    let one : Listed = (c.in-Some-get._name, c.in-Some-get.standing) in
     each_target name c.args.version (g.S.ReadAt.text c.args.source.now) listed change _ (λ text is rs h.
     commit_target name c.args.version text listed rs h ref n one (target_of name c.args.version text listed rs h ref n c.in-Some.number one c.in-Some.ensures (sym c.in-Some-get.ensures)) c.in-Commit.is)
 

@@ -11,16 +11,16 @@ use Rattle.gx_plain.proofs.refs.read_tail.Goals as goal
 pub returns-in_err-read_front-clause-tail : goal.returns-in_err-read_front-clause-tail
 returns-in_err-read_front-clause-tail g c =
     let p = err_from_is_err_and c.from_residual.result c.from_residual.ensures.1 in
-    rw (p.1, p.2) (unknown_tail _ (g.N.Namer.name_of c.args.namer.now) (g.met.N.Namer.is_namer c.args.namer.now) c.args.version c.args.listing.now c.args.place c.read_front.new.text.items (g.S.ReadAt.text c.args.source.now) c.in_err-read_front.field-0.0 c.in_err-read_front.ensures.fault)
+    rw (p.1, p.2) (unknown_tail _ (g.N.Namer.name_of c.args.namer.now) (g.met.N.Namer.is_namer c.args.namer.now) c.args.version c.args.listing.now c.args.place c.read_front.new.room.items (g.S.ReadAt.text c.args.source.now) c.in_err-read_front.field-0.0 c.in_err-read_front.ensures.fault)
 
 pub returns-then-len-left-clause-tail : goal.returns-then-len-left-clause-tail
 returns-then-len-left-clause-tail g c =
-    unknown_tail _ (g.N.Namer.name_of c.args.namer.now) (g.met.N.Namer.is_namer c.args.namer.now) c.args.version c.args.listing.now c.args.place c.read_front.new.text.items (g.S.ReadAt.text c.args.source.now) _ (λ e. cc)
+    unknown_tail _ (g.N.Namer.name_of c.args.namer.now) (g.met.N.Namer.is_namer c.args.namer.now) c.args.version c.args.listing.now c.args.place c.read_front.new.room.items (g.S.ReadAt.text c.args.source.now) _ (λ e. cc)
 
 pub returns-in_default-clause-tail : goal.returns-in_default-clause-tail
 returns-in_default-clause-tail g c =
     let told = g.S.ReadAt.text c.args.source.now in
-    let room = c.read_front.new.text.items in
+    let room = c.read_front.new.room.items in
     let within = c.in_ok-read_front.ensures.within in
     let long : c.len.result ≡ length room = search rules in
     let rest : (text : Bytes) → told ≡ Some text → room ≡ drop c.args.place text = rest_is told c.args.place (18446744073709551615 - c.args.place) room c.in_ok-read_front.ensures.front (grind (arith, within, long, c.if-len-left.false)) in
@@ -30,7 +30,7 @@ returns-in_default-clause-tail g c =
 pub returns-then-not-are_refs-clause-tail : goal.returns-then-not-are_refs-clause-tail
 returns-then-not-are_refs-clause-tail g c =
     let told = g.S.ReadAt.text c.args.source.now in
-    let room = c.read_front.new.text.items in
+    let room = c.read_front.new.room.items in
     let within = c.in_ok-read_front.ensures.within in
     let long : c.len.result ≡ length room = search rules in
     let rest : (text : Bytes) → told ≡ Some text → room ≡ drop c.args.place text = rest_is told c.args.place (18446744073709551615 - c.args.place) room c.in_ok-read_front.ensures.front (grind (arith, within, long, c.if-len-left.false)) in
@@ -40,7 +40,7 @@ returns-then-not-are_refs-clause-tail g c =
 
 pub overflow_sub-refs : goal.overflow_sub-refs
 overflow_sub-refs g c =
-    let room = c.read_front.new.text.items in
+    let room = c.read_front.new.room.items in
     let last = lines_last room c.in-Ok.count c.in-Ok.lines.now (ap (stored_count (codes "refs")) (sym c.as_slice.ensures.value) ∙ c.in-Ok.ensures.count) in
     let size : c.len-2.result ≡ length room = search rules in
     omega (arith, size, last.0)
@@ -48,7 +48,7 @@ overflow_sub-refs g c =
 pub returns-in_err-test_targets-clause-tail : goal.returns-in_err-test_targets-clause-tail
 returns-in_err-test_targets-clause-tail g c =
     let told = g.S.ReadAt.text c.args.source.now in
-    let room = c.read_front.new.text.items in
+    let room = c.read_front.new.room.items in
     let within = c.in_ok-read_front.ensures.within in
     let long : c.len.result ≡ length room = search rules in
     let rest : (text : Bytes) → told ≡ Some text → room ≡ drop c.args.place text = rest_is told c.args.place (18446744073709551615 - c.args.place) room c.in_ok-read_front.ensures.front (grind (arith, within, long, c.if-len-left.false)) in
@@ -58,7 +58,7 @@ returns-in_err-test_targets-clause-tail g c =
 
 pub returns-clause-lines : goal.returns-clause-lines
 returns-clause-lines g c =
-    let room = c.read_front.new.text.items in
+    let room = c.read_front.new.room.items in
     let last = lines_last room c.in-Ok.count c.in-Ok.lines.now (ap (stored_count (codes "refs")) (sym c.as_slice.ensures.value) ∙ c.in-Ok.ensures.count) in
     let size : c.len-2.result ≡ length room = search rules in
     record {
@@ -69,7 +69,7 @@ returns-clause-lines g c =
 pub returns-clause-tail : goal.returns-clause-tail
 returns-clause-tail g c =
     let told = g.S.ReadAt.text c.args.source.now in
-    let room = c.read_front.new.text.items in
+    let room = c.read_front.new.room.items in
     let within = c.in_ok-read_front.ensures.within in
     let long : c.len.result ≡ length room = search rules in
     let rest : (text : Bytes) → told ≡ Some text → room ≡ drop c.args.place text = rest_is told c.args.place (18446744073709551615 - c.args.place) room c.in_ok-read_front.ensures.front (grind (arith, within, long, c.if-len-left.false)) in

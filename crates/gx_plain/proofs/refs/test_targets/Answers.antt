@@ -69,8 +69,8 @@ returns-then-eq g c =
     let ends : c.loop.rest.now ≡ codes "end" ++ 10 ∷ [] = same_is c.loop.rest.now c.as_slice.result.now (passes _ (sym c.eq.ensures ∙ c.if-eq.true)) ∙ c.as_slice.ensures in
     all_tested (g.N.Namer.name_of c.args.namer.now) c.args.version (g.S.ReadAt.text c.args.source.now) c.args.listing.now c.args.count c.args.lines.now c.loop.counter last c.loop.rest.now c.loop.invariant (omega (arith, c.loop-test.false)) ends
 
-pub returns-else-eq : goal.returns-else-eq
-returns-else-eq g c =
+pub returns : goal.returns
+returns g c =
     let last = option_map (λ last. last.now) c.loop.last in
     let other = unlike c.loop.rest.now c.as_slice.result.now (sym c.eq.ensures ∙ c.if-eq.false) in
     other_end (g.N.Namer.name_of c.args.namer.now) c.args.version (g.S.ReadAt.text c.args.source.now) c.args.listing.now c.args.count c.args.lines.now c.loop.counter last c.loop.rest.now c.loop.invariant (omega (arith, c.loop-test.false)) (λ same. other (same ∙ sym c.as_slice.ensures))

@@ -1,6 +1,7 @@
 use Rattle.std.proofs.Common.{None, Some, sym, subst}
 use Rattle.std.specs.Prelude.{IfSome}
 use Rattle.gx_objects.specs.Answers.{StandsThere}
+use Rattle.gx_listed.specs.Listings.{Listed}
 use Rattle.gx_plain.proofs.ListedObjects.{some_listed, within_listed}
 use Rattle.gx_plain.specs.Plain.{places_in, told_by}
 use Rattle.gx_plain.proofs.PlainTexts.{none_tells, place_tells}
@@ -17,7 +18,7 @@ pub returns-in-Some-get-clause-place : goal.returns-in-Some-get-clause-place
 returns-in-Some-get-clause-place g c =
     let it = c.self.inside in
     let n = c.args.name.now.bytes in
-    let one = (c.in-Some-get._name, c.in-Some-get.standing) in
+    let one : Listed = (c.in-Some-get._name, c.in-Some-get.standing) in
     subst (λ v. IfSome (told_by (g.N.Namer.name_of v.0) v.1) (λ r. StandsThere (places_in (g.N.Namer.name_of v.0) v.1) n r (Some c.in-Some-get.standing.place))) c.self.view_is
     (place_tells (g.N.Namer.name_of it.namer) (g.S.ReadAt.text it.source) it.version it.listing it.tail c.self.invariant n c.in-Some.number one c.in-Some.ensures (sym c.in-Some-get.ensures))
 

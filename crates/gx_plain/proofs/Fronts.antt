@@ -70,12 +70,6 @@ module _ (told : Option Bytes) (at : ℕ) (old made whole new post behind : Byte
       let room = came_room ∙ ap (λ n. old ++ take n new) none ∙ append-nil old in
       subst (IsFrontAt told at count) (sym room) (front_short told at count came old new f (omega (arith, h, d)) (subst (λ n. ReadsAt told (at + n) new (Ok came)) d r) none)
 
-  pub came_long : came ≤ more → length (take (done + came) (take size ((take done whole ++ (new ++ post)) ++ behind))) ≡ done + came
-  came_long c =
-      let a = ap length came_room ∙ length-append old (take came new) in
-      let b = length-take-le came new (omega arith) in
-      omega arith
-
   pub came_there : came ≤ more → StandsAt told at old → ReadsAt told (at + done) new (Ok came) → StandsAt told at (take (done + came) (take size ((take done whole ++ (new ++ post)) ++ behind)))
   came_there c f r =
       subst (StandsAt told at) (sym came_room) (both_stand told at old (take came new) f (subst (λ i. StandsAt told (at + i) (take came new)) d (came_stands told (at + done) came new r (omega arith))))

@@ -1,5 +1,5 @@
 -- What was read of a text into a room, and where a text ends before.
-use Rattle.std.proofs.Common.{◌≡◌, ◌≢◌, ℕ, ◌+◌, ◌-◌, ◌++◌, length, replicate, take, drop, append_assoc, Option, Some, None, refl, sym, ap, ◌∙◌, arith}
+use Rattle.std.proofs.Common.{◌≡◌, ◌≢◌, ℕ, ◌+◌, ◌-◌, ◌++◌, length, replicate, take, drop, append_assoc, Option, Some, None, sym, ap, ◌∙◌, arith}
 use Rattle.std.specs.Prelude.{Bool, true, false, not}
 use Rattle.std.proofs.Math.Seq.{drop-append_seam, drop-drop, take-add}
 use Rattle.std.proofs.lemmas.List.{length-append, length-drop, take_all, take_at}

@@ -31,14 +31,6 @@ module _ (name : Kind → Bytes → Bytes) (v : Version) (told : Option Bytes) (
   pub begun_tested : FarIfTold 0 None lines
   begun_tested = each (λ text. (rs : List Record) → AreTold name v text listed rs → AreFar rs count lines 0 None lines) (λ text e rs h. none_far rs count lines)
 
-  -- other faults tell nothing of the text
-  pub unknown_tested : (why : LookFault) → why ≢ Damaged → TestsTargets name v told listed count lines (Err why)
-  unknown_tested why other = by told
-    where
-      by : (o : Option Bytes) → TestsTargets name v o listed count lines (Err why)
-      by None = tt
-      by (Some text) = λ rs h same. absurd (other same)
-
   -- what isn't told of one ref isn't of all
   pub untold_tested : (change : RefChange) (why : LookFault) → TellsTarget name v told listed change (Err why) → TestsTargets name v told listed count lines (Err why)
   untold_tested change why h = by told h

@@ -1,6 +1,5 @@
-use Rattle.std.proofs.Common.{◌≡◌, ◌≢◌, ◌<◌, length, get_or, rules, arith}
+use Rattle.std.proofs.Common.{◌<◌, length, rules, arith}
 use Rattle.gx_model.specs.declared.objects.Kind.TheVariants as kinds
-use Rattle.gx_model.specs.declared.objects.Mode.TheVariants.{Dir, Gitlink}
 use Rattle.gx_object.specs.Entries.{shown}
 use Rattle.gx_plain.proofs.Checks.{empty_looked, file_looked, full_looked, link_looked, no_directory, no_file, room_small, room_within}
 use Rattle.gx_plain.proofs.checking.entry_room.Goals as goal

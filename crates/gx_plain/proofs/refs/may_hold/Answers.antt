@@ -1,4 +1,4 @@
-use Rattle.std.proofs.Common.{Ok, sym}
+use Rattle.std.proofs.Common.{sym}
 use Rattle.gx_listed.specs.Listings.{Listed}
 use Rattle.gx_plain.proofs.ListedObjects.{some_listed, within_listed}
 use Rattle.gx_plain.proofs.RefTargets.{commit_target, each_target, no_target, other_target, tag_tells, target_of}

@@ -1,4 +1,4 @@
-use Rattle.std.proofs.Common.{◌≡◌, ◌≢◌, false, true, ◌++◌, ◌∷◌, [], codes, sym, ap, ◌∙◌, arith}
+use Rattle.std.proofs.Common.{◌≡◌, ◌≢◌, false, true, ◌++◌, ◌∷◌, [], codes, sym, ◌∙◌, arith}
 use Rattle.std.specs.Bool.{passes}
 use Rattle.std.specs.Option.{option_map}
 use Rattle.std.proofs.lemmas.Result.{err_from_is_err_and}

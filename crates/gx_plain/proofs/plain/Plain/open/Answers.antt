@@ -1,4 +1,3 @@
-use Rattle.std.proofs.Common.{refl, sym, ap, ◌∙◌}
 use Rattle.std.proofs.lemmas.Result.{err_from_is_err_and}
 use Rattle.gx_plain.proofs.WholeTexts.{read_ok, read_whole, records_untold, start_untold, tail_untold}
 use Rattle.gx_plain.proofs.plain.Plain.open.Goals as goal

@@ -17,9 +17,10 @@ from pathlib import Path
 
 import pytest
 
-from failing import needs_faults
+from failing import Call, needs_faults, run_watched
 from growing_reading import read
-from growing_texts import GrowingText, Record, with_runs
+from growing_texts import HEAD, UNUSED, GrowingText, Record, Run, head, page_digests
+from growing_texts import sha256, slot, tail, with_runs
 from programs import Done, Program, counted
 from stops import Ender, ended_at
 from store_files import NEW, OLD, named
@@ -218,3 +219,44 @@ def test_each_call(
         assert gx.prints("gc", store) == b""
         assert store.read_bytes() == left and not new.exists()
         counted["calls of gc that failed"] += 1
+
+
+@needs_faults
+def test_taken_away(gx: Program, tmp_path: Path) -> None:
+    """Who removes FILE.new by hand, where another run then makes its own, has gc fail."""
+    store = grown(gx, tmp_path, NEW)
+    text, new = store.read_bytes(), store.with_name("grown.new")
+
+    def judge(call: Call) -> int:
+        if call.place() == str(new) and new.exists() and new.stat().st_size:
+            new.unlink()
+            new.touch()
+        return 0
+
+    words = [gx.path, "gc", store]
+    done = run_watched(words, ["fsync", "statx"], judge, b"", 60, env=gx.environment)
+    assert done == Done(1, b"", b"gx: write failed\n")
+    assert store.read_bytes() == text
+
+
+def test_objects_in_objects(gx: Program, tmp_path: Path) -> None:
+    """A text whose rows lead into bodies doesn't grow by gc: it is damaged."""
+    inner = Record(b"blob", bytes.fromhex(named("blob", b"")), b"")
+    body = inner.text() * 2
+    outer = Record(b"blob", bytes.fromhex(named("blob", body)), body)
+    whole, store, keep = GrowingText(), tmp_path / "store", tmp_path / "keep"
+    whole.append([outer], {})
+    place = whole.text().index(inner.text())
+    rows = [whole.rows_of(whole.runs[0]), inner.name + place.to_bytes(8, "big")]
+    table = b"".join(sorted(rows))
+    front = whole.text()[HEAD : whole.text().index(b"rows 1\n")] + b"rows 2\n"
+    pages = page_digests(table, sha256)
+    run = Run(HEAD + len(front), 2, sha256(pages))
+    last = tail([run], {})
+    start = run.place + len(table) + len(pages) + 1
+    ends = slot(start + len(last), start, sha256(last))
+    store.write_bytes(head(b"a", ends, UNUSED) + front + table + pages + b"\n" + last)
+    keep.write_bytes(b"".join(b"%s\n" % record.name.hex().encode() for record in (inner, outer)))
+    text = store.read_bytes()
+    assert gx("gc", "--keep", keep, store) == Done(1, b"", b"gx: store: Damaged\n")
+    assert store.read_bytes() == text

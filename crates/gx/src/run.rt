@@ -228,8 +228,8 @@ impl<'a> Run<'a> {
     }
 
     /// Tells why the run is refused, in a line. Where it is to be explained, further ones tell where the fault of a stream stands and
-    /// what it or a line of a push is about, and the file and the system's cause of what couldn't be read, written or locked;
-    /// the one that is written may be another. Whoever closed the pipe that is written into isn't told.
+    /// what it or a line of a push is about, what helps with a damaged store, and the file and the system's cause of what couldn't be
+    /// read, written or locked; the one that is written may be another. Whoever closed the pipe that is written into isn't told.
     pub(crate) fn tell(&self, fault: &RunFault, file: Option<&str>, written: Option<&str>) {
         let cause = self.cause.get();
         let is_cut_off = has_closed_pipe(&cause);
@@ -239,6 +239,9 @@ impl<'a> Run<'a> {
         let _ = eprintln!(self.rt; "{fault}");
         if fault.is_of_import() {
             self.tell_explanation();
+        }
+        if self.explains.get() && matches!(fault, RunFault::Damaged) {
+            self.tell_help(file.unwrap_or("-"));
         }
         if let Some(cause) = &cause {
             if self.explains.get() && !is_cut_off {
@@ -269,6 +272,14 @@ impl<'a> Run<'a> {
         if let Some(lines) = self.explanation.replace(None) {
             let _ = self.rt.stderr().write_all(&lines);
         }
+    }
+
+    /// Tells what helps with a growing store that is damaged.
+    fn tell_help(&self, file: &str) {
+        let file = self.shown(file, "");
+        let _ = eprintln!(self.rt;
+            "gx: gx verify {file} tells the first fault, and gx verify --salvage NEW {file} saves refs"
+        );
     }
 
     fn tell_cause(&self, cause: &Cause, file: &str) {

@@ -94,6 +94,11 @@ pub(crate) fn first_word(text: &[u8]) -> (&[u8], &[u8]) {
 /// The parts of a text between bytes of this value, as far as there is memory.
 pub(crate) fn parts_of(alloc: Global, text: &[u8], at: u8) -> Vec<&[u8]> {
     let mut parts = Vec::new(alloc);
+    put_parts(&mut parts, text, at);
+    parts
+}
+
+fn put_parts<'a>(parts: &mut Vec<&'a [u8]>, text: &'a [u8], at: u8) {
     let mut rest = text;
     for _ in 0..text.len() {
         let Some((part, behind)) = cut(rest, at) else {
@@ -103,7 +108,6 @@ pub(crate) fn parts_of(alloc: Global, text: &[u8], at: u8) -> Vec<&[u8]> {
         rest = behind;
     }
     let _ = parts.push(rest);
-    parts
 }
 
 /// The number that digits are, and 0 where they are none.

@@ -15,8 +15,8 @@ mod stores;
 mod texts;
 mod trees;
 
-use notation::steps_of;
-use running::first_wrong;
+use notation::{Step, put_steps};
+use running::{Wrong, first_wrong};
 use std::alloc::AllocError;
 use std::hash::RandomState;
 use std::process::ExitCode;
@@ -60,20 +60,59 @@ fn put_name(rt: &HostRuntime, names: &mut Vec<String>, name: &str) -> Result<(),
 /// Answers whether all comes so.
 fn run_file(rt: &HostRuntime, name: &str, state: RandomState) -> io::Result<bool> {
     let text = fs::read_to_string(rt, name)?;
-    let steps = steps_of(rt.alloc(), text.as_str())?;
-    match first_wrong(rt.alloc(), &steps, state)? {
-        None => {
-            let scripts = match steps.last() {
-                Some(step) => step.script,
-                None => 0,
-            };
-            let calls = steps.len().saturating_sub(scripts);
-            println!(rt; "{name}: scripts: {scripts}, calls: {calls}")?;
-            Ok(true)
-        }
-        Some(wrong) => {
-            println!(rt; "{name}:{wrong}")?;
-            Ok(false)
-        }
+    let mut steps = Vec::new(rt.alloc());
+    put_steps(&mut steps, text.as_str())?;
+    run_steps(rt, name, &steps, state)
+}
+
+/// The same of the steps of a file.
+fn run_steps(
+    rt: &HostRuntime,
+    name: &str,
+    steps: &[Step<'_>],
+    state: RandomState,
+) -> io::Result<bool> {
+    let mut got = Vec::new(rt.alloc());
+    let wrong = first_wrong(rt.alloc(), steps, state, &mut got)?;
+    match wrong {
+        None => print_counts(rt, name, steps)?,
+        Some(wrong) => print_wrong(rt, name, steps, wrong, &got)?,
     }
+    Ok(wrong.is_none())
+}
+
+/// Prints how many scripts and calls a file has.
+fn print_counts(rt: &HostRuntime, name: &str, steps: &[Step<'_>]) -> io::Result<()> {
+    let scripts = match steps.last() {
+        Some(step) => step.script,
+        None => 0,
+    };
+    let calls = steps.len().saturating_sub(scripts);
+    println!(rt; "{name}: scripts: {scripts}, calls: {calls}")
+}
+
+/// Prints what is to come of a step, and what comes.
+fn print_wrong(
+    rt: &HostRuntime,
+    name: &str,
+    steps: &[Step<'_>],
+    wrong: Wrong,
+    got: &[u8],
+) -> io::Result<()> {
+    let Some(step) = steps.get(wrong.place) else {
+        return Ok(());
+    };
+    let (number, line, nth) = (step.number, step.line, wrong.nth);
+    println!(rt; "{name}:{number}: {line}\n(growth {nth} is refused)\nexpected:")?;
+    let mut expected = Vec::new(rt.alloc());
+    step.put_answer(&mut expected)?;
+    print_bytes(rt, &expected)?;
+    println!(rt; "got:")?;
+    print_bytes(rt, got)
+}
+
+/// Prints bytes that are a text, more or less.
+fn print_bytes(rt: &HostRuntime, bytes: &[u8]) -> io::Result<()> {
+    let text = String::from_utf8_lossy(rt.alloc(), bytes)?;
+    println!(rt; "{text}")
 }

@@ -2,7 +2,7 @@
 //! docs/TESTING.md tells it.
 
 use gx_text::{cut, decimal};
-use std::alloc::{AllocError, Global};
+use std::alloc::AllocError;
 
 /// The end of the title of a script whose objects have the names that `ShortNamer` gives them.
 const SHORT_NAMES: &str = " (short names)";
@@ -22,8 +22,8 @@ pub(crate) enum Part {
     Done,
 }
 
-/// A title, or a call with what is to come of it.
-#[derive(Drop)]
+/// A title, or a call with what is to come of it, as their text has them.
+#[derive(Clone, Copy)]
 pub(crate) struct Step<'a> {
     pub(crate) part: Part,
     /// The number of its script; 0 before the first.
@@ -33,10 +33,10 @@ pub(crate) struct Step<'a> {
     pub(crate) line: &'a str,
     /// The call's name.
     pub(crate) word: &'a str,
-    /// What the call is given.
-    pub(crate) given: Vec<u8>,
-    /// What is to be answered.
-    pub(crate) answer: Vec<u8>,
+    given: &'a str,
+    answer: &'a str,
+    /// What stands behind its line.
+    behind: &'a str,
     pub(crate) has_short_names: bool,
 }
 
@@ -65,36 +65,52 @@ impl<'a> Step<'a> {
         is_part && (self.script == 0 || self.script == script)
     }
 
-    /// Whether this is what is to be answered.
-    pub(crate) fn is_answer(&self, answer: &[u8]) -> bool {
-        if self.answer.is_empty() {
-            answer == b"done".as_slice()
-        } else {
-            answer == self.answer.as_slice()
-        }
+    /// Puts what the call is given.
+    pub(crate) fn put_given(&self, given: &mut Vec<u8>) -> Result<(), AllocError> {
+        put_read(given, self.given)?;
+        put_lines(given, self.behind, '|')
     }
 
-    /// Takes a line behind the call or the title.
-    fn take(&mut self, line: &'a str) -> Result<(), AllocError> {
-        if let Some(given) = line.strip_prefix('|') {
-            put_line(&mut self.given, given)?;
-        } else if let Some(answer) = line.strip_prefix('=') {
-            put_line(&mut self.answer, answer)?;
+    /// Puts what is to be answered.
+    pub(crate) fn put_answer(&self, answer: &mut Vec<u8>) -> Result<(), AllocError> {
+        put_read(answer, self.answer)?;
+        put_lines(answer, self.behind, '=')?;
+        if answer.is_empty() {
+            answer.extend_from_slice(b"done")?;
         }
         Ok(())
     }
 }
 
-/// Puts the bytes that a line stands for behind others, and a line feed between them.
-fn put_line(bytes: &mut Vec<u8>, line: &str) -> Result<(), AllocError> {
-    if !bytes.is_empty() {
-        bytes.push(b'\n')?;
+/// Puts the bytes that the lines with this mark stand for behind others, up to the next call or
+/// title, and a line feed between them.
+fn put_lines(bytes: &mut Vec<u8>, lines: &str, mark: char) -> Result<(), AllocError> {
+    for line in lines.split('\n') {
+        if part_of(line).is_some() {
+            return Ok(());
+        }
+        if let Some(text) = line.strip_prefix(mark) {
+            if !bytes.is_empty() {
+                bytes.push(b'\n')?;
+            }
+            put_read(bytes, text.strip_prefix(' ').unwrap_or(text))?;
+        }
     }
-    put_read(bytes, line.strip_prefix(' ').unwrap_or(line))
+    Ok(())
+}
+
+/// When the step of a line is taken, and what stands behind its mark, if it has one.
+fn part_of(line: &str) -> Option<(Part, &str)> {
+    if let Some(title) = line.strip_prefix("# ") {
+        return Some((Part::Title, title));
+    }
+    let call = line.strip_prefix('$')?;
+    let (mark, call) = call.split_once(' ').unwrap_or((call, ""));
+    Some((marked(mark), call))
 }
 
 /// When a step is taken whose call has this mark.
-fn part_of(mark: &str) -> Part {
+fn marked(mark: &str) -> Part {
     if let Some(tried) = mark.strip_prefix('?') {
         let least = tried.strip_suffix('+');
         let count = decimal(least.unwrap_or(tried).as_bytes()).unwrap_or(0);
@@ -107,58 +123,47 @@ fn part_of(mark: &str) -> Part {
     }
 }
 
-/// The step of a line with this mark.
-fn step_of<'a>(
-    alloc: Global,
-    part: Part,
-    line: &'a str,
-    text: &'a str,
-) -> Result<Step<'a>, AllocError> {
+/// The step of a line, if it begins one, with what stands behind the line.
+fn step_of<'a>(line: &'a str, behind: &'a str) -> Option<Step<'a>> {
+    let (part, text) = part_of(line)?;
     let (call, answer) = text.split_once(" = ").unwrap_or((text, ""));
     let (word, given) = call.split_once(' ').unwrap_or((call, ""));
-    let mut step = Step {
+    Some(Step {
         part,
         script: 0,
         number: 0,
         line,
         word,
-        given: Vec::new(alloc),
-        answer: Vec::new(alloc),
+        given,
+        answer,
+        behind,
         has_short_names: false,
-    };
-    put_read(&mut step.given, given)?;
-    put_read(&mut step.answer, answer)?;
-    Ok(step)
+    })
 }
 
-/// The steps of a file's text.
-pub(crate) fn steps_of<'a>(alloc: Global, text: &'a str) -> Result<Vec<Step<'a>>, AllocError> {
-    let mut steps: Vec<Step<'a>> = Vec::new(alloc);
+/// Puts the steps of a file's text.
+pub(crate) fn put_steps<'a>(steps: &mut Vec<Step<'a>>, text: &'a str) -> Result<(), AllocError> {
+    let mut rest = text;
     let mut script = 0usize;
     let mut has_short_names = false;
-    for (place, line) in text.split('\n').enumerate() {
-        let step = if let Some(title) = line.strip_prefix("# ") {
-            script = script.saturating_add(1);
-            has_short_names = title.ends_with(SHORT_NAMES);
-            step_of(alloc, Part::Title, line, title)?
-        } else if let Some(call) = line.strip_prefix('$') {
-            let (mark, call) = call.split_once(' ').unwrap_or((call, ""));
-            step_of(alloc, part_of(mark), line, call)?
-        } else {
-            if let Some(step) = steps.last_mut() {
-                step.take(line)?;
+    for place in 0..text.len() {
+        let (line, behind) = rest.split_once('\n').unwrap_or((rest, ""));
+        rest = behind;
+        if let Some(step) = step_of(line, behind) {
+            if let Part::Title = step.part {
+                script = script.saturating_add(1);
+                has_short_names = line.ends_with(SHORT_NAMES);
             }
-            continue;
-        };
-        let number = place.saturating_add(1);
-        steps.push(Step {
-            script,
-            number,
-            has_short_names,
-            ..step
-        })?;
+            let number = place.saturating_add(1);
+            steps.push(Step {
+                script,
+                number,
+                has_short_names,
+                ..step
+            })?;
+        }
     }
-    Ok(steps)
+    Ok(())
 }
 
 /// Puts the bytes that a line stands for: `\xHH` is the byte with these two digits, and `\xHH{N}`

@@ -105,7 +105,8 @@ fn encode_again<N: Namer>(room: &mut Room<'_>, namer: &N, body: &[u8]) {
     ) else {
         return room.word("no identity");
     };
-    let parents = parents_of(room.alloc, &commit);
+    let mut parents = Vec::new(room.alloc);
+    put_parents(&mut parents, &commit);
     let parts = CommitParts {
         tree: commit.tree(),
         parents: &parents,
@@ -121,14 +122,12 @@ fn encode_again<N: Namer>(room: &mut Room<'_>, namer: &N, body: &[u8]) {
     }
 }
 
-fn parents_of(alloc: Global, commit: &CommitView<'_>) -> Vec<Name> {
-    let mut parents = Vec::new(alloc);
+fn put_parents(parents: &mut Vec<Name>, commit: &CommitView<'_>) {
     for place in 0..commit.parent_count() {
         if let Some(parent) = commit.parent(place) {
             let _ = parents.push(parent);
         }
     }
-    parents
 }
 
 /// The same of a tag's body.
@@ -151,9 +150,15 @@ fn encode_tag_again<N: Namer>(room: &mut Room<'_>, namer: &N, body: &[u8]) {
 
 /// The entries of lines, each with a mode, a component and the digits of a name.
 fn entries_of(alloc: Global, lines: &[u8]) -> Vec<Entry<'_>> {
+    let lines = parts_of(alloc, lines, b'\n');
     let mut entries = Vec::new(alloc);
-    for line in &parts_of(alloc, lines, b'\n') {
-        let (mode, rest) = first_word(line);
+    put_entries(&mut entries, &lines);
+    entries
+}
+
+fn put_entries<'a>(entries: &mut Vec<Entry<'a>>, lines: &[&'a [u8]]) {
+    for line in lines {
+        let (mode, rest) = first_word(*line);
         let (component, digits) = first_word(rest);
         if let Some(name) = Name::read(digits) {
             let mode = mode_of(mode);
@@ -164,7 +169,6 @@ fn entries_of(alloc: Global, lines: &[u8]) -> Vec<Entry<'_>> {
             });
         }
     }
-    entries
 }
 
 /// The mode of six digits.
@@ -181,19 +185,28 @@ fn mode_of(digits: &[u8]) -> Mode {
 /// The length and the name of the body of the tree of these lines, which is read back.
 fn put_tree<N: Namer>(room: &mut Room<'_>, namer: &N, lines: &[u8]) {
     let entries = entries_of(room.alloc, lines);
-    if !is_canonical(&entries) {
+    put_tree_of(room, namer, &entries);
+}
+
+fn put_tree_of<N: Namer>(room: &mut Room<'_>, namer: &N, entries: &[Entry<'_>]) {
+    if !is_canonical(entries) {
         return room.word("no order of entries");
     }
     room.arm();
-    match encode_tree(room.heap, &entries) {
-        Ok(body) if is_encoded_over(room.alloc, &body, &entries) && is_read_back(&body, &entries) =>
-            {
-                room.told(body.len());
-                room.put(b" ");
-                room.digits(&namer.name(Kind::Tree, &body));
-            }
-        Ok(_) => room.word("another body"),
+    match encode_tree(room.heap, entries) {
+        Ok(body) => put_encoded(room, namer, entries, &body),
         Err(_) => room.refused(),
+    }
+}
+
+/// The length and the name of a body that was made of entries.
+fn put_encoded<N: Namer>(room: &mut Room<'_>, namer: &N, entries: &[Entry<'_>], body: &[u8]) {
+    if is_encoded_over(room.alloc, body, entries) && is_read_back(body, entries) {
+        room.told(body.len());
+        room.put(b" ");
+        room.digits(&namer.name(Kind::Tree, body));
+    } else {
+        room.word("another body");
     }
 }
 
@@ -201,10 +214,12 @@ fn put_tree<N: Namer>(room: &mut Room<'_>, namer: &N, lines: &[u8]) {
 fn is_encoded_over(alloc: Global, body: &[u8], entries: &[Entry<'_>]) -> bool {
     let mut other = Vec::new(alloc);
     let is_long = other.resize(200, b'x').is_ok();
-    is_long
-        && is_canonical(entries)
-        && encode_tree_into(&mut other, entries).is_ok()
-        && other.as_slice() == body
+    is_long && is_made(&mut other, entries) && other.as_slice() == body
+}
+
+/// Whether a buffer is made the body of these entries.
+fn is_made(buffer: &mut Vec<u8>, entries: &[Entry<'_>]) -> bool {
+    is_canonical(entries) && encode_tree_into(buffer, entries).is_ok()
 }
 
 /// Whether a body is decoded to these entries.

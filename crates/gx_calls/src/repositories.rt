@@ -10,7 +10,7 @@ use crate::stores::range_of;
 use crate::trees::path_of;
 use gx_object::{CommitParts, Kind, Mode, Name, Namer, TagParts};
 use gx_repo::{Body, RefChange, RefList, Repo, report_changes};
-use gx_text::Ident;
+use gx_text::{Ident, TreePath};
 use gx_tree::PathTree;
 use std::mem::swap;
 
@@ -184,13 +184,24 @@ fn add_shared<'a, N: Namer>(
 ) {
     let path = path_of(room.heap, path);
     let name = Name::read(digits).unwrap_or(Name { bytes: [0; 20] });
+    add_again(room, repo, tree, &path, name);
+}
+
+/// The same at this path, of a file with this name.
+fn add_again<'a, N: Namer>(
+    room: &mut Room<'a>,
+    repo: &mut Repo<N, &'a Heap>,
+    tree: &mut PathTree<&'a Heap>,
+    path: &TreePath<&'a Heap>,
+    name: Name,
+) {
     if !has_files(repo, tree) {
         return;
     }
     let Ok(_) = repo.add_tree(tree) else {
         return;
     };
-    let Ok(()) = tree.modify(&path, Mode::File, name) else {
+    let Ok(()) = tree.modify(path, Mode::File, name) else {
         return;
     };
     if has_files(repo, tree) {
@@ -281,15 +292,20 @@ fn add_tag<'a, N: Namer>(
 
 /// Sets the refs of lines, each with its object's digits before it.
 fn publish<'a, N: Namer>(room: &mut Room<'a>, repo: &mut Repo<N, &'a Heap>, lines: &[u8]) {
+    let lines = parts_of(room.alloc, lines, b'\n');
     let mut changes = Vec::new(room.alloc);
-    for line in &parts_of(room.alloc, lines, b'\n') {
-        let (digits, name) = first_word(line);
+    put_changes(&mut changes, &lines);
+    room.arm();
+    room.done(repo.publish(&changes));
+}
+
+fn put_changes<'a>(changes: &mut Vec<RefChange<'a>>, lines: &[&'a [u8]]) {
+    for line in lines {
+        let (digits, name) = first_word(*line);
         if let Some(target) = Name::read(digits) {
             let _ = changes.push(RefChange { name, target });
         }
     }
-    room.arm();
-    room.done(repo.publish(&changes));
 }
 
 /// Drops the refs of these names.
@@ -308,14 +324,23 @@ fn cut_records<'a, N: Namer>(room: &mut Room<'a>, repo: &mut Repo<N, &'a Heap>, 
 
 /// Lets go what no ref reaches, nor any of these names: so many objects, of so many bytes.
 fn prune<'a, N: Namer>(room: &mut Room<'a>, repo: &mut Repo<N, &'a Heap>, names: &[u8]) {
+    let names = parts_of(room.alloc, names, b' ');
     let mut kept = Vec::new(room.alloc);
-    for digits in &parts_of(room.alloc, names, b' ') {
+    put_read(&mut kept, &names);
+    prune_all_but(room, repo, &kept);
+}
+
+fn put_read(names: &mut Vec<Name>, texts: &[&[u8]]) {
+    for digits in texts {
         if let Some(name) = Name::read(digits) {
-            let _ = kept.push(name);
+            let _ = names.push(name);
         }
     }
+}
+
+fn prune_all_but<'a, N: Namer>(room: &mut Room<'a>, repo: &mut Repo<N, &'a Heap>, kept: &[Name]) {
     room.arm();
-    match repo.prune(&kept) {
+    match repo.prune(kept) {
         Ok(gone) => {
             room.told(gone.objects);
             room.put(b" ");

@@ -9,6 +9,7 @@ use gx_rev::{
     Parents, Range, Revision, Shown, answers_tell_values, commit, is_ancestor, look,
     reached_from_refs, tree_of_text, walk,
 };
+use gx_text::TreePath;
 
 /// Answers the call of this name on a repository, if there is one.
 pub(crate) fn answer<'a, N: Namer>(
@@ -49,11 +50,19 @@ pub(crate) fn answer<'a, N: Namer>(
 fn put_look<'a, N: Namer>(room: &mut Room<'a>, repo: &Repo<N, &'a Heap>, text: &[u8]) {
     let (revision, path) = first_word(text);
     let path = path_of(room.heap, path);
-    let Ok(revision) = Revision::read(room.heap, revision) else {
-        return;
-    };
+    if let Ok(revision) = Revision::read(room.heap, revision) {
+        put_file(room, repo, &revision, &path);
+    }
+}
+
+fn put_file<'a, N: Namer>(
+    room: &mut Room<'a>,
+    repo: &Repo<N, &'a Heap>,
+    revision: &Revision<&'a Heap>,
+    path: &TreePath<&'a Heap>,
+) {
     room.arm();
-    match look(room.heap, repo, &revision, &path) {
+    match look(room.heap, repo, revision, path) {
         Ok((_, bytes)) => room.put(&bytes),
         Err(fault) => room.told(fault),
     }
@@ -61,10 +70,17 @@ fn put_look<'a, N: Namer>(room: &mut Room<'a>, repo: &Repo<N, &'a Heap>, text: &
 
 /// The parents of the commit of a revision.
 fn put_parents<'a, N: Namer>(room: &mut Room<'a>, repo: &Repo<N, &'a Heap>, text: &[u8]) {
-    let Ok(revision) = Revision::read(room.heap, text) else {
-        return;
-    };
-    match commit(repo, &revision) {
+    if let Ok(revision) = Revision::read(room.heap, text) {
+        put_parents_of(room, repo, &revision);
+    }
+}
+
+fn put_parents_of<'a, N: Namer>(
+    room: &mut Room<'a>,
+    repo: &Repo<N, &'a Heap>,
+    revision: &Revision<&'a Heap>,
+) {
+    match commit(repo, revision) {
         Ok(view) => put_each_parent(room, &view),
         Err(fault) => room.told(fault),
     }

@@ -8,42 +8,59 @@ use gx_object::{Namer, Sha1Namer};
 use std::alloc::{AllocError, Global};
 use std::hash::RandomState;
 
+/// The place of a step of which something else comes, and the growth that is refused to it; 0 where
+/// none is.
+#[derive(Clone, Copy)]
+pub(crate) struct Wrong {
+    pub(crate) place: usize,
+    pub(crate) nth: u64,
+}
+
 /// What comes of a script.
-#[derive(Drop)]
+#[derive(Clone, Copy)]
 enum Outcome {
     Done,
     /// A growth was refused, and the call with it.
     Refused,
-    /// What came, and what was to come.
-    Wrong(String),
+    Wrong(Wrong),
 }
 
-/// Follows each script of a file's steps, and once more for each growth of each tried call. What
-/// comes otherwise first is told.
+/// Follows each script of a file's steps. What comes otherwise first is told, and put.
 pub(crate) fn first_wrong(
     alloc: Global,
     steps: &[Step<'_>],
     state: RandomState,
-) -> Result<Option<String>, AllocError> {
+    got: &mut Vec<u8>,
+) -> Result<Option<Wrong>, AllocError> {
     for (place, step) in steps.iter().enumerate() {
-        let (least, most) = match step.part {
-            Part::Title => (0, 0),
-            Part::Tried(least, most) => (least, most),
-            _ => continue,
-        };
-        for nth in 1..200u64 {
-            match followed(alloc, steps, place, nth, state)? {
-                Outcome::Refused => {}
-                Outcome::Wrong(wrong) => return Ok(Some(wrong)),
-                Outcome::Done if least < nth && nth - 1 <= most => break,
-                Outcome::Done => {
-                    return Ok(Some(wrong_of(
-                        alloc,
-                        step,
-                        nth,
-                        b"another number of refused growths",
-                    )?));
-                }
+        if let Some(wrong) = wrong_of(alloc, steps, (place, step), state, got)? {
+            return Ok(Some(wrong));
+        }
+    }
+    Ok(None)
+}
+
+/// Follows the script of a title, or that of a tried call once for each of its growths.
+fn wrong_of(
+    alloc: Global,
+    steps: &[Step<'_>],
+    (place, step): (usize, &Step<'_>),
+    state: RandomState,
+    got: &mut Vec<u8>,
+) -> Result<Option<Wrong>, AllocError> {
+    let (least, most) = match step.part {
+        Part::Title => (0, 0),
+        Part::Tried(least, most) => (least, most),
+        _ => return Ok(None),
+    };
+    for nth in 1..200u64 {
+        match followed(alloc, steps, (place, step), nth, state, got)? {
+            Outcome::Refused => {}
+            Outcome::Wrong(wrong) => return Ok(Some(wrong)),
+            Outcome::Done if least < nth && nth - 1 <= most => return Ok(None),
+            Outcome::Done => {
+                got.extend_from_slice(b"another number of refused growths")?;
+                return Ok(Some(Wrong { place, nth }));
             }
         }
     }
@@ -51,16 +68,15 @@ pub(crate) fn first_wrong(
 }
 
 /// Follows the script of the step at a place, whose call is refused the growth with this number.
+/// The answer that comes otherwise is put.
 fn followed(
     alloc: Global,
     steps: &[Step<'_>],
-    place: usize,
+    (place, tried): (usize, &Step<'_>),
     nth: u64,
     state: RandomState,
+    got: &mut Vec<u8>,
 ) -> Result<Outcome, AllocError> {
-    let Some(tried) = steps.get(place) else {
-        return Ok(Outcome::Done);
-    };
     let heap = Refusing::new(alloc, 0);
     let mut room = Room {
         alloc,
@@ -69,21 +85,27 @@ fn followed(
         answer: Vec::new(alloc),
     };
     let ways = (tried.script, place);
-    if tried.has_short_names {
-        follow(
-            &mut Desk::new(&heap, ShortNamer, state),
-            &mut room,
-            steps,
-            ways,
-        )
+    let outcome = if tried.has_short_names {
+        followed_by(&mut room, ShortNamer, steps, ways, state)?
     } else {
-        follow(
-            &mut Desk::new(&heap, Sha1Namer, state),
-            &mut room,
-            steps,
-            ways,
-        )
+        followed_by(&mut room, Sha1Namer, steps, ways, state)?
+    };
+    if let Outcome::Wrong(_) = outcome {
+        got.extend_from_slice(&room.answer)?;
     }
+    Ok(outcome)
+}
+
+/// The same, where objects are named so.
+fn followed_by<'a, N: Namer + Copy + Drop>(
+    room: &mut Room<'a>,
+    namer: N,
+    steps: &[Step<'_>],
+    ways: (usize, usize),
+    state: RandomState,
+) -> Result<Outcome, AllocError> {
+    let mut desk = Desk::new(room.heap, namer, state);
+    follow(&mut desk, room, steps, ways)
 }
 
 /// Does the steps of a script that are wanted: of the tried calls the one at this place alone.
@@ -102,12 +124,12 @@ fn follow<'a, N: Namer + Copy + Drop>(
         }
         if step.is_wanted(script, place == tried, is_refused, is_behind) {
             room.nth = if place == tried { nth } else { 0 };
-            let was_refused = is_refused_at(desk, room, step);
-            match outcome_of(room, step, was_refused)? {
-                Outcome::Done => {}
-                Outcome::Refused => is_refused = true,
-                wrong => return Ok(wrong),
+            let was_refused = is_refused_at(desk, room, step)?;
+            if !is_answered(room, step, was_refused)? {
+                let nth = room.nth;
+                return Ok(Outcome::Wrong(Wrong { place, nth }));
             }
+            is_refused = is_refused || was_refused;
         }
     }
     Ok(if is_refused {
@@ -122,37 +144,22 @@ fn is_refused_at<'a, N: Namer + Copy + Drop>(
     desk: &mut Desk<'a, N>,
     room: &mut Room<'a>,
     step: &Step<'_>,
-) -> bool {
+) -> Result<bool, AllocError> {
+    let mut given = Vec::new(room.alloc);
+    step.put_given(&mut given)?;
     room.answer.clear();
-    desk.make(room, step.word, &step.given);
+    desk.make(room, step.word, &given);
     let is_refused = room.nth > 0 && !room.heap.is_waiting();
     room.heap.arm(0);
-    is_refused
+    Ok(is_refused)
 }
 
-/// What comes of a step with this answer, to whose call a growth was refused or not.
-fn outcome_of(room: &Room<'_>, step: &Step<'_>, is_refused: bool) -> Result<Outcome, AllocError> {
-    let is_wanted = if is_refused {
-        room.answer.as_slice() == b"OutOfMemory".as_slice()
-    } else {
-        step.is_answer(&room.answer)
-    };
-    if !is_wanted {
-        return Ok(Outcome::Wrong(wrong_of(room.alloc, step, room.nth, &room.answer)?));
+/// Whether a step's call, to which a growth was refused or not, was answered as it is to be.
+fn is_answered(room: &Room<'_>, step: &Step<'_>, is_refused: bool) -> Result<bool, AllocError> {
+    if is_refused {
+        return Ok(room.answer.as_slice() == b"OutOfMemory".as_slice());
     }
-    Ok(if is_refused {
-        Outcome::Refused
-    } else {
-        Outcome::Done
-    })
-}
-
-/// What is told of a step of which something else comes.
-fn wrong_of(alloc: Global, step: &Step<'_>, nth: u64, answer: &[u8]) -> Result<String, AllocError> {
-    let (number, line) = (step.number, step.line);
-    let expected = String::from_utf8_lossy(alloc, &step.answer)?;
-    let got = String::from_utf8_lossy(alloc, answer)?;
-    format!(in alloc;
-        "{number}: {line}\n(growth {nth} is refused)\nexpected:\n{expected}\ngot:\n{got}"
-    )
+    let mut wanted = Vec::new(room.alloc);
+    step.put_answer(&mut wanted)?;
+    Ok(room.answer.as_slice() == wanted.as_slice())
 }

@@ -42,10 +42,19 @@ fn put_cut(room: &mut Room<'_>, texts: Option<(&[u8], &[u8])>) {
 fn put_path(room: &mut Room<'_>, text: &[u8], is_counted: bool) {
     room.arm();
     match TreePath::read(room.heap, text) {
-        Ok(path) if is_counted => room.told(path.len()),
-        Ok(path) if path.joined() == text => put_components(room, &path),
-        Ok(_) => room.word("another text"),
+        Ok(path) => put_read(room, &path, text, is_counted),
         Err(fault) => room.told(fault),
+    }
+}
+
+/// The same of the path that was read of a text.
+fn put_read(room: &mut Room<'_>, path: &TreePath<&Heap>, text: &[u8], is_counted: bool) {
+    if is_counted {
+        room.told(path.len());
+    } else if path.joined() == text {
+        put_components(room, path);
+    } else {
+        room.word("another text");
     }
 }
 

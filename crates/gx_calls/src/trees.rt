@@ -92,10 +92,7 @@ pub(crate) fn answer<'a, N: Namer>(
             room.named(branch.tree.write(&mut branch.store));
         }
         "twice" => write_twice(room, &mut branch.tree, &mut branch.store),
-        "again" => {
-            let path = path_of(room.heap, text);
-            write_again(room, &mut branch.tree, &mut branch.store, &path);
-        }
+        "again" => write_again_at(room, branch, text),
         "load" => load(room, branch),
         "list" => put_files(room, &branch.tree),
         "other" => put_files(room, &branch.other),
@@ -117,12 +114,27 @@ fn is_edited<'a>(
     let (path, mode, name) = file_of(first);
     let source = path_of(room.heap, path);
     let destination = path_of(room.heap, second);
+    edit(room, tree, call, &source, mode, name, &destination)
+}
+
+/// The same of a file or a directory, and another path.
+fn edit<'a>(
+    room: &mut Room<'a>,
+    tree: &mut PathTree<&'a Heap>,
+    call: &str,
+    source: &TreePath<&'a Heap>,
+    mode: Mode,
+    name: Name,
+    destination: &TreePath<&'a Heap>,
+) -> bool
+    requires { mode ≢ modes.Dir }
+{
     room.arm();
     let answer = match call {
-        "modify" => tree.modify(&source, mode, name),
-        "remove" => tree.remove(&source),
-        "copy" => tree.copy(&source, &destination),
-        "rename" => tree.rename(&source, &destination),
+        "modify" => tree.modify(source, mode, name),
+        "remove" => tree.remove(source),
+        "copy" => tree.copy(source, destination),
+        "rename" => tree.rename(source, destination),
         _ => {
             room.heap.arm(0);
             return false;
@@ -148,12 +160,17 @@ fn duplicate<'a, N: Namer>(room: &mut Room<'a>, branch: &mut Branch<'a, N>) {
 fn fill<'a>(room: &mut Room<'a>, tree: &mut PathTree<&'a Heap>, files: &[u8]) {
     tree.clear();
     for file in &parts_of(room.alloc, files, b' ') {
-        let (path, mode, name) = file_of(file);
-        if let Err(fault) = tree.modify(&path_of(room.heap, path), mode, name) {
-            room.told(fault);
-        }
+        put_file(room, tree, file);
     }
     room.word("done");
+}
+
+/// Gives a tree a file more.
+fn put_file<'a>(room: &mut Room<'a>, tree: &mut PathTree<&'a Heap>, file: &[u8]) {
+    let (path, mode, name) = file_of(file);
+    if let Err(fault) = tree.modify(&path_of(room.heap, path), mode, name) {
+        room.told(fault);
+    }
 }
 
 /// Puts two copies of the directory `a` in its place, which then has twice as many files, so many
@@ -173,33 +190,38 @@ fn double<'a>(room: &mut Room<'a>, tree: &mut PathTree<&'a Heap>, times: usize) 
 fn put_files(room: &mut Room<'_>, tree: &PathTree<&Heap>) {
     room.arm();
     match tree.list() {
-        Ok(files) => {
-            room.told(files.len());
-            for (path, mode, name) in files.as_slice() {
-                room.put(b" ");
-                room.put(path.joined());
-                room.put(b":");
-                put_leaf(room, *mode, name);
-            }
-        }
+        Ok(files) => put_each(room, &files),
         Err(fault) => room.told(fault),
+    }
+}
+
+fn put_each(room: &mut Room<'_>, files: &[(TreePath<&Heap>, Mode, Name)]) {
+    room.told(files.len());
+    for (path, mode, name) in files {
+        room.put(b" ");
+        room.put(path.joined());
+        room.put(b":");
+        put_leaf(room, *mode, name);
     }
 }
 
 /// How many files a tree has, and the name of the blob of what `git ls-tree -r` prints of it.
 fn put_listing(room: &mut Room<'_>, tree: &PathTree<&Heap>) {
-    let Ok(files) = tree.list() else {
-        return;
-    };
-    let mut text = Vec::new(room.alloc);
-    for (path, mode, name) in files.as_slice() {
-        let _ = put_entry_head(&mut text, *mode, name);
+    if let Ok(files) = tree.list() {
+        let mut text = Vec::new(room.alloc);
+        put_lines(&mut text, &files);
+        room.told(files.len());
+        room.put(b" ");
+        room.digits(&Sha1Namer.name(Kind::Blob, &text));
+    }
+}
+
+fn put_lines(text: &mut Vec<u8>, files: &[(TreePath<&Heap>, Mode, Name)]) {
+    for (path, mode, name) in files {
+        let _ = put_entry_head(text, *mode, name);
         let _ = text.extend_from_slice(path.joined());
         let _ = text.push(b'\n');
     }
-    room.told(files.len());
-    room.put(b" ");
-    room.digits(&Sha1Namer.name(Kind::Blob, &text));
 }
 
 /// What stands at a path.
@@ -226,6 +248,11 @@ fn write_twice<'a, N: Namer>(
 
 /// Writes a tree, puts a file of sixes at a path, and writes it once more by the names that it
 /// remembers.
+fn write_again_at<'a, N: Namer>(room: &mut Room<'a>, branch: &mut Branch<'a, N>, path: &[u8]) {
+    let path = path_of(room.heap, path);
+    write_again(room, &mut branch.tree, &mut branch.store, &path);
+}
+
 fn write_again<'a, N: Namer>(
     room: &mut Room<'a>,
     tree: &mut PathTree<&'a Heap>,

@@ -24,14 +24,7 @@ pub(crate) fn refused_growths(
     state: RandomState,
 ) -> u64 {
     for nth in 1..3000u64 {
-        let heap = Refusing::new(alloc, 0);
-        let is_refused = match Held::new(&heap, 4096) {
-            Ok(mut sink) => {
-                is_refused_at(&heap, &mut sink, (line, step, store, is_given), nth, state)
-            }
-            Err(_) => None,
-        };
-        match is_refused {
+        match is_refused_at(alloc, (line, step, store, is_given), nth, state) {
             Some(true) => {}
             Some(false) => return nth - 1,
             None => return 0,
@@ -40,9 +33,22 @@ pub(crate) fn refused_growths(
     0
 }
 
-/// Whether a command is refused of which this growth is to be refused; none where it is answered otherwise. The store's text is
-/// there before.
-fn is_refused_at<'a, B: Allocator>(
+/// Whether a command is refused of which this growth is to be refused; none where it is answered otherwise.
+fn is_refused_at(
+    alloc: Global,
+    command: (&Line<'_>, &Step<'_>, &[u8], bool),
+    nth: u64,
+    state: RandomState,
+) -> Option<bool> {
+    let heap = Refusing::new(alloc, 0);
+    match Held::new(&heap, 4096) {
+        Ok(mut sink) => is_command_refused(&heap, &mut sink, command, nth, state),
+        Err(_) => None,
+    }
+}
+
+/// The same, with a sink for what it prints. The store's text is there before.
+fn is_command_refused<'a, B: Allocator>(
     heap: &'a Refusing<B>,
     sink: &mut Held<&'a Refusing<B>>,
     (line, step, store, is_given): (&Line<'_>, &Step<'_>, &[u8], bool),
@@ -57,14 +63,21 @@ fn is_refused_at<'a, B: Allocator>(
     let outcome = ran_on(heap, line, store, is_given, source, sink, state);
     let is_waiting = heap.is_waiting();
     heap.arm(0);
-    let is_right = match outcome.fault {
-        None => {
-            let is_done = outcome.status == status_of(line, step);
-            is_waiting && is_done && sink.bytes() == step.printed
-        }
+    let ended = (outcome.status, outcome.fault);
+    is_refused((line, step), ended, sink.bytes(), is_waiting)
+}
+
+/// Whether a command that ended so, with this printed, was refused for want of memory; none where it was answered otherwise.
+fn is_refused(
+    (line, step): (&Line<'_>, &Step<'_>),
+    (status, fault): (u8, Option<CliFault>),
+    printed: &[u8],
+    is_waiting: bool,
+) -> Option<bool> {
+    let is_right = match fault {
+        None => is_waiting && status == status_of(line, step) && printed == step.printed,
         Some(fault) => {
-            let is_memory = !is_waiting && is_memory(line, fault);
-            is_memory && is_left(line, sink.bytes(), step.printed)
+            !is_waiting && is_memory(line, fault) && is_left(line, printed, step.printed)
         }
     };
     is_right.then_some(!is_waiting)

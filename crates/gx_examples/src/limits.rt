@@ -10,7 +10,6 @@ use gx_import::{ImportFault, ImportKind};
 use gx_text::{Bytes, Held};
 use std::alloc::Global;
 use std::hash::RandomState;
-use std::test::Fail;
 
 /// Commands, what they print, how many growths each has at least, and the stream of the store that they are run on.
 const COMMANDS: &str = "
@@ -61,38 +60,49 @@ $ blobs % three blobs % three names % 5
 /// The same of a stream with lines of many kinds.
 const ROUGH_LINES: &str = "$ adapt % rough lines % mended lines % 3";
 
-/// Tries the commands of a script, each on the store of its step's stream.
-fn try_all(alloc: Global, script: &str, task: Task, state: RandomState) -> Result<(), Fail> {
-    for part in script.split('$').skip(1) {
-        let step = step_of(part);
-        let is_right = match stored(alloc, step.stream, state) {
-            Some(store) => tried(alloc, &step, &store, task, state),
-            None => false,
-        };
-        if !is_right {
-            return Err(Fail::new(format_args!("{part}")));
+/// Whether what is to come of a step's command comes of it, on the store of the step's stream.
+fn is_right(alloc: Global, part: &str, task: Task, state: RandomState) -> bool {
+    let step = step_of(part);
+    match stored(alloc, step.stream, state) {
+        Some(store) => tried(alloc, &step, &store, task, state),
+        None => false,
+    }
+}
+
+/// Scripts, and what their commands are tried for. A text that is lent is copied once, whatever it holds, and one that is given
+/// isn't.
+const GROWTHS: [(&str, Task); 4] = [
+    (COMMANDS, Task::Growths),
+    (ROUGH_LINES, Task::Growths),
+    ("$ refs store %% ref of first %% root", Task::Copies(1)),
+    (
+        "$ refs store %% refs of version %% version",
+        Task::Copies(1),
+    ),
+];
+
+#[test]
+fn each_refused_growth_of_a_command_is_out_of_memory(rt: HostRuntime) {
+    let Ok(state) = RandomState::new(&rt) else {
+        return assert!(rt; false);
+    };
+    for (script, task) in GROWTHS {
+        for part in script.split('$').skip(1) {
+            assert!(rt; is_right(rt.alloc(), part, task, state), "{part}");
         }
     }
-    Ok(())
 }
 
 #[test]
-fn failed_write_keeps_a_front_of_the_output(rt: HostRuntime) -> Result<(), Fail> {
-    let state = RandomState::new(&rt)?;
-    try_all(rt.alloc(), COMMANDS, Task::Stop, state)?;
-    try_all(rt.alloc(), ROUGH_LINES, Task::Stop, state)
-}
-
-/// A text that is lent is copied once, whatever it holds, and one that is given isn't.
-#[test]
-fn each_refused_growth_of_a_command_is_out_of_memory(rt: HostRuntime) -> Result<(), Fail> {
-    let state = RandomState::new(&rt)?;
-    try_all(rt.alloc(), COMMANDS, Task::Growths, state)?;
-    try_all(rt.alloc(), ROUGH_LINES, Task::Growths, state)?;
-    let script = "$ refs store %% ref of first %% root";
-    try_all(rt.alloc(), script, Task::Copies(1), state)?;
-    let script = "$ refs store %% refs of version %% version";
-    try_all(rt.alloc(), script, Task::Copies(1), state)
+fn failed_write_keeps_a_front_of_the_output(rt: HostRuntime) {
+    let Ok(state) = RandomState::new(&rt) else {
+        return assert!(rt; false);
+    };
+    for script in [COMMANDS, ROUGH_LINES] {
+        for part in script.split('$').skip(1) {
+            assert!(rt; is_right(rt.alloc(), part, Task::Stop, state), "{part}");
+        }
+    }
 }
 
 /// Whether a command stops as it has to where its sink takes no more bytes, at each byte that it prints.
@@ -125,11 +135,9 @@ fn stops_at(
         return false;
     };
     let outcome = ran(alloc, line, store, source, &mut sink, state);
-    let wanted = refusal_at(line, step.printed, room);
-    outcome.fault == Some(wanted)
-        && outcome.status == 1
-        && sink.bytes().len() == room
-        && step.printed.starts_with(sink.bytes())
+    let (status, fault) = (outcome.status, outcome.fault);
+    let is_front = sink.bytes().len() == room && step.printed.starts_with(sink.bytes());
+    is_front && status == 1 && fault == Some(refusal_at(line, step.printed, room))
 }
 
 /// Why a command that prints this is refused whose sink has room for so many bytes: a try's import may be in its progress.

@@ -1,7 +1,7 @@
 //! Imports that report the refs that they change, of which each growth is refused in turn.
 
 use crate::texts::text;
-use gx_cli::{CliFault, Explanation, Features, ImportReport, Repo, import_store_reporting};
+use gx_cli::{CliFault, Explanation, Features, import_store_reporting};
 use gx_devices::Refusing;
 use gx_file::FileFault;
 use gx_import::ImportKind;
@@ -9,27 +9,20 @@ use gx_object::Sha1Namer;
 use gx_text::{Bytes, Held};
 use std::alloc::{Allocator, Global};
 use std::hash::RandomState;
-use std::test::Fail;
 
-/// An import into a store, with its report. The store's text is there before, and so is the sink, where the growths are counted.
-fn imported<'a, B: Allocator>(
+/// Whether an import into a store, with its report, is refused for want of memory, of which this growth is to be refused; none where
+/// it is answered otherwise. The store's text is there before, and so is the sink, where the growths are counted.
+fn is_refused_at<'a, B: Allocator>(
     heap: &'a Refusing<B>,
-    store: &[u8],
-    stream: &[u8],
     nth: u64,
     state: RandomState,
-) -> Option<
-    (
-        Option<(Repo<Sha1Namer, &'a Refusing<B>>, Vec<u8, &'a Refusing<B>>)>,
-        Result<ImportReport, CliFault>,
-    ),
-> {
-    let store = Vec::from_slice(heap, store).ok()?;
+) -> Option<bool> {
+    let store = Vec::from_slice(heap, text("first")).ok()?;
     let mut sink = Held::new(heap, 64).ok()?;
-    let source = Bytes::new(stream, 7, false);
+    let source = Bytes::new(text("tagged"), 7, false);
     let none = Features::none();
     heap.arm(nth);
-    let answer = import_store_reporting(
+    let (left, report) = import_store_reporting(
         heap,
         Sha1Namer,
         store,
@@ -40,7 +33,16 @@ fn imported<'a, B: Allocator>(
         &mut Explanation::none(),
     );
     heap.arm(0);
-    Some(answer)
+    is_refused(left.is_some(), report.err())
+}
+
+/// Whether a fault refuses an import that leaves something or nothing; none where it can't.
+fn is_refused(is_left: bool, fault: Option<CliFault>) -> Option<bool> {
+    match fault {
+        None if is_left => Some(false),
+        Some(fault) if !is_left && is_memory(fault) => Some(true),
+        _ => None,
+    }
 }
 
 /// Whether memory ran out, in the import or beside it.
@@ -53,21 +55,23 @@ fn is_memory(fault: CliFault) -> bool {
     }
 }
 
-#[test]
-fn refused_growth_of_a_report_leaves_nothing(rt: HostRuntime) -> Result<(), Fail> {
-    let state = RandomState::new(&rt)?;
-    let mut refused = 0u64;
+/// How many growths are refused before an import succeeds; none where one is answered otherwise.
+fn refused_growths(alloc: Global, state: RandomState) -> u64 {
     for nth in 1..200u64 {
-        let heap = Refusing::new(rt.alloc(), 0);
-        match imported(&heap, text("first"), text("tagged"), nth, state) {
-            Some((None, Err(fault))) => {
-                assert!(rt; is_memory(fault), "{nth}");
-                refused = nth;
-            }
-            Some((Some(_), Ok(_))) => break,
-            _ => assert!(rt; false, "{nth}"),
+        let heap = Refusing::new(alloc, 0);
+        match is_refused_at(&heap, nth, state) {
+            Some(true) => {}
+            Some(false) => return nth - 1,
+            None => return 0,
         }
     }
-    assert!(rt; refused > 20);
-    Ok(())
+    0
+}
+
+#[test]
+fn refused_growth_of_a_report_leaves_nothing(rt: HostRuntime) {
+    match RandomState::new(&rt) {
+        Ok(state) => assert!(rt; refused_growths(rt.alloc(), state) > 20),
+        Err(_) => assert!(rt; false),
+    }
 }

@@ -6,9 +6,8 @@ use gx_import::import;
 use gx_object::Sha1Namer;
 use gx_repo::Repo;
 use gx_text::{Bytes, Growing};
-use std::alloc::Global;
+use std::alloc::{AllocError, Global};
 use std::hash::RandomState;
-use std::test::Fail;
 
 /// A commit behind that of `main`.
 const ON_MAIN: &[u8] = b"commit refs/heads/main\ncommitter C <c@x> 4 +0000\ndata 2\nn\n\
@@ -45,35 +44,57 @@ const ROWS: [(&[&[u8]], Option<&[u8]>); 6] = [
     ),
 ];
 
-/// The lines of the refs that a push leaves.
-fn left(
+/// Puts copies of lines.
+fn put_copies(copies: &mut Vec<Vec<u8>>, alloc: Global, lines: &[&[u8]]) -> Result<(), AllocError> {
+    for line in lines {
+        copies.push(Vec::from_slice(alloc, line)?)?;
+    }
+    Ok(())
+}
+
+/// Whether a push of these lines leaves the lines of refs that it is to leave, or goes the whole way.
+fn leaves(
+    alloc: Global,
+    repo: &Repo<Sha1Namer, Global>,
+    lines: &[Vec<u8>],
+    refs: Option<&[u8]>,
+    state: RandomState,
+) -> bool {
+    let are_held = look_at_lines(alloc, repo, lines).is_ok();
+    match push_over(alloc, Sha1Namer, repo, lines, ON_MAIN, false, false, state) {
+        Ok(given) => are_held && refs == Some(given.refs.as_slice()),
+        Err(_) => refs.is_none(),
+    }
+}
+
+/// The same of lines that are copied first.
+fn is_row(
     alloc: Global,
     repo: &Repo<Sha1Namer, Global>,
     lines: &[&[u8]],
+    refs: Option<&[u8]>,
     state: RandomState,
-) -> Option<Vec<u8>> {
-    let mut owned = Vec::new(alloc);
-    for line in lines {
-        owned.push(Vec::from_slice(alloc, line).ok()?).ok()?;
-    }
-    let lines = owned.as_slice();
-    look_at_lines(alloc, repo, lines).ok()?;
-    let given = push_over(alloc, Sha1Namer, repo, lines, ON_MAIN, false, false, state).ok()?;
-    Some(given.refs)
+) -> bool {
+    let mut copies = Vec::new(alloc);
+    let are_copied = put_copies(&mut copies, alloc, lines).is_ok();
+    are_copied && leaves(alloc, repo, &copies, refs, state)
 }
 
 #[test]
-fn refs_are_left_that_lines_leave(rt: HostRuntime) -> Result<(), Fail> {
-    let (alloc, state) = (rt.alloc(), RandomState::new(&rt)?);
-    let mut repo = Repo::new(alloc, Sha1Namer, state);
-    let mut sink = Growing::new(alloc);
-    assert!(rt; import(alloc, &mut repo, Bytes::new(BEFORE, 64, false), &mut sink).is_ok());
-    for (lines, refs) in ROWS {
-        let left = left(alloc, &repo, lines, state);
-        match refs {
-            Some(refs) => assert!(rt; left.is_some_and(|left| left.as_slice() == refs)),
-            None => assert!(rt; left.is_none()),
-        }
+fn refs_are_left_that_lines_leave(rt: HostRuntime) {
+    let Ok(state) = RandomState::new(&rt) else {
+        return assert!(rt; false);
+    };
+    let mut repo = Repo::new(rt.alloc(), Sha1Namer, state);
+    assert!(rt; is_imported(rt.alloc(), &mut repo));
+    for place in 0..6usize {
+        let (lines, refs) = ROWS[place];
+        assert!(rt; is_row(rt.alloc(), &repo, lines, refs, state), "{place}");
     }
-    Ok(())
+}
+
+/// Imports what is there before the pushes.
+fn is_imported(alloc: Global, repo: &mut Repo<Sha1Namer, Global>) -> bool {
+    let mut sink = Growing::new(alloc);
+    import(alloc, repo, Bytes::new(BEFORE, 64, false), &mut sink).is_ok()
 }

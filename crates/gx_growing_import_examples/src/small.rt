@@ -142,9 +142,40 @@ fn is_same_base(
     base_given(repo, base).ok() == base_given(small, base).ok()
 }
 
-/// Whether a small repository has nine objects and two refs.
-fn has_no_more(small: &Repo<StandIn<Sha1Namer>, Global>) -> bool {
-    small.store().len() == 9 && small.refs().count() == 2
+/// Whether each object is held as it is to be.
+fn are_held(repo: &Repo<Sha1Namer, Global>, small: &Repo<StandIn<Sha1Namer>, Global>) -> bool {
+    for place in 0..10usize {
+        if held(repo, small, place) != Some(HELD[place]) {
+            return false;
+        }
+    }
+    true
+}
+
+/// Whether each base gives the same in both.
+fn are_same_bases(
+    repo: &Repo<Sha1Namer, Global>,
+    small: &Repo<StandIn<Sha1Namer>, Global>,
+) -> bool {
+    for base in BASES {
+        if !is_same_base(repo, small, base) {
+            return false;
+        }
+    }
+    true
+}
+
+/// Whether the small repository of what the stream asks for has that, and no more.
+fn is_small(alloc: Global, repo: &Repo<Sha1Namer, Global>, state: RandomState) -> bool {
+    match small(alloc, repo, state) {
+        Some(small) => {
+            are_held(repo, &small)
+                && are_same_bases(repo, &small)
+                && small.store().len() == 9
+                && small.refs().count() == 2
+        }
+        None => false,
+    }
 }
 
 #[test]
@@ -154,14 +185,5 @@ fn small_repository_has_what_is_asked_for(rt: HostRuntime) {
     };
     let mut repo = Repo::new(rt.alloc(), Sha1Namer, state);
     assert!(rt; is_filled(&mut repo));
-    let Some(small) = small(rt.alloc(), &repo, state) else {
-        return assert!(rt; false);
-    };
-    for place in 0..10usize {
-        assert!(rt; held(&repo, &small, place) == Some(HELD[place]), "{place}");
-    }
-    for base in BASES {
-        assert!(rt; is_same_base(&repo, &small, base));
-    }
-    assert!(rt; has_no_more(&small));
+    assert!(rt; is_small(rt.alloc(), &repo, state));
 }

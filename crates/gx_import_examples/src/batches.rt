@@ -6,9 +6,8 @@ use gx_devices::Refusing;
 use gx_object::Sha1Namer;
 use gx_repo::Repo;
 use gx_text::{Bytes, Held};
-use std::alloc::{AllocError, Allocator, Global};
+use std::alloc::{Allocator, Global};
 use std::hash::RandomState;
-use std::test::Fail;
 
 /// A commit with three files, the second of them empty and the third a submodule; a tag of it; and two blobs whose
 /// names begin alike.
@@ -46,11 +45,20 @@ fn refused_growths<A: Allocator + Copy>(
     own: A,
     state: RandomState,
 ) -> Option<u64> {
-    let Ok(repo) = opened(own, STORE, state) else {
-        return None;
-    };
+    match opened(own, STORE, state) {
+        Ok(repo) => refused_on(heap, own, &repo),
+        Err(_) => None,
+    }
+}
+
+/// The same of this repository.
+fn refused_on<A: Allocator + Copy>(
+    heap: &Refusing<Global>,
+    own: A,
+    repo: &Repo<Sha1Namer, A>,
+) -> Option<u64> {
     for growth in 1..100u64 {
-        if !refused_at(heap, own, &repo, growth)? {
+        if !refused_at(heap, own, repo, growth)? {
             return Some(growth - 1);
         }
     }
@@ -58,38 +66,52 @@ fn refused_growths<A: Allocator + Copy>(
 }
 
 #[test]
-fn refused_growths_leave_whole_answers(rt: HostRuntime) -> Result<(), Fail> {
-    let state = RandomState::new(&rt)?;
+fn refused_growths_leave_whole_answers(rt: HostRuntime) {
+    let Ok(state) = RandomState::new(&rt) else {
+        return assert!(rt; false);
+    };
     let heap = Refusing::new(rt.alloc(), 0);
     let count = refused_growths(&heap, &heap, state).unwrap_or(0);
     assert!(rt; count > 3, "{count}");
-    Ok(())
 }
 
-/// The lines of a text that end so, each with a bar behind it; nothing where they aren't all read.
-fn lines_of(
+/// How lines end, in what pieces they come, whether the source fails behind them, and which lines are read; none where they aren't
+/// all read.
+const LINES: [(LineEnding, usize, bool, Option<&[&[u8]]>); 3] = [
+    (LineEnding::Lf, 1, false, Some(&[b"main", b"", b"v1\0x"])),
+    (LineEnding::Nul, 100, false, Some(&[b"main\r\n\nv1", b"x"])),
+    (LineEnding::Nul, 3, true, None),
+];
+
+/// Whether just these lines are read.
+fn are_read(
     alloc: Global,
     ending: LineEnding,
     source: Bytes<'_>,
-) -> Result<Vec<u8, Global>, AllocError> {
-    let mut text = Vec::new(alloc);
-    if let Ok(lines) = read_lines(alloc, ending, source) {
-        for line in &lines {
-            text.extend_from_slice(line)?;
-            text.push(b'|')?;
+    wanted: Option<&[&[u8]]>,
+) -> bool {
+    match read_lines(alloc, ending, source) {
+        Ok(lines) => match wanted {
+            Some(wanted) => are_same(&lines, wanted),
+            None => false,
+        },
+        Err(_) => wanted.is_none(),
+    }
+}
+
+fn are_same(lines: &[Vec<u8>], wanted: &[&[u8]]) -> bool {
+    for (line, wanted) in lines.iter().zip(wanted) {
+        if line.as_slice() != *wanted {
+            return false;
         }
     }
-    Ok(text)
+    lines.len() == wanted.len()
 }
 
 #[test]
-fn lines_are_read_as_they_end(rt: HostRuntime) -> Result<(), Fail> {
-    let text = b"main\r\n\nv1\0x".as_slice();
-    let lf = lines_of(rt.alloc(), LineEnding::Lf, Bytes::new(text, 1, false))?;
-    assert!(rt; lf.as_slice() == b"main||v1\0x|".as_slice());
-    let nul = lines_of(rt.alloc(), LineEnding::Nul, Bytes::new(text, 100, false))?;
-    assert!(rt; nul.as_slice() == b"main\r\n\nv1|x|".as_slice());
-    let cut = lines_of(rt.alloc(), LineEnding::Nul, Bytes::new(text, 3, true))?;
-    assert!(rt; cut.is_empty());
-    Ok(())
+fn lines_are_read_as_they_end(rt: HostRuntime) {
+    for (ending, piece, fails, wanted) in LINES {
+        let source = Bytes::new(b"main\r\n\nv1\0x", piece, fails);
+        assert!(rt; are_read(rt.alloc(), ending, source, wanted), "{piece}");
+    }
 }

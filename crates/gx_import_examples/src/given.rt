@@ -10,7 +10,6 @@ use gx_text::{Bytes, Held, Sink, Source};
 use std::alloc::{Allocator, Global};
 use std::hash::RandomState;
 use std::slice::from_ref;
-use std::test::Fail;
 
 /// A commit on main, marked, with one file.
 pub(crate) const FIRST: &[u8] =
@@ -132,13 +131,5 @@ fn walked(alloc: Global, repo: &Repo<Sha1Namer, Global>, range: &Range<Global>) 
     match walk(alloc, repo, from_ref(range)) {
         Ok(names) => names,
         Err(_) => Vec::new(alloc),
-    }
-}
-
-/// Fails at a place, where one is told.
-pub(crate) fn fail_at(place: Option<usize>) -> Result<(), Fail> {
-    match place {
-        None => Ok(()),
-        Some(place) => Err(Fail::new(format_args!("at {place}"))),
     }
 }

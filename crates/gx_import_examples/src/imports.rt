@@ -10,7 +10,6 @@ use gx_repo::Repo;
 use gx_text::{Bytes, Held};
 use std::alloc::Global;
 use std::hash::RandomState;
-use std::test::Fail;
 
 mod counting;
 
@@ -45,13 +44,22 @@ fn is_refused<N: Namer + Copy>(
 ) -> bool {
     let mut repo = Repo::new(alloc, namer, state);
     let refused = refusal(alloc, &mut repo, source);
-    let text = text_of(alloc, &repo);
+    refused == Some(fault) && has_so_many(alloc, &repo, objects, refs)
+}
+
+/// Whether a repository has so many objects and refs, and its text goes out.
+fn has_so_many<N: Namer>(
+    alloc: Global,
+    repo: &Repo<N, Global>,
+    objects: usize,
+    refs: usize,
+) -> bool {
+    let text = text_of(alloc, repo);
     let short = text.len().saturating_sub(1);
-    refused == Some(fault)
-        && repo.store().len() == objects
+    repo.store().len() == objects
         && repo.refs().count() == refs
-        && goes_out(alloc, &repo, &text, text.len())
-        && goes_out(alloc, &repo, &text, short)
+        && goes_out(alloc, repo, &text, text.len())
+        && goes_out(alloc, repo, &text, short)
 }
 
 /// Whether that comes of a stream that comes whole, and of one that comes byte by byte.
@@ -70,8 +78,10 @@ fn are_refused<N: Namer + Copy>(
 }
 
 #[test]
-fn second_object_of_the_only_name_is_refused(rt: HostRuntime) -> Result<(), Fail> {
-    let state = RandomState::new(&rt)?;
+fn second_object_of_the_only_name_is_refused(rt: HostRuntime) {
+    let Ok(state) = RandomState::new(&rt) else {
+        return assert!(rt; false);
+    };
     for (stream, command) in [(FIRST, 1), (BLOBS, 3)] {
         let fault = ImportFault {
             command,
@@ -80,12 +90,13 @@ fn second_object_of_the_only_name_is_refused(rt: HostRuntime) -> Result<(), Fail
         };
         assert!(rt; are_refused(rt.alloc(), ConstantNamer, stream, fault, (0, 0), state));
     }
-    Ok(())
 }
 
 #[test]
-fn checkpoints_are_counted_before_what_is_refused(rt: HostRuntime) -> Result<(), Fail> {
-    let state = RandomState::new(&rt)?;
+fn checkpoints_are_counted_before_what_is_refused(rt: HostRuntime) {
+    let Ok(state) = RandomState::new(&rt) else {
+        return assert!(rt; false);
+    };
     for (stream, command, checkpoints, held) in [(KEPT, 3, 1, (3, 1)), (FORCED, 7, 2, (5, 1))] {
         let fault = ImportFault {
             command,
@@ -94,5 +105,4 @@ fn checkpoints_are_counted_before_what_is_refused(rt: HostRuntime) -> Result<(),
         };
         assert!(rt; are_refused(rt.alloc(), Sha1Namer, stream, fault, held, state));
     }
-    Ok(())
 }

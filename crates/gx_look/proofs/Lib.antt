@@ -1,4 +1,5 @@
 mod CheckedRefs
+mod FollowingRecords
 mod FoundTogether
 mod HeadPlaces
 mod HeadingsInTexts

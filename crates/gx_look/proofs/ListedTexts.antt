@@ -13,12 +13,14 @@ use Rattle.sha2.specs.Sha256.{sha256}
 use Rattle.gx_model.specs.declared.objects.Kind.{Kind}
 use Rattle.gx_model.specs.Texts.{Bytes, same_bytes}
 use Rattle.gx_model.specs.Objects.{IsNamer}
+use Rattle.gx_model.specs.declared.store_versions.Version.TheVariants.{Two}
 use Rattle.gx_model.specs.Histories.{AreDistinct, Record, Records}
 use Rattle.gx_model.specs.Records.Sound.{AnyByRecursion}
+use Rattle.gx_model.specs.Stores.StoreText.{stored_record}
 use Rattle.gx_model.proofs.Texts.Cuts.{some_is}
 use Rattle.gx_model.proofs.Texts.PathTests.{same_is}
 use Rattle.gx_growing.specs.GrowingReading.{grown_of}
-use Rattle.gx_growing.specs.GrowingText.{Row, head_length, live_rows}
+use Rattle.gx_growing.specs.GrowingText.{Row, head_length, live_rows, placed_rows}
 use Rattle.gx_growing.proofs.RowsTellPlaces.{Rise, Tells, segments_rise}
 use Rattle.gx_growing_parts.specs.declared.runs.Run.{Run as GivenRun}
 use Rattle.gx_listed.specs.Listings.{HaveHeads, Head, Listed, ListsAll, head_of, number_named, shown_head}
@@ -29,12 +31,13 @@ use Rattle.gx_objects.specs.Answers.{OnlyUntold, Tells as AreTold}
 use Rattle.gx_objects.specs.declared.fault.LookFault.{LookFault}
 use Rattle.gx_objects.specs.declared.fault.LookFault.TheVariants.{Damaged}
 use Rattle.gx_look.specs.declared.tail.Tail.{Tail}
-use Rattle.gx_look.specs.Listing.{AreRecordsAt, AreRowsOf, EndsBeforeRuns, ListsRows, RefusesRows, TellsStanding}
+use Rattle.gx_look.specs.Listing.{AreRecordsAt, AreRowsOf, EndsBeforeRuns, Follow, ListsRows, RefusesRows, TellsStanding}
 use Rattle.gx_look.specs.Looking.{place_at, rows_of, told_by, told_rows}
 use Rattle.gx_look.specs.Opened.{IsOpened}
 use Rattle.gx_look.specs.Reading.{Gives}
 use Rattle.gx_look.specs.Records.{IsRecordAt}
 use Rattle.gx_look.specs.Tails.{AreWithin}
+use Rattle.gx_look.proofs.FollowingRecords.{follow_later, segments_follow, zip_at}
 use Rattle.gx_look.proofs.ListedRows.{one_by_place}
 use Rattle.gx_look.proofs.ToldNames.{each_told, record_at, same_live, seen}
 use Rattle.gx_look.proofs.ToldPlaces.{not_among}
@@ -42,8 +45,9 @@ use Rattle.gx_look.proofs.ToldPlaces.{not_among}
 -- ---- one record
 
 -- what is told of a record is told of one that stands in a text
-pub standing_of : (told : Option Bytes) (ends place : ℕ) (called : Name) (result : Result Standing LookFault)
-    → ((name : Kind → Bytes → Bytes) (text : Bytes) → told ≡ Some text → (held : Record) → IsRecordAt name text ends place called.bytes held → Gives (λ standing. (standing.place ≡ place) × (shown_head (called, standing) ≡ head_of held)) result)
+pub standing_of : (told : Option Bytes) (ends place : ℕ) (called : Name) (result : Result (Standing × ℕ) LookFault)
+    → ((name : Kind → Bytes → Bytes) (text : Bytes) → told ≡ Some text → (held : Record) → IsRecordAt name text ends place called.bytes held
+    → Gives (λ read. (read.0.place ≡ place) × (shown_head (called, read.0) ≡ head_of held) × (read.1 + 1 ≡ place + length (stored_record Two held))) result)
     → TellsStanding told ends place called result
 standing_of None ends place called result f = tt
 standing_of (Some text) ends place called result f = λ name held here. f name text refl held here
@@ -52,13 +56,6 @@ pub head_is : (called : Name) (standing : Standing) (held : Record) → called.b
 head_is called standing held n k l = λ i. record { name = n i; kind = k i; size = l i }
 
 -- ---- the records of rows, one behind the other
-
--- in lists that are paired there is one beside that of a number
-zip_at : {A B : Type 0} (R : A → B → Type 0) (xs : List A) (ys : List B) (i : ℕ) (d : A) → i < length xs → AllZip R xs ys → (y : B) × R (get_or xs i d) y × (slice_get ys i ≡ Some y) × (take (suc i) ys ≡ take i ys ++ y ∷ [])
-zip_at R [] ys i d l h = absurd (omega (arith, l))
-zip_at R (x ∷ xs) [] i d l h = absurd h
-zip_at R (x ∷ xs) (y ∷ ys) zero d l h = (y, h.0, refl, refl)
-zip_at R (x ∷ xs) (y ∷ ys) (suc i) d l h = let m = zip_at R xs ys i d (omega (arith, l)) h.1 in (m.0, m.1, m.2, ap (λ z. y ∷ z) m.3)
 
 -- of those in front of a number it is listed what they are, and where they stand
 abbrev pub ListsFront : Option Bytes → ℕ → List Row → ℕ → List Listed → Type 0
@@ -76,13 +73,13 @@ module _ (told : Option Bytes) (ends : ℕ) (rows : List Row) (i : ℕ) (d : Row
   called = record { bytes = (get_or rows i d).0 }
 
   -- one more
-  pub one_listed : (standing : Standing) (new : List Listed) → TellsStanding told ends (get_or rows i d).1 called (Ok standing) → new ≡ listed ++ (called, standing) ∷ [] → ListsFront told ends rows (i + 1) new
-  one_listed standing new tells pushed = by told front tells
+  pub one_listed : (standing : Standing) (behind : ℕ) (new : List Listed) → TellsStanding told ends (get_or rows i d).1 called (Ok (standing, behind)) → new ≡ listed ++ (called, standing) ∷ [] → ListsFront told ends rows (i + 1) new
+  one_listed standing behind new tells pushed = by told front tells
     where
       one : Listed
       one = (called, standing)
 
-      by : (told : Option Bytes) → ListsFront told ends rows i listed → TellsStanding told ends (get_or rows i d).1 called (Ok standing) → ListsFront told ends rows (i + 1) new
+      by : (told : Option Bytes) → ListsFront told ends rows i listed → TellsStanding told ends (get_or rows i d).1 called (Ok (standing, behind)) → ListsFront told ends rows (i + 1) new
       by None f t = tt
       by (Some text) f t = λ name records all.
           let at = zip_at (λ row held. IsRecordAt name text ends row.1 row.0 held) rows records i d within all in
@@ -100,7 +97,7 @@ module _ (told : Option Bytes) (ends : ℕ) (rows : List Row) (i : ℕ) (d : Row
     where
       by : (told : Option Bytes) → TellsStanding told ends (get_or rows i d).1 called (Err fault) → RefusesRows told ends rows fault
       by None t = tt
-      by (Some text) t = λ same name records all distinct.
+      by (Some text) t = λ same name records all distinct follow.
           let at = zip_at (λ row held. IsRecordAt name text ends row.1 row.0 held) rows records i d within all in
           t name at.0 at.1 same
 
@@ -127,7 +124,7 @@ module _ (told : Option Bytes) (ends : ℕ) (rows : List Row) (i : ℕ) (d : Row
 
       by : (told : Option Bytes) → ListsFront told ends rows i listed → RefusesRows told ends rows fault
       by None f = tt
-      by (Some text) f = λ same name records all distinct.
+      by (Some text) f = λ same name records all distinct follow.
           let at = zip_at (λ row held. IsRecordAt name text ends row.1 row.0 held) rows records i d within all in
           let none = not_listed listed records i at.0 distinct at.2 (f name records all).0 in
           twice (subst (λ n. number_named listed n ≡ None) at.1.name_is none)
@@ -174,6 +171,7 @@ module _ (name : Kind → Bytes → Bytes) (namer : IsNamer name) where
       rows_are : told_rows name told ≡ rows
       stand : AreRecordsAt text ends name rows r.records
       distinct : AreDistinct (map (λ held. held.name) r.records)
+      follow : Follow 0 rows r.records
 
     all_rows : (rows : List Row) → AreRowsOf told tail.runs.items rows → (text : Bytes) → told ≡ Some text → (r : Records) → grown_of name sha256 text ≡ Ok r → AreAll text r rows
     all_rows rows found text e r g =
@@ -183,14 +181,17 @@ module _ (name : Kind → Bytes → Bytes) (namer : IsNamer name) where
         let f = t.front in
         let here = subst (λ z. AreRowsOf z tail.runs.items rows) e found in
         let live = ap (live_rows text) s.tail_is.0 ∙ same_live text x.0.ends x.1.runs t.runs in
-        let rise : Rise head_length x.1.rows = subst (Rise head_length) (sym f.rows) (segments_rise head_length (f.before ++ f.last ∷ [])) in
+        let all = f.before ++ f.last ∷ [] in
+        let rise : Rise head_length x.1.rows = subst (Rise head_length) (sym f.rows) (segments_rise head_length all) in
         let same : rows ≡ x.1.rows = one_by_place (live_rows (take x.0.ends text) x.1.runs) rows x.1.rows head_length (subst (λ z. IsPermutation z rows) live here.all) here.up t.rows rise in
         let whole : ends ≤ length text = subst (λ n. n ≤ length text) (sym s.ends_is) t.ends in
+        let follow : Follow head_length x.1.rows r.records = subst (λ z. Follow head_length z r.records) (sym f.rows) (subst (Follow head_length (placed_rows head_length all)) (sym f.records ∙ t.records) (segments_follow head_length all)) in
         let stand : AllZip (Tells (take ends text)) x.1.rows r.records = subst (λ n. AllZip (Tells (take n text)) x.1.rows r.records) (sym s.ends_is) t.stand in
         record {
           rows_are = ap (told_rows name) e ∙ ap rows_of t.front_is ∙ sym same;
           stand = subst (λ z. AreRecordsAt text ends name z r.records) (sym same) (records_stand text ends opened.small whole x.1.rows r.records stand t.sound.named);
           distinct = t.sound.distinct;
+          follow = subst (λ z. Follow 0 z r.records) (sym same) (follow_later 0 head_length x.1.rows r.records (omega arith) follow);
         }
 
     -- what is listed of them is all that the repository has
@@ -217,4 +218,4 @@ module _ (name : Kind → Bytes → Bytes) (namer : IsNamer name) where
     rows_untold rows found (Ok listed) refused = tt
     rows_untold rows found (Err fault) refused = λ same. untold (told_by name told) (each_told name namer told (λ r. ⊥) (λ text e r g.
         let a = all_rows rows found text e r g in
-        subst (λ z. RefusesRows z ends rows fault) e refused same name r.records a.stand a.distinct))
+        subst (λ z. RefusesRows z ends rows fault) e refused same name r.records a.stand a.distinct a.follow))

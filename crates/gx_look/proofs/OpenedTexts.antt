@@ -58,6 +58,7 @@ pub record IsTold (name : Kind → Bytes → Bytes) (text : Bytes) (r : Records)
   pub front : IsFront name text x
   pub front_is : front_of name text ≡ Ok x
   pub sound : IsSound name r
+  pub records : x.1.records ≡ r.records
   pub refs : x.1.refs ≡ r.refs
   pub ends : x.0.ends ≤ length text
   pub leads : LeadsTo text x.0 x.1.runs x.1.refs
@@ -89,6 +90,7 @@ is_told name namer text r e =
         front = f;
         front_is = g.1;
         sound = subst (IsSound name) g.3 f.sound;
+        records = ap (λ (z : Records). z.records) g.3;
         refs = ap (λ (z : Records). z.refs) g.3;
         ends = f.read.ends;
         leads = record {

@@ -118,7 +118,7 @@ module _ (name : Kind → Bytes → Bytes) (text : Bytes) (ends place : ℕ) (ca
       ∙ append_assoc (heading_text held ++ held.body) (10 ∷ []) (drop (length record_text) behind)
       ∙ append_assoc (heading_text held) held.body (10 ∷ drop (length record_text) behind)
 
-  parts_long : length record_text ≡ (length (heading_text held) + length held.body) + 1
+  pub parts_long : length record_text ≡ (length (heading_text held) + length held.body) + 1
   parts_long = length-append (heading_text held ++ held.body) (10 ∷ []) ∙ ap (λ n. n + 1) (length-append (heading_text held) held.body)
 
   -- its body ends before the end

@@ -1,7 +1,7 @@
 //! All objects of a growing text, by the rows of its live runs.
 
-ghost use Rattle.std.specs.Prelude.{◌≡◌, ◌+◌, ◌*◌, ◌<◌, ◌^◌, IfErr, IfOk, OnOk};
-ghost use Rattle.gx_look.specs.Listing.{AddsRows, AreRowsOf, EndsBeforeRuns, ListsRows, RefusesRows, TellsStanding};
+ghost use Rattle.std.specs.Prelude.{◌≡◌, ◌+◌, ◌*◌, ◌<◌, ◌≤◌, ◌^◌, IfErr, IfOk, OnOk};
+ghost use Rattle.gx_look.specs.Listing.{AddsRows, AreRowsOf, EndsBeforeRuns, ListsRows, RefusesRows, StandApart, TellsStanding};
 ghost use Rattle.gx_look.specs.Reading.{EndsBefore};
 ghost use Rattle.gx_look.specs.Rows.{AreNear};
 
@@ -61,8 +61,8 @@ fn push_rows<S: ReadAt, A: Allocator + Copy>(
     Ok(())
 }
 
-/// The objects of these names in a text with this end, each of whose records stands at its place. `Damaged` where one doesn't, or a name
-/// stands twice.
+/// The objects of these names in a text with this end, each of whose records stands at its place. `Damaged` where one doesn't or begins
+/// in the one before, or a name stands twice.
 pub(crate) fn list_rows<S: ReadAt, A: Allocator + Copy>(
     alloc: A,
     source: &S,
@@ -71,29 +71,37 @@ pub(crate) fn list_rows<S: ReadAt, A: Allocator + Copy>(
     state: RandomState,
 ) -> Result<Listing<A>, LookFault>
     ensures listed { IfOk result (ListsRows (S.text source.now) ends rows.now) }
+    ensures apart { IfOk result (StandApart 0) }
     ensures fault { IfErr result (RefusesRows (S.text source.now) ends rows.now) }
 {
     let mut listing = Listing::new(alloc, state);
     let mut room = Vec::new(alloc);
+    let mut end = 0;
     for row in rows {
+        if row.1 < end {
+            return Err(LookFault::Damaged);
+        }
         let name = Name { bytes: row.0 };
-        let standing = standing_at(source, ends, row.1, &name, &mut room)?;
+        let (standing, behind) = standing_at(source, ends, row.1, &name, &mut room)?;
         if !listing.push(name, standing)? {
             return Err(LookFault::Damaged);
         }
+        end = behind;
     }
     Ok(listing)
 }
 
-/// What the line of the record of this name at a place says. `Damaged` where there stands none, or its body ends behind the end.
+/// What the line of the record of this name at a place says, and where its body ends. `Damaged` where there stands none, or its body ends
+/// behind the end.
 fn standing_at<S: ReadAt, A: Allocator + Copy>(
     source: &S,
     ends: u64,
     place: u64,
     name: &Name,
     room: &mut Vec<u8, A>,
-) -> Result<Standing, LookFault>
-    ensures { TellsStanding (S.text source.now) ends place name.now result }
+) -> Result<(Standing, u64), LookFault>
+    ensures standing { TellsStanding (S.text source.now) ends place name.now result }
+    ensures behind { IfOk result (λ told. (told.0.place ≡ place) × (place + told.0.length ≤ told.1)) }
 {
     let Some(left) = ends.checked_sub(place) else {
         return Err(LookFault::Damaged);
@@ -106,9 +114,10 @@ fn standing_at<S: ReadAt, A: Allocator + Copy>(
     if heading.length > left - start as u64 {
         return Err(LookFault::Damaged);
     }
-    Ok(Standing {
+    let standing = Standing {
         place,
         kind: heading.kind,
         length: heading.length,
-    })
+    };
+    Ok((standing, place + start as u64 + heading.length))
 }

@@ -9,6 +9,7 @@ ghost use Rattle.gx_growing.specs.GrowingText.{IsGrowingText};
 ghost use Rattle.gx_growing_parts.specs.Endings.{IsEnding};
 ghost use Rattle.gx_listed.specs.Listings.{ListsAll};
 ghost use Rattle.gx_objects.specs.Answers.{FindsRef, Holds, IsNamed, OnlyUntold, Tells};
+ghost use Rattle.gx_look.specs.Listing.{StandApart};
 ghost use Rattle.gx_look.specs.Looking.{place_at, told_by, told_rows};
 
 use crate::head::read_head;
@@ -76,7 +77,8 @@ impl<S: ReadAt, N: Namer, A: Allocator + Copy> Look<S, N, A> {
         })
     }
 
-    /// All objects of the text in the order in which they were added, for who goes through them.
+    /// All objects of the text in the order in which they were added, for who goes through them. Whatever the text holds, no body of
+    /// one stands in another's.
     ///
     /// ReadFailed: a read failed. OutOfMemory: a growth was refused. Damaged: this is no growing text.
     /// Cost: the rows of the live runs are read and sorted, and one read of 128 bytes for each object, from the front to the back. No
@@ -85,6 +87,7 @@ impl<S: ReadAt, N: Namer, A: Allocator + Copy> Look<S, N, A> {
     pub fn listing(&self, alloc: A, state: RandomState) -> Result<Listing<A>, LookFault>
         ensures listed { Tells (told_by (N.name_of self.now.0) self.now.1)
             (ListsAll (place_at (told_rows (N.name_of self.now.0) self.now.1))) result }
+        ensures apart { IfOk result (StandApart 0) }
         ensures fault { OnlyUntold (told_by (N.name_of self.now.0) self.now.1) result }
     {
         let rows = rows_by_place(alloc, &self.source, self.tail.runs.as_slice())?;

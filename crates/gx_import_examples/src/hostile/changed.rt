@@ -2,7 +2,7 @@
 //! or read whole.
 ghost use Rattle.std.specs.Prelude.{◌<◌, length};
 
-use crate::given::{MERGED, exported, fail_at, listed, opened, refusal_of, stored, text_of};
+use crate::given::{MERGED, exported, listed, opened, refusal_of, stored, text_of};
 use crate::hostile::old_texts::old_text_of;
 use gx_file::FileFault;
 use gx_import::ImportKind;
@@ -10,7 +10,6 @@ use gx_object::{Kind, Sha1Namer};
 use gx_repo::Repo;
 use std::alloc::{AllocError, Global};
 use std::hash::RandomState;
-use std::test::Fail;
 
 /// More than an export of these texts takes.
 const ROOM: usize = 4096;
@@ -49,14 +48,21 @@ fn comes_again(alloc: Global, text: &[u8], state: RandomState) -> bool {
 /// Whether a repository is written and read again, and walked, and its export is imported into one with the same refs
 /// and the same export.
 fn is_whole(alloc: Global, repo: &Repo<Sha1Namer, Global>, state: RandomState) -> bool {
-    let text = exported(alloc, repo, ROOM);
-    let mut again = Repo::new(alloc, Sha1Namer, state);
     comes_again(alloc, &text_of(alloc, repo), state)
         && are_walked(alloc, repo)
-        && !text.is_empty()
-        && refusal_of(alloc, &mut again, &text).is_none()
-        && repo.refs().eq(again.refs())
-        && exported(alloc, &again, ROOM) == text
+        && is_export_told(alloc, repo, &exported(alloc, repo, ROOM), state)
+}
+
+/// Whether a repository's export is imported into one with the same refs and the same export.
+fn is_export_told(
+    alloc: Global,
+    repo: &Repo<Sha1Namer, Global>,
+    text: &[u8],
+    state: RandomState,
+) -> bool {
+    let mut again = Repo::new(alloc, Sha1Namer, state);
+    let is_imported = !text.is_empty() && refusal_of(alloc, &mut again, text).is_none();
+    is_imported && repo.refs().eq(again.refs()) && exported(alloc, &again, ROOM).as_slice() == text
 }
 
 /// Whether what a stream is refused for, if it is, is its own, and leaves nothing; or else the repository is whole.
@@ -146,18 +152,17 @@ fn wrong_place(alloc: Global, kind: Text, text: &mut [u8], state: RandomState) -
     None
 }
 
-#[test]
-fn changed_stream_is_told(rt: HostRuntime) -> Result<(), Fail> {
-    let mut stream = Vec::from_slice(rt.alloc(), MERGED)?;
-    let state = RandomState::new(&rt)?;
-    fail_at(wrong_place(rt.alloc(), Text::Stream, &mut stream, state))
-}
-
-#[test]
-fn changed_store_text_is_told(rt: HostRuntime) -> Result<(), Fail> {
-    let state = RandomState::new(&rt)?;
-    let mut text = stored(rt.alloc(), MERGED, state);
-    fail_at(wrong_place(rt.alloc(), Text::StoreText, &mut text, state))
+/// The text of this kind of a stream, or of the store with it imported; an empty one where that is refused.
+fn text_as(alloc: Global, kind: Text, stream: &[u8], state: RandomState) -> Vec<u8> {
+    let text = match kind {
+        Text::Stream => Vec::from_slice(alloc, stream),
+        Text::StoreText => Ok(stored(alloc, stream, state)),
+        Text::OldStoreText => stored_before(alloc, stream, state),
+    };
+    match text {
+        Ok(text) => text,
+        Err(_) => Vec::new(alloc),
+    }
 }
 
 /// The text of version 1 of the store with a stream imported; an empty one where that is refused.
@@ -169,9 +174,32 @@ fn stored_before(alloc: Global, stream: &[u8], state: RandomState) -> Result<Vec
     }
 }
 
+/// The first place at which a change of the text of this kind isn't told, if there is one.
+fn wrong_in(alloc: Global, kind: Text, state: RandomState) -> Option<usize> {
+    let mut text = text_as(alloc, kind, MERGED, state);
+    wrong_place(alloc, kind, text.as_mut_slice(), state)
+}
+
 #[test]
-fn changed_store_text_of_version_1_is_told(rt: HostRuntime) -> Result<(), Fail> {
-    let state = RandomState::new(&rt)?;
-    let mut text = stored_before(rt.alloc(), MERGED, state)?;
-    fail_at(wrong_place(rt.alloc(), Text::OldStoreText, &mut text, state))
+fn changed_stream_is_told(rt: HostRuntime) {
+    match RandomState::new(&rt) {
+        Ok(state) => assert!(rt; wrong_in(rt.alloc(), Text::Stream, state).is_none()),
+        Err(_) => assert!(rt; false),
+    }
+}
+
+#[test]
+fn changed_store_text_is_told(rt: HostRuntime) {
+    match RandomState::new(&rt) {
+        Ok(state) => assert!(rt; wrong_in(rt.alloc(), Text::StoreText, state).is_none()),
+        Err(_) => assert!(rt; false),
+    }
+}
+
+#[test]
+fn changed_store_text_of_version_1_is_told(rt: HostRuntime) {
+    match RandomState::new(&rt) {
+        Ok(state) => assert!(rt; wrong_in(rt.alloc(), Text::OldStoreText, state).is_none()),
+        Err(_) => assert!(rt; false),
+    }
 }

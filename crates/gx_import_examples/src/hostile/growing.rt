@@ -7,7 +7,6 @@ use gx_object::Sha1Namer;
 use gx_repo::Repo;
 use std::alloc::{Allocator, Global};
 use std::hash::RandomState;
-use std::test::Fail;
 
 /// All changes of files and all commands that link to others, behind the first commit.
 const MANY: &[u8] =
@@ -103,10 +102,10 @@ fn refused_growths<A: Allocator + Copy>(
 /// The text of a store with the first commit and a stream imported; an empty one where that is refused.
 fn text_behind_first(alloc: Global, stream: &[u8], state: RandomState) -> Vec<u8> {
     let mut repo = Repo::new(alloc, Sha1Namer, state);
-    if text_with(alloc, &mut repo, FIRST).is_empty() {
-        return Vec::new(alloc);
+    match refusal_of(alloc, &mut repo, FIRST) {
+        None => text_with(alloc, &mut repo, stream),
+        Some(_) => Vec::new(alloc),
     }
-    text_with(alloc, &mut repo, stream)
 }
 
 /// How many growths of an import behind the first commit are refused, before a checkpoint and behind it; none where an
@@ -127,16 +126,18 @@ fn refused_behind_first(
 }
 
 #[test]
-fn refused_growth_leaves_the_store_or_the_last_checkpoint(rt: HostRuntime) -> Result<(), Fail> {
-    let state = RandomState::new(&rt)?;
-    for stream in [MERGED, MANY] {
-        let refused = refused_behind_first(rt.alloc(), b"", stream, stream, state);
+fn refused_growth_leaves_the_store_or_the_last_checkpoint(rt: HostRuntime) {
+    let Ok(state) = RandomState::new(&rt) else {
+        return assert!(rt; false);
+    };
+    let front = CHECKED.strip_suffix(BEHIND).unwrap_or(b"");
+    for (front, stream, unchecked) in [
+        (b"".as_slice(), MERGED, MERGED),
+        (b"".as_slice(), MANY, MANY),
+        (front, CHECKED, MERGED),
+    ] {
+        let refused = refused_behind_first(rt.alloc(), front, stream, unchecked, state);
         let (before, behind) = refused.unwrap_or((0, 0));
-        assert!(rt; before > 20 && behind == 0);
+        assert!(rt; before > 20 && (behind > 0) == !front.is_empty());
     }
-    let front = CHECKED.strip_suffix(BEHIND).ok_or("no checkpoint")?;
-    let refused = refused_behind_first(rt.alloc(), front, CHECKED, MERGED, state);
-    let (before, behind) = refused.unwrap_or((0, 0));
-    assert!(rt; before > 20 && behind > 0);
-    Ok(())
 }

@@ -52,14 +52,17 @@ Operands:
 
 Options before the command:
   --explain  tells the file and the system's cause of gx: read failed,
-             gx: write failed and gx: lock failed in a further line, and of a
-             refused stream what gx import --help has, as at a terminal
+             gx: write failed and gx: lock failed in a further line, what helps
+             with gx: store: Damaged, and of a refused stream what
+             gx import --help has, as at a terminal
   --version  prints the version, where it stands alone
 
 Exit status:
   0  the command was done, or help was asked for
   1  it was refused, for what standard error says in a line
   2  the command line isn't accepted
+  3  it was done, but something is lost: of gx adapt lines that change refs, of
+     gx verify --salvage refs
 
 Refusals:
   gx: command N: KIND   the Nth command of the stream, from 1
@@ -72,13 +75,15 @@ Refusals:
   gx: store: KIND       the text of FILE. KIND is OutOfMemory, BadMagic,
                         BadVersion, Truncated, BadRecord, NameMismatch,
                         DuplicateObject, Dangling, BadObject, BadRef, RefOrder,
-                        TrailingBytes or BadRows
+                        TrailingBytes or BadRows. Questions of a growing store,
+                        exports of its ranges and gc tell Damaged: gx verify
+                        tells the first fault, gx verify --salvage saves refs
   gx: export: KIND      OutOfMemory or WriteFailed
   gx: adapt: KIND       OutOfMemory, ReadFailed, WriteFailed, TruncatedData or
                         BadNumber
   gx: where: ...        as gx where --help has it
   gx: store exists      FILE is there, where a store is to be made
-  gx: store changed     FILE is another file than S tells, as gx put --help has it
+  gx: store changed     FILE is another than S tells, as gx put --help has it
   gx: bad stamp         S is no such text
   gx: read failed       FILE or standard input can't be read
   gx: write failed      FILE or standard output can't be written

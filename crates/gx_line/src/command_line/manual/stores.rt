@@ -8,7 +8,8 @@ pub(crate) const INIT: Page = Page {
     description: "\
 Makes an empty store, which has no objects and no refs.
 
-With --growing it is of version 3, as gx grow makes one of another.",
+With --growing it is of version 3, as gx grow makes one of another: what is
+asked of a large store then costs little, and what is new is appended to it.",
     details: "\
 Output:
   None.
@@ -27,9 +28,13 @@ pub(crate) const GROW: Page = Page {
     about: "Makes a growing store of a store",
     description: "\
 Makes a growing store of a store: one of version 3, in which tables say where
-each object stands. It has the same objects and refs, and all commands take it
-as they take others. A store that is one already stays as it is. The next store
-is written to FILE.new, which then takes the place of FILE.",
+each object stands. Questions (show, ls, refs, log, rev-parse, archive and
+batch) then read what they need, and not all of FILE. What import, drop and
+set-ref bring is appended to it.
+
+It has the same objects and refs, and all commands take it as they take others.
+A store that is one already stays as it is. The next store is written to
+FILE.new, which then takes the place of FILE.",
     details: "\
 Output:
   None.
@@ -58,7 +63,7 @@ Output:
   BadObject, Dangling or WrongKind.
 
 Exit status:
-  With --salvage 3 where refs are lost.
+  With --salvage 3 where refs are lost, or the last change.
 
 Refusals:
   gx: read failed
@@ -80,7 +85,8 @@ comes from a pipe, --done shows an end that came too early.
 A branch that the store has already only moves forward: its new commit has to be
 the old one or a descendant of it, unless --force is given or the stream has the
 line 'feature force'. Neither outlives the import. The next store is written to
-FILE.new, which then takes the place of FILE.
+FILE.new, which then takes the place of FILE; to a growing store what is new is
+appended.
 
 With --push each line of F tells of one ref what FILE has to have of it, before
 the stream is read, and what may become of it:
@@ -147,7 +153,7 @@ Drops refs from a store: all of these, or none.
 Each REF is a whole name, as gx refs prints it. With --stdin each line of
 standard input is one more name, behind those of the command line. The other
 refs stay, and so do all objects. The next store is written to FILE.new, which
-then takes the place of FILE.",
+then takes the place of FILE; to a growing store what is new is appended.",
     details: "\
 Output:
   None.
@@ -174,7 +180,8 @@ NEW and OLD are 40 digits, as gx refs prints them. Forty zeros as NEW remove the
 ref. Where OLD is given, the ref has to be that, and with forty zeros there may
 be none. A ref only moves forward: its new commit has to be the old one or a
 descendant of it, unless --force is given. The next store is written to
-FILE.new, which then takes the place of FILE.
+FILE.new, which then takes the place of FILE; to a growing store what is new is
+appended.
 
 With --stdin each line of standard input is a change, as git update-ref --stdin
 has them, and all are made, or none:
@@ -237,7 +244,8 @@ pub(crate) const GC: Page = Page {
 Leaves out of a store the objects that no ref reaches.
 
 The others keep their order, and the refs stay: what revisions and ranges by
-refs gave, they give. The next store is written to FILE.new, which then takes
+refs gave, they give. Of a growing store the tails and rows go, too, that were
+replaced by later ones. The next store is written to FILE.new, which then takes
 the place of FILE.
 
 With --keep each line of F is the 40 digits of an object, which stays with all

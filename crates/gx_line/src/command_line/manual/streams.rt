@@ -90,6 +90,9 @@ Output:
   error tells how many lines of each kind were mended, and what stays that is
   refused later.
 
+Exit status:
+  3 where lines are lost by which git changes refs or files of marks.
+
 Refusals:
   gx: adapt: KIND       KIND is ReadFailed, WriteFailed, TruncatedData,
                         BadNumber or OutOfMemory

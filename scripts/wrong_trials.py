@@ -175,8 +175,10 @@ class Room:
         pairs = [pair for edit in edits for pair in edit.pairs]
         texts = {file: (self.folder / file).read_text() for file, _, _ in pairs}
         changed = dict(texts)
-        for file, old, new in pairs:
-            changed[file] = changed[file].replace(old, new, 1)
+        # from the end on, so that no edit's new text is taken for another's old one
+        for file, old, new in sorted(pairs, key=lambda it: -texts[it[0]].index(it[1])):
+            at = texts[file].index(old)
+            changed[file] = changed[file][:at] + new + changed[file][at + len(old) :]
         only = [word for edit in edits for name in self.names(edit) for word in ("--only", name)]
         try:
             self.write(changed)

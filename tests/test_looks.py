@@ -289,7 +289,10 @@ FAILING = {
     # the head, once: the store is opened again
     "retval=0:when=2": ("", ""),
     # each time, and a read of the tail
-    "retval=0:when=2+": ("gx: store: Damaged\n", ""),
+    "retval=0:when=2+": (
+        "gx: store: Damaged\n",
+        "gx: gx verify FILE tells the first fault, and gx verify --salvage NEW FILE saves refs\n",
+    ),
     "error=EIO:when=2": ("gx: read failed\n", "gx: FILE: Input/output error (os error 5)\n"),
     "error=EIO:when=3": ("gx: read failed\n", "gx: FILE: Input/output error (os error 5)\n"),
     # what a signal interrupts is tried again

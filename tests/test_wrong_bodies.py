@@ -117,6 +117,35 @@ def test_a_text_that_does_not_stand_once_is_told(fresh: Copy) -> None:
     assert "lines_are_counted_from_nought.edit: its text stands in src/place.rt" in done.stderr
 
 
+SWAPPED = """
+import subprocess
+from pathlib import Path
+import wrong_trials
+
+class Read(wrong_trials.Room):
+    def __init__(self, folder):
+        self.folder, self.symbols = Path(folder), {"a": ["a"], "b": ["b"]}
+
+    def run(self, only):
+        print((self.folder / "src" / "lib.rt").read_text(), end="")
+        return subprocess.CompletedProcess(only, 0)
+
+top = Path("../crates/gx_where/wrong")
+Read("../swapped").check([wrong_trials.Edit(top / "a.edit"), wrong_trials.Edit(top / "b.edit")])
+"""
+
+
+def test_no_edit_of_a_check_undoes_another(copy: Copy) -> None:
+    (copy.top / "swapped" / "src").mkdir(parents=True)
+    (copy.top / "swapped" / "src" / "lib.rt").write_text("fn a() { x }\nfn b() { y }\n")
+    for name, old, new in (("a", "{ x }", "{ y }"), ("b", "{ y }", "{ x }")):
+        text = f"file: src/lib.rt\nold: {old}\nnew: {new}\n"
+        (copy.top / "crates/gx_where/wrong" / f"{name}.edit").write_text(text)
+    words = ["python3", "-c", SWAPPED]
+    done = subprocess.run(words, cwd=copy.top / "scripts", capture_output=True, text=True)
+    assert done.stdout == "fn a() { y }\nfn b() { x }\n", done.stderr
+
+
 def is_built() -> bool:
     return all((TOP / "crates" / crate / "out/rlib" / f"{crate}.rlib").is_dir() for crate in BELOW)
 

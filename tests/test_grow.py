@@ -75,6 +75,7 @@ def try_spoiled(gx: Program, store: Path, randoms: random.Random) -> None:
     store.write_bytes(text)
     told = gx("verify", store)
     done = gx("grow", store)
+    assert not store.with_name(f"{store.name}.new").exists()
     if told.status:
         assert done == told
         assert store.read_bytes() == text

@@ -8,7 +8,6 @@ use crate::plain::Plain;
 use gx_at::ReadAt;
 use gx_kept::{KeptFault, rewrite};
 use gx_object::Namer;
-use gx_objects::Objects;
 use gx_text::Sink;
 use std::alloc::Allocator;
 use std::hash::RandomState;
@@ -33,6 +32,5 @@ pub fn grow<S: ReadAt + Drop, N: Namer + Drop, A: Allocator + Copy, W: Sink>(
     ensures named { SendsNamed (N.name_of namer) (W.taken sink.old) (W.taken sink.new) result }
 {
     let plain = Plain::open(alloc, namer, source, state)?;
-    plain.sound_if_told();
     rewrite(alloc, &plain, plain.listing(), sink)
 }

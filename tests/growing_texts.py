@@ -134,6 +134,36 @@ def with_runs(text: bytes, runs: list[Run]) -> bytes:
     return head(b"a", ends, UNUSED) + text[HEAD:start] + last
 
 
+def nested(count: int) -> bytes:
+    """A text whose branch has so many files, of which each has the record of the one before as its body:
+    the rows lead into bodies, so this is no growing store."""
+    records = [record_of(b"blob", b"x")]
+    for _ in range(count - 1):
+        records.append(record_of(b"blob", records[-1].text()))
+    entries = (b"100644 f%06d\0%s" % (at, record.name) for at, record in enumerate(records))
+    tree = record_of(b"tree", b"".join(entries))
+    who = b"A <a@x> 1 +0000"
+    body = b"tree %s\nauthor %s\ncommitter %s\n\nm\n" % (tree.name.hex().encode(), who, who)
+    commit = record_of(b"commit", body)
+    front = b"objects %d\n" % (count + 2)
+    text = front + records[-1].text() + tree.text() + commit.text()
+    places = {each.name: HEAD + text.index(each.text()) for each in [*records, tree, commit]}
+    rows = [name + place.to_bytes(8, "big") for name, place in places.items()]
+    text += b"rows %d\n" % len(rows)
+    table = b"".join(sorted(rows))
+    pages = page_digests(table, sha256)
+    run = Run(HEAD + len(text), len(rows), sha256(pages))
+    last = tail([run], {b"refs/heads/main": commit.name})
+    text += table + pages + b"\n"
+    ends = slot(HEAD + len(text) + len(last), HEAD + len(text), sha256(last))
+    return head(b"a", ends, UNUSED) + text + last
+
+
+def record_of(kind: bytes, body: bytes) -> Record:
+    name = hashlib.sha1(b"%s %d\0" % (kind, len(body)) + body).digest()
+    return Record(kind, name, body)
+
+
 class Lines:
     """Reads a text line by line, from a place on."""
 

@@ -213,6 +213,26 @@ def test_random_questions(
         store.unlink()
 
 
+def test_many_refs(gx: Program, tmp_path: Path, randoms: random.Random) -> None:
+    """Among many refs each word finds the one that it stands for, or none."""
+    plain, store = tmp_path / "plain", tmp_path / "store"
+    kinds = ["heads", "heads", "remotes", "remotes/o", "tags", "notes"]
+    names = {f"refs/{randoms.choice(kinds)}/{randoms.randrange(400)}" for _ in range(600)}
+    names |= {f"refs/remotes/{randoms.randrange(400)}/HEAD" for _ in range(50)}
+    commits = (
+        f"commit {name}\ncommitter A <a@x> {number} +0000\ndata 0\n\n"
+        for number, name in enumerate(randoms.sample(sorted(names), len(names)))
+    )
+    gx.prints("init", plain)
+    gx.prints("import", plain, stdin="".join(commits).encode())
+    store.write_bytes(plain.read_bytes())
+    gx.prints("grow", store)
+    words = [*map(str, range(400)), *sorted(names), *(name.removeprefix("refs/") for name in names)]
+    lines = "".join(f"{word}\n{word}x\n{word[:-1]}\n" for word in words).encode()
+    question = ["batch", "--check", "STORE"]
+    assert asked(gx, store, question, lines) == asked(gx, plain, question, lines)
+
+
 # ---- reads
 
 READ = re.compile(r"^\d+ +(?:read|pread64|readv|preadv)\(\d+<([^>]*)>.*\) += (\d+)$", re.M)

@@ -14,7 +14,7 @@ from pathlib import Path
 import pytest
 
 from growing_reading import read
-from growing_texts import GrowingText, Record
+from growing_texts import GrowingText, Record, nested
 from programs import Program, counted
 from store_files import NEW, OLD
 from test_growing import grown, history
@@ -186,3 +186,11 @@ def test_refused(gx: Program, tmp_path: Path) -> None:
     new.write_bytes(b"")
     assert gx("verify", "--salvage", new, store).err == b"gx: store exists\n"
     assert new.read_bytes() == b""
+
+
+def test_objects_in_objects(gx: Program, tmp_path: Path) -> None:
+    """Of a text whose rows lead into bodies no more is saved than it has."""
+    store, new = tmp_path / "store", tmp_path / "new"
+    store.write_bytes(nested(300))
+    assert gx("verify", "--salvage", new, store).status == 3
+    assert new.stat().st_size <= store.stat().st_size

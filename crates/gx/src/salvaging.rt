@@ -86,7 +86,7 @@ fn salvage_by_other_slot(run: &Run<'_>, file: &str, state: RandomState) -> Resul
     })
 }
 
-/// Salvages what a look shows.
+/// Salvages what a look shows, of no more bytes than its text has.
 fn salvage_look<S: ReadAt>(
     run: &Run<'_>,
     look: &Look<S, Sha1Namer, Global>,
@@ -95,7 +95,8 @@ fn salvage_look<S: ReadAt>(
     let alloc = run.rt.alloc();
     let mut room = Vec::new(alloc);
     let lines = look.ref_lines(&mut room)?;
-    Ok(salvage(alloc, look, lines, Sha1Namer, state)?)
+    let most = look.ending().ends;
+    Ok(salvage(alloc, look, lines, Sha1Namer, most, state)?)
 }
 
 /// A line for each ref that is lost: its name, the digits of an object that isn't saved, and why that isn't.

@@ -12,6 +12,7 @@ mod OpenedTexts
 mod Opening
 mod ReadOn
 mod RecordsInRooms
+mod RefsInOrder
 mod RowsBetween
 mod RowsOfRuns
 mod RunsInLines

@@ -4,26 +4,21 @@ use Rattle.std.proofs.lemmas.List.{length-append}
 use Rattle.std.specs.Bool.{passes}
 use Rattle.std.specs.List.{flat_map}
 use Rattle.std.specs.Map.{lookup}
+use Rattle.std.specs.FinMap.Entries.{below_all, is_sorted}
 use Rattle.gx_model.specs.declared.store_faults.FileFault.TheVariants as fault
-use Rattle.gx_model.specs.Texts.{Bytes, cut_at, same_bytes}
+use Rattle.gx_model.specs.Texts.{Bytes, byte_cmp, cut_at, same_bytes}
 use Rattle.gx_model.specs.Objects.{hex, unhex}
 use Rattle.gx_model.specs.Objects.Naming.{lower_name_in}
 use Rattle.gx_model.specs.Stores.StoreText.{stored_ref}
 use Rattle.gx_model.proofs.Texts.Cuts.{cut_after, cut_spelled, some_is}
-use Rattle.gx_model.proofs.Texts.PathTests.{is_same, is_true, same_is}
+use Rattle.gx_model.proofs.Texts.PathTests.{is_same, is_true, same_is, second}
 use Rattle.gx_model.proofs.Streams.CommandFields.{link_no_space}
 use Rattle.gx_model.proofs.Records.OneHistory.{hex_line}
 use Rattle.gx_model.proofs.Records.ReadRecords.{hex_text}
 use Rattle.gx_model.proofs.ObjectTexts.BodiesReadBack.{bytes_name, unhex_hex}
 use Rattle.gx_model.proofs.Stores.StoreTexts.{if_there, line_read, word_line_read}
-use Rattle.gx_look.specs.Refs.{AreLines}
+use Rattle.gx_look.specs.Refs.{AreLeft, AreLines}
 use Rattle.gx_look.specs.Tails.{refs_text}
-
--- what is left of lines, where no ref in front has the name
-pub record AreLeft (name rest : Bytes) (refs : List (Bytes × Bytes)) : Type 0 where
-  pub left : List (Bytes × Bytes)
-  pub lines : AreLines rest left
-  pub same : lookup (same_bytes name) refs ≡ lookup (same_bytes name) left
 
 -- ---- the line in front
 
@@ -55,8 +50,13 @@ module _ (rest : Bytes) (x : Bytes × Bytes) (xs : List (Bytes × Bytes)) (lines
       ap (λ b. cond b (Some (unhex (hex x.1))) None) (is_true _ (hex_text x.1 name)) ∙ ap Some (unhex_hex x.1 (bytes_name x.1 name))
 
   -- and the others stand behind it
-  others : AreLines (refs_text xs) xs
-  others = record { spelled = refl; names = lines.names.1; targets = lines.targets.1 }
+  pub others : AreLines (refs_text xs) xs
+  others = record {
+    spelled = refl;
+    names = lines.names.1;
+    targets = lines.targets.1;
+    sorted = is_true _ (second (below_all byte_cmp x.0 xs) (is_sorted byte_cmp xs) (passes _ lines.sorted));
+  }
 
 -- ---- each step
 
@@ -74,16 +74,16 @@ none_left name rest line behind (x ∷ xs) h c s =
     absurd (cc)
 
 -- the parts of the line in front
-record IsFirst (line behind digits called : Bytes) (refs : List (Bytes × Bytes)) : Type 0 where
-  x : Bytes × Bytes
-  xs : List (Bytes × Bytes)
-  refs_are : refs ≡ x ∷ xs
-  digits_are : digits ≡ hex x.1
-  called_is : called ≡ x.0
-  read : lower_name_in digits ≡ Some x.1
-  behind_is : AreLines behind xs
+pub record IsFirst (line behind digits called : Bytes) (refs : List (Bytes × Bytes)) : Type 0 where
+  pub x : Bytes × Bytes
+  pub xs : List (Bytes × Bytes)
+  pub refs_are : refs ≡ x ∷ xs
+  pub digits_are : digits ≡ hex x.1
+  pub called_is : called ≡ x.0
+  pub read : lower_name_in digits ≡ Some x.1
+  pub behind_is : AreLines behind xs
 
-is_first : (rest line behind digits called : Bytes) (refs : List (Bytes × Bytes)) → AreLines rest refs → cut_at 10 rest ≡ Some (line, behind) → cut_at 32 line ≡ Some (digits, called) → IsFirst line behind digits called refs
+pub is_first : (rest line behind digits called : Bytes) (refs : List (Bytes × Bytes)) → AreLines rest refs → cut_at 10 rest ≡ Some (line, behind) → cut_at 32 line ≡ Some (digits, called) → IsFirst line behind digits called refs
 is_first rest line behind digits called [] h c s =
     let is = some_is (line, behind) (codes "end", []) (sym c ∙ ap (cut_at 10) h.spelled ∙ last_line) in
     let l = sym no_space ∙ ap (cut_at 32) (sym (ap (λ (p : Bytes × Bytes). p.0) is)) ∙ s in

@@ -74,6 +74,17 @@ module _ (name : Kind → Bytes → Bytes) (namer : IsNamer name) where
   entries_found r n es body found f b t =
       ap (λ (p : Option Record). elim p [ None ↦ [] | Some held ↦ entries_in held.body ]) f ∙ ap entries_in b ∙ entries_read es body t
 
+  -- the entries that a held tree's body writes
+  pub record AreWritten (r : Records) (n : Name) (o : Object) : Type 0 where
+    pub text : IsTreeText (entries_of name namer (files_of_tree (value_at r n))) o.body.now
+    pub named : entries_at r n ≡ entries_of name namer (files_of_tree (value_at r n))
+
+  pub entries_written : (r : Records) (n : Name) (o : Object) → IsSound name r → IsHeldAs kind.Tree r n → IsObjectAt name n r o → AreWritten r n o
+  entries_written r n o s h f =
+      let is = held_is name namer r s n.bytes (kind_held name namer r s kind.Tree n.bytes h).0 in
+      let text = tree_text_held name namer r s n.bytes o.body.now h f.body in
+      record { text = text; named = entries_found r n (entries_of name namer (files_of_tree (value_at r n))) o.body.now _ is.found (sym f.body) text }
+
   pub entries_are : (told : Option Records) (n : Name) (o : Object) (found : List Entry) → Sound told → IfTold told (IsHeldAs kind.Tree) n → IfTold told (IsObjectAt name n) o
       → IsTreeText found o.body.now → ((written : List Entry) → IsTreeText written o.body.now → found ≡ written) → IfTold told (AreEntriesAt name n) found
   entries_are None n o found s h f t only = tt

@@ -4,5 +4,6 @@ pub mod Peeled
 pub mod Bases
 pub mod Suffixes
 pub mod Walks
+pub mod ReadEntries
 pub mod Paths
 pub mod Denoted

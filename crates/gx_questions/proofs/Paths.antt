@@ -36,13 +36,15 @@ use Rattle.gx_model.proofs.Revisions.ShownValues.{file_stands, held_value}
 use Rattle.gx_model.proofs.Texts.PathTests.{is_true}
 use Rattle.gx_object.specs.declared.name.Name.{Name}
 use Rattle.gx_rev.specs.Answers.{IsNamed, shown_as, shown_by}
-use Rattle.gx_rev.specs.Objects.{IsHeldAs, files_at}
-use Rattle.gx_rev.specs.Places.{IsHeldPlace, place_of_entry, shown_place}
+use Rattle.gx_objects.specs.declared.objects.Object.{Object as Held}
+use Rattle.gx_rev.specs.Objects.{IsHeldAs, entries_at, files_at}
+use Rattle.gx_rev.specs.Places.{IsHeldPlace, IsOfEntry, place_of_entry, shown_place}
 use Rattle.gx_rev.specs.declared.shown.Shown.{Shown as Seen}
 use Rattle.gx_rev.specs.declared.shown.Shown.TheVariants.{Object}
 use Rattle.gx_questions.specs.Answers.{IfTold}
-use Rattle.gx_questions.specs.Objects.{AreEntriesAt}
-use Rattle.gx_questions.proofs.Found.{Sound}
+use Rattle.gx_questions.specs.Entries.{IsEntryIn}
+use Rattle.gx_questions.specs.Objects.{IsObjectAt}
+use Rattle.gx_questions.proofs.Found.{Sound, entries_written}
 
 -- a gitlink's digits are those of its name
 hex_again : (x : Bytes) → T (is_name_text x) → hex (unhex x) ≡ x
@@ -144,10 +146,25 @@ module _ (name : Kind → Bytes → Bytes) (namer : IsNamer name) (r : Records) 
 -- ---- of the repository that is told
 
 module _ (name : Kind → Bytes → Bytes) (namer : IsNamer name) where
-  pub entry_held : (told : Option Records) (n : Name) (c : Bytes) (es : List Entry) (found : Option (Mode × Name)) → Sound name namer told → IfTold told (IsHeldAs kind.Tree) n → IfTold told (AreEntriesAt name n) es
-      → option_map shown_place found ≡ option_map place_of_entry (entry_at es c) → IfSome told (λ r. IfSome found (IsHeldPlace r))
-  entry_held None n c es found s h f e = tt
-  entry_held (Some r) n c es found s h f e = place_held name namer r s n.bytes c found h (e ∙ ap (λ l. option_map place_of_entry (entry_at l c)) f.of_files)
+  -- what is found in the body of a held tree is of its entries, and a directory names a held tree
+  module _ (told : Option Records) (n : Name) (o : Held) (c : Bytes) (found : Option (Mode × Name)) (sound : Sound name namer told) (held : IfTold told (IsHeldAs kind.Tree) n) (is : IfTold told (IsObjectAt name n) o) (here : IsEntryIn o.body.now c found) where
+    pub entry_named : IfSome told (λ r. IsOfEntry (entry_at (entries_at r n) c) found)
+    entry_named = by told sound held is
+      where
+        by : (told : Option Records) → Sound name namer told → IfTold told (IsHeldAs kind.Tree) n → IfTold told (IsObjectAt name n) o → IfSome told (λ r. IsOfEntry (entry_at (entries_at r n) c) found)
+        by None s h f = tt
+        by (Some r) s h f =
+            let e = entries_written name namer r n o s h f in
+            subst (λ z. IsOfEntry (entry_at z c) found) (sym e.named) (here (entries_of name namer (files_at r n)) e.text)
+
+    pub entry_held : IfSome told (λ r. IfSome found (IsHeldPlace r))
+    entry_held = by told sound held is
+      where
+        by : (told : Option Records) → Sound name namer told → IfTold told (IsHeldAs kind.Tree) n → IfTold told (IsObjectAt name n) o → IfSome told (λ r. IfSome found (IsHeldPlace r))
+        by None s h f = tt
+        by (Some r) s h f =
+            let e = entries_written name namer r n o s h f in
+            place_held name namer r s n.bytes c found h (here (entries_of name namer (files_at r n)) e.text)
 
   pub no_place : (told : Option Records) (t : Name) (path : Path) → Sound name namer told → IfTold told (IsHeldAs kind.Tree) t → IfSome told (λ r. None ≡ walked r.records t.bytes path) → IfSome told (λ r. at_path (files_at r t) path ≡ Err fault.NoSuchPath)
   no_place None t path s h e = tt

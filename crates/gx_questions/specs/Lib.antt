@@ -1,2 +1,3 @@
 pub mod Answers
+pub mod Entries
 pub mod Objects

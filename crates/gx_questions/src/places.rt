@@ -1,6 +1,6 @@
 //! What stands at a path below a held tree, tree by tree.
 
-ghost use Rattle.std.specs.Prelude.{◌≡◌, IfSome};
+ghost use Rattle.std.specs.Prelude.{◌≡◌, IfOk, IfSome, OnErr};
 ghost use Rattle.std.specs.Option.{option_map};
 ghost use Rattle.gx_model.specs.declared.objects.Kind.TheVariants as kinds;
 ghost use Rattle.gx_model.specs.Objects.{is_dir};
@@ -8,10 +8,11 @@ ghost use Rattle.gx_model.specs.Records.Walks.{entry_at, walked};
 ghost use Rattle.gx_rev.specs.Objects.{IsHeldAs, entries_at};
 ghost use Rattle.gx_rev.specs.Places.{IsHeldPlace, IsOfEntry, shown_place};
 ghost use Rattle.gx_questions.specs.Answers.{IfTold, IsOfTold, NeedsNothing, RefusesUntold};
+ghost use Rattle.gx_questions.specs.Entries.{IsEntryIn, IsNoTree};
 
 use crate::AskFault;
-use crate::objects::entries;
-use gx_object::{Mode, Name, TreeEntries};
+use crate::objects::body;
+use gx_object::{BadObject, Kind, Mode, Name, TreeReader};
 use gx_objects::Objects;
 use gx_text::TreePath;
 use std::alloc::Allocator;
@@ -51,7 +52,7 @@ fn is_dir(mode: Mode) -> bool
     matches!(mode, Mode::Dir)
 }
 
-/// The mode and the name of a held tree's entry with this component.
+/// The mode and the name of a held tree's entry with this component. The tree is read up to it.
 fn entry_of<O: Objects, A: Allocator + Copy>(
     objects: &O,
     room: &mut Vec<u8, A>,
@@ -67,17 +68,23 @@ fn entry_of<O: Objects, A: Allocator + Copy>(
     ensures sure { NeedsNothing (O.sure objects.now) result }
 {
     objects.sound_if_told();
-    Ok(find_entry(entries(objects, tree, room)?, component))
+    let object = body(objects, tree, room)?;
+    match object.kind {
+        Kind::Tree => Ok(find_entry(object.body, component)?),
+        Kind::Blob | Kind::Commit | Kind::Tag => Err(AskFault::Damaged),
+    }
 }
 
-/// The mode and the name of the entry with this component.
-fn find_entry(entries: TreeEntries<'_>, component: &[u8]) -> Option<(Mode, Name)>
-    ensures { IsOfEntry (entry_at entries.entry component.now) result }
+/// The mode and the name of the entry with this component in a tree's body, which is read up to it.
+fn find_entry(body: &[u8], component: &[u8]) -> Result<Option<(Mode, Name)>, BadObject>
+    ensures found { IfOk result (IsEntryIn body.now component.now) }
+    ensures fault { OnErr result (IsNoTree body.now) }
 {
-    for entry in entries {
+    let mut reader = TreeReader::new(body);
+    while let Some((entry, _)) = reader.read()? {
         if component == entry.component {
-            return Some((entry.mode, entry.name));
+            return Ok(Some((entry.mode, entry.name)));
         }
     }
-    None
+    Ok(None)
 }

@@ -19,7 +19,7 @@ pub(crate) fn salvaged(
     let Ok(lines) = holed.ref_lines(&mut room) else {
         return None;
     };
-    salvage(alloc, holed, lines, Sha1Namer, state).ok()
+    salvage(alloc, holed, lines, Sha1Namer, u64::MAX, state).ok()
 }
 
 /// Whether refs are lost by this damage alone, and they and the lines of those that are saved are the row's. What can't be read

@@ -1,5 +1,5 @@
 -- Which records are saved.
-use Rattle.std.specs.Prelude.{◌≡◌, is_some, IsTrue, List, Some}
+use Rattle.std.specs.Prelude.{◌≡◌, ℕ, ◌+◌, is_some, IsTrue, List, [], ◌∷◌, length, Some}
 use Rattle.std.specs.List.{AllByRecursion}
 use Rattle.gx_model.specs.Histories.{Record, Records}
 use Rattle.gx_model.specs.Records.Growth.{record_named}
@@ -16,3 +16,8 @@ IsSaved records called = IsTrue (is_some (record_named records called))
 -- what is held stays
 abbrev pub KeepsSaved : List Record → List Record → Type 0
 KeepsSaved old new = (called : Bytes) → IsSaved old called → IsSaved new called
+
+-- how many bytes the bodies of records have
+abbrev pub body_bytes : List Record → ℕ
+body_bytes [] = 0
+body_bytes (held ∷ records) = length held.body + body_bytes records

@@ -1,8 +1,9 @@
 //! What can be saved of a store.
 
-ghost use Rattle.std.specs.Prelude.{◌≡◌, IfOk, IfSome};
+ghost use Rattle.std.specs.Prelude.{◌≡◌, ◌≤◌, IfOk, IfSome};
 ghost use Rattle.std.specs.List.{AllByRecursion};
 ghost use Rattle.gx_objects.specs.Answers.{AreRefLines, SpellsRefs};
+ghost use Rattle.gx_salvage_refs.specs.Saved.{body_bytes};
 ghost use Rattle.gx_salvage_refs.specs.Salvaging.{ArePartedRefs, IsLostBy, IsSavedOf};
 
 use crate::Salvaged;
@@ -22,6 +23,9 @@ use std::hash::RandomState;
 /// An object that a lost ref reaches is saved, too, where all that it reaches can be read. Objects stand in the order of their
 /// places, each behind what it names.
 ///
+/// The bodies of what is saved have so many bytes at most: those of a store's objects aren't longer than its text. An object that would be
+/// more is lost as one of which a read failed.
+///
 /// `AllocError`: a growth was refused.
 /// Cost: trees, commits and tags are read twice, blobs once, and each is hashed once more where it is added; a look-up for each
 /// link. Memory: what is saved, and about a hundred bytes for each object. Source: gitglossary(7), "reachable", and git-fsck(1).
@@ -30,6 +34,7 @@ pub fn salvage<O: Objects, N: Namer, A: Allocator + Copy>(
     objects: &O,
     lines: &[u8],
     namer: N,
+    most: u64,
     state: RandomState,
 ) -> Result<Salvaged<N, A>, AllocError>
 where
@@ -44,13 +49,14 @@ where
         AllByRecursion (IsLostBy (N.name_of namer) salvaged.repo.1.records) salvaged.lost.items) }
     ensures saved { IfSome (O.told objects.now) (λ r. IfOk result (λ salvaged.
         IsSavedOf r salvaged.repo.1 salvaged.lost.items)) }
+    ensures within { IfOk result (λ salvaged. body_bytes salvaged.repo.1.records ≤ most) }
 {
     objects.sound_if_told();
     let mut repo = Repo::new(alloc, namer, state);
     let mut bad = Bad::new(alloc);
     let refs = refs_of(alloc, lines)?;
     let order = reached(alloc, objects, refs.as_slice(), &mut bad)?;
-    take_all(alloc, objects, order, &mut repo, &mut bad)?;
+    take_all(alloc, objects, order, most, &mut repo, &mut bad)?;
     let parted = part(alloc, &repo, &bad, refs.as_slice())?;
     match repo.publish(parted.kept.as_slice()) {
         Ok(()) => Ok(Salvaged {

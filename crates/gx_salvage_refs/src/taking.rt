@@ -1,21 +1,22 @@
 //! Objects that are taken over into a repository, each behind what it names.
 
-ghost use Rattle.std.specs.Prelude.{◌≡◌, [], IfErr, IfOk, IfSome, None, OnOk};
+ghost use Rattle.std.specs.Prelude.{◌≡◌, ◌+◌, ◌≤◌, [], length, IfErr, IfOk, IfSome, None, OnErr, OnOk};
 ghost use Rattle.gx_model.specs.Records.Growth.{record_named};
-ghost use Rattle.gx_objects.specs.Answers.{IsHeldThere, StandsIfTold};
+ghost use Rattle.gx_objects.specs.Answers.{IsHeldThere, IsNamedAs, OnlyUntold, StandsIfTold, Tells};
 ghost use Rattle.gx_repo.specs.declared.fault.AddFault.TheVariants.{OutOfMemory};
 ghost use Rattle.gx_reached.specs.Damages.{AreDamages, IsBad, KeepsBad, damage_in};
 ghost use Rattle.gx_reached.specs.Reaching.{IsVisited};
-ghost use Rattle.gx_salvage_refs.specs.Saved.{AreOf, KeepsSaved};
+ghost use Rattle.gx_salvage_refs.specs.Saved.{AreOf, KeepsSaved, body_bytes};
 ghost use Rattle.gx_salvage_refs.specs.Taking.{AreUnsaved, FindsDamage, IsReady, Settles, SettlesAll, TellsRefusal, is_settled};
 
 use gx_object::{Kind, Name, Namer};
-use gx_objects::{Object, Objects};
+use gx_objects::{LookFault, Object, Objects};
 use gx_reached::{Bad, Cause, Damage, cause_of, links_of};
 use gx_repo::{AddFault, Repo};
 use std::alloc::{AllocError, Allocator};
 
-/// Takes over the objects at these places, the last one first. Those that can't be taken over are entered as bad.
+/// Takes over the objects at these places, the last one first, whose bodies have so many bytes at most. Those that can't be taken over
+/// are entered as bad, and so are those that would be more.
 ///
 /// Cost: the bodies, each hashed by where it stands and by where it goes, and a look-up for each link. Memory: what the
 /// repository holds of them.
@@ -23,6 +24,7 @@ pub(crate) fn take_all<O: Objects, N: Namer, A: Allocator + Copy>(
     alloc: A,
     objects: &O,
     visited: Vec<(u64, Name), A>,
+    most: u64,
     repo: &mut Repo<N, A>,
     bad: &mut Bad<A>,
 ) -> Result<(), AllocError>
@@ -37,17 +39,21 @@ pub(crate) fn take_all<O: Objects, N: Namer, A: Allocator + Copy>(
         repo.new.1.records bad.new) }
     ensures settled { IfSome (O.told objects.now) (λ r. OnOk result
         (SettlesAll r visited.items bad.old repo.new.1.records bad.new)) }
+    ensures within { OnOk result (body_bytes repo.new.1.records ≤ most) }
 {
     objects.sound_if_told();
     let mut left = visited;
+    let mut bytes = most;
     let mut room = Vec::new(alloc);
     while let Some((place, name)) = left.pop() {
-        take(alloc, objects, place, &name, repo, bad, &mut room)?;
+        take(
+            alloc, objects, place, &name, repo, bad, &mut bytes, &mut room,
+        )?;
     }
     Ok(())
 }
 
-/// Takes over the object at a place, unless it is bad.
+/// Takes over the object at a place, unless it is bad, or its body has more bytes than these.
 fn take<O: Objects, N: Namer, A: Allocator + Copy>(
     alloc: A,
     objects: &O,
@@ -55,6 +61,7 @@ fn take<O: Objects, N: Namer, A: Allocator + Copy>(
     name: &Name,
     repo: &mut Repo<N, A>,
     bad: &mut Bad<A>,
+    bytes: &mut u64,
     room: &mut Vec<u8, A>,
 ) -> Result<(), AllocError>
     requires names { O.name_of objects.now ≡ N.name_of repo.old.0 }
@@ -71,14 +78,42 @@ fn take<O: Objects, N: Namer, A: Allocator + Copy>(
     ensures keeps_bad { OnOk result (KeepsBad bad.old bad.new) }
     ensures settles { IfSome (O.told objects.now) (λ r. OnOk result
         (Settles r name.now.bytes repo.new.1.records bad.new)) }
+    ensures within { OnOk result (body_bytes repo.new.1.records + bytes.new
+        ≤ body_bytes repo.old.1.records + bytes.old) }
 {
     objects.sound_if_told();
     if is_settled(repo, bad, name) {
         return Ok(());
     }
-    match objects.object_at(place, name, room) {
+    match read_within(objects, place, name, bytes, room) {
         Ok(object) => add(alloc, objects, name, object, repo, bad),
         Err(fault) => bad.enter_itself(name, cause_of(fault)?),
+    }
+}
+
+/// The object at a place, whose body's bytes are taken off these. Where it has more, that is as a read that fails: what a store tells has
+/// no more bytes than it.
+fn read_within<'a, O: Objects, A: Allocator + Copy>(
+    objects: &'a O,
+    place: u64,
+    name: &Name,
+    bytes: &mut u64,
+    room: &'a mut Vec<u8, A>,
+) -> Result<Object<'a>, LookFault>
+    requires there { StandsIfTold (O.told objects.now) (O.stands objects.now) name.now.bytes place }
+    ensures held { Tells (O.told objects.now) (IsHeldThere name.now.bytes) result }
+    ensures named { IfOk result (IsNamedAs (O.name_of objects.now) name.now.bytes) }
+    ensures fault { OnlyUntold (O.told objects.now) result }
+    ensures within { IfOk result (λ object. length object.body.now + bytes.new ≤ bytes.old) }
+    ensures unchanged { OnErr result (bytes.new ≡ bytes.old) }
+{
+    let object = objects.object_at(place, name, room)?;
+    match bytes.checked_sub(object.body.len() as u64) {
+        Some(left) => {
+            *bytes = left;
+            Ok(object)
+        }
+        None => Err(LookFault::ReadFailed),
     }
 }
 
@@ -118,6 +153,8 @@ fn add<O: Objects, N: Namer, A: Allocator + Copy>(
     ensures keeps_bad { OnOk result (KeepsBad bad.old bad.new) }
     ensures settles { IfSome (O.told objects.now) (λ r. OnOk result
         (Settles r name.now.bytes repo.new.1.records bad.new)) }
+    ensures within { OnOk result (body_bytes repo.new.1.records
+        ≤ body_bytes repo.old.1.records + length object.body.now) }
 {
     objects.sound_if_told();
     repo.sound();

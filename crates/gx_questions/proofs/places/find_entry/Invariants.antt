@@ -1,6 +1,8 @@
-use Rattle.std.proofs.Common.{◌≡◌}
-use Rattle.gx_model.specs.Records.Walks.{entry_at}
+use Rattle.gx_questions.proofs.ReadEntries.{IsLeftOf}
 use Rattle.gx_questions.proofs.places.find_entry.Given as goal
 
 abbrev pub invariant-loop-entry : goal.invariant-loop-entry
-invariant-loop-entry l = entry_at l.entry-iterator l.component ≡ entry_at l.fn.entries l.component
+invariant-loop-entry l = IsLeftOf l.body l.component l.reader.entries
+
+abbrev pub decreases-loop-entry : goal.decreases-loop-entry
+decreases-loop-entry l = l.reader.most

@@ -1,4 +1,4 @@
-use Rattle.std.proofs.Common.{◌≡◌, ◌∙◌, List, Ok, ap, map, subst, sym}
+use Rattle.std.proofs.Common.{◌≡◌, ◌≤◌, ◌∙◌, List, Ok, ap, map, subst, sym}
 use Rattle.std.specs.Prelude.{IfSome, IsTrue}
 use Rattle.std.specs.List.{AllByRecursion, list_all}
 use Rattle.gx_model.specs.Faults.{IsFaultOf}
@@ -11,7 +11,7 @@ use Rattle.gx_reached.specs.Damages.{IsBad}
 use Rattle.gx_reached.specs.Reaching.{IsVisited, StandsSomewhere, targets_of}
 use Rattle.gx_reached.proofs.Stepping.{told_alone}
 use Rattle.gx_salvage_refs.specs.Salvaging.{ArePartedBy, IsLostBy, IsSavedOf}
-use Rattle.gx_salvage_refs.specs.Saved.{AreOf}
+use Rattle.gx_salvage_refs.specs.Saved.{AreOf, body_bytes}
 use Rattle.gx_salvage_refs.specs.Taking.{AreUnsaved}
 use Rattle.gx_salvage_refs.proofs.Losses.{all_lost_by}
 use Rattle.gx_salvage_refs.proofs.SavedRefs.{all_named, kept_are_set, none_damaged, none_refused, saved_told, tips_told, untipped}
@@ -99,3 +99,6 @@ returns-in-Ok-clause-saved g c =
     told_alone told (λ r. IsSavedOf r old lost) (λ r. IsSavedOf r now lost) (λ r h. record { records_are = subst (AreOf r) (sym c.publish.ensures.records) h.records_are; read = h.read })
     (saved_told (g.O.Objects.name_of o) s.namer c.args.lines.now refs c.in_ok-refs.ensures told stands order bad c.take_all.new.bad old lost s.sound c.requires.lines visited
     c.in_ok-take_all.ensures.settled c.in_ok-take_all.ensures.bad c.in_ok-parted.ensures.lost parted.lost_are)
+
+pub returns-in-Ok-clause-within : goal.returns-in-Ok-clause-within
+returns-in-Ok-clause-within g c = subst (λ rs. body_bytes rs ≤ c.args.most) (sym c.publish.ensures.records) c.in_ok-take_all.ensures.within

@@ -1,4 +1,4 @@
-use Rattle.std.proofs.Common.{◌∙◌, ap, inr, subst, sym}
+use Rattle.std.proofs.Common.{◌∙◌, ◌+◌, ◌≤◌, ap, arith, inr, length, subst, sym}
 use Rattle.std.specs.Prelude.{IfSome, OnOk}
 use Rattle.gx_model.specs.Histories.{Record, record_for}
 use Rattle.gx_model.specs.Objects.{IsNamer}
@@ -9,9 +9,10 @@ use Rattle.gx_reached.specs.Damages.{Enters, damage_in}
 use Rattle.gx_reached.specs.declared.damage.Damage.{Damage}
 use Rattle.gx_reached.proofs.Entering.{bad_now, on_ok}
 use Rattle.gx_reached.proofs.Stepping.{told_alone}
-use Rattle.gx_salvage_refs.specs.Saved.{AreOf, KeepsSaved}
+use Rattle.gx_salvage_refs.specs.Saved.{AreOf, KeepsSaved, body_bytes}
 use Rattle.gx_salvage_refs.specs.Taking.{AreUnsaved, IsReady, Settles}
 use Rattle.gx_salvage_refs.proofs.Refusals.{grown, refused}
+use Rattle.gx_salvage_refs.proofs.SavedBytes.{bytes_with, if_ok}
 use Rattle.gx_salvage_refs.proofs.Settling.{keeps_with, refusal_is, refused_stays, took_told, unread_told, without_refs}
 use Rattle.gx_salvage_refs.proofs.taking.add.Goals as goal
 
@@ -98,3 +99,18 @@ returns-in_ok-damage-in-Err-clause-settles g c =
     let same = refused_stays old new (record_for (g.N.Namer.name_of c.args.repo.now.0) object.kind object.body.now) c.in-Err.fault c.in-Err.ensures.adds in
     told_alone told (λ r. AreOf r old × IsReady r old bad called × IsHeldThere called r object) (λ r. OnOk c.enter.result (Settles r called new then))
     (λ r h. on_ok (Enters bad then called damage) (Settles r called new then) c.enter.result (λ e. record { records_are = subst (AreOf r) (sym same) h.0; settled = inr (bad_now bad then called damage e) }) c.enter.ensures) c.requires.ready
+
+pub returns-in-Ok-clause-within : goal.returns-in-Ok-clause-within
+returns-in-Ok-clause-within g c =
+    let old = c.args.repo.now.1.records in
+    let body = c.args.object.body.now in
+    let added = record_for (g.N.Namer.name_of c.args.repo.now.0) c.args.object.kind body in
+    subst (λ rs. body_bytes rs ≤ body_bytes old + length body) (sym c.in-Ok.ensures.adds.2) (bytes_with old added)
+
+pub returns-in_ok-damage-in-Err-clause-within : goal.returns-in_ok-damage-in-Err-clause-within
+returns-in_ok-damage-in-Err-clause-within g c =
+    let old = c.args.repo.now.1.records in
+    let body = c.args.object.body.now in
+    let added = record_for (g.N.Namer.name_of c.args.repo.now.0) c.args.object.kind body in
+    let more : body_bytes old ≤ body_bytes old + length body = omega arith in
+    if_ok c.enter.result _ (subst (λ rs. body_bytes rs ≤ body_bytes old + length body) (sym (refused_stays old c.add_record.new.self.1.records added c.in-Err.fault c.in-Err.ensures.adds)) more)

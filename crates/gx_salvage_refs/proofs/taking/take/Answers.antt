@@ -1,12 +1,13 @@
-use Rattle.std.proofs.Common.{◌∙◌, ap, sym}
+use Rattle.std.proofs.Common.{◌∙◌, ◌+◌, ◌≤◌, ap, arith, length, sym}
 use Rattle.gx_objects.specs.Answers.{IsHeldThere}
 use Rattle.gx_reached.specs.Damages.{Enters}
 use Rattle.gx_reached.specs.declared.damage.Damage.{Damage}
 use Rattle.gx_reached.proofs.Entering.{on_ok, only_unread}
 use Rattle.gx_reached.proofs.Stepping.{told_both}
-use Rattle.gx_salvage_refs.specs.Saved.{AreOf}
+use Rattle.gx_salvage_refs.specs.Saved.{AreOf, body_bytes}
 use Rattle.gx_salvage_refs.specs.Taking.{AreUnsaved, IsReady}
 use Rattle.gx_salvage_refs.proofs.Refusals.{unsaved_itself}
+use Rattle.gx_salvage_refs.proofs.SavedBytes.{if_ok}
 use Rattle.gx_salvage_refs.proofs.Settling.{settles_now, unsettled}
 use Rattle.gx_salvage_refs.proofs.taking.take.Goals as goal
 
@@ -43,3 +44,14 @@ returns-in_ok-cause_of-in-Err-clause-bad g c =
     on_ok (Enters c.args.bad.now then damage.object.bytes damage) (AreUnsaved name told rs then) c.enter_itself.result
     (λ e. unsaved_itself c.args.bad.now then damage e name told rs (unsettled rs c.args.bad.now c.args.name.now.bytes (sym c.is_settled.ensures ∙ c.if-is_settled.false)).1
     (only_unread told c.in-Err.fault damage.cause c.in_ok-cause_of-in-Err.ensures.cause c.in-Err.ensures.fault) c.requires.bad) c.enter_itself.ensures
+
+pub returns-in-Ok-clause-within : goal.returns-in-Ok-clause-within
+returns-in-Ok-clause-within g c =
+    let old = body_bytes c.args.repo.now.1.records in
+    let new = body_bytes c.add.new.repo.1.records in
+    let size = length c.in-Ok.object.body.now in
+    let read = c.in-Ok.ensures.within in
+    on_ok (new ≤ old + size) (new + c.read_within.new.bytes ≤ old + c.args.bytes.now) c.add.result (λ more. omega (arith, read, more)) c.add.ensures.within
+
+pub returns-in_ok-cause_of-in-Err-clause-within : goal.returns-in_ok-cause_of-in-Err-clause-within
+returns-in_ok-cause_of-in-Err-clause-within g c = let same = c.in-Err.ensures.unchanged in if_ok c.enter_itself.result _ (omega (arith, same))

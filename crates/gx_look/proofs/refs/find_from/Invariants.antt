@@ -1,8 +1,7 @@
 use Rattle.std.proofs.Common.{List, length, ◌++◌}
 use Rattle.gx_model.specs.Texts.{Bytes}
-use Rattle.gx_look.specs.Refs.{AreLines}
-use Rattle.gx_look.proofs.LinesOfRefs.{AreLeft}
-use Rattle.gx_look.proofs.refs.find.Given as goal
+use Rattle.gx_look.specs.Refs.{AreLeft, AreLines}
+use Rattle.gx_look.proofs.refs.find_from.Given as goal
 
 abbrev pub invariant-loop-line : goal.invariant-loop-line
 invariant-loop-line l = (refs : List (Bytes × Bytes)) → AreLines l.lines refs → AreLeft (l.before ++ l.word ++ l.after) l.rest refs

@@ -29,7 +29,7 @@ refs_are name namer r sound = record {
 
 -- the lines of refs as a repository may have them
 pub lines_of : (lines : Bytes) (refs : List (Bytes × Bytes)) → lines ≡ refs_text refs → AreRefs refs → AreLines lines refs
-lines_of lines refs e h = record { spelled = e; names = names refs (passes _ h.names); targets = h.objects }
+lines_of lines refs e h = record { spelled = e; names = names refs (passes _ h.names); targets = h.objects; sorted = h.sorted }
   where
     names : (refs : List (Bytes × Bytes)) → T (list_all (λ ref. is_ref_name ref.0) refs) → AllByRecursion (λ ref. IsTrue (is_line ref.0)) refs
     names [] h = tt

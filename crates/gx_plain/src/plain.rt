@@ -172,7 +172,7 @@ impl<S: ReadAt, N: Namer, B: Allocator + Copy> Objects for Plain<S, N, B> {
         }
     }
 
-    /// Cost: one pass over the refs for each name.
+    /// Cost: a binary search in the lines of the refs for each name.
     fn object_of_ref(&self, name: &[u8]) -> Result<Option<Name>, LookFault> {
         stores_are_read();
         let lines = &self.tail.text.as_slice()[self.tail.refs..];

@@ -2,6 +2,7 @@
 use Rattle.std.proofs.Common.{◌≡◌, [], Option, Some, None, Result, Ok, Err, refl, sym, ◌∙◌, subst}
 use Rattle.std.specs.Prelude.{IfSome, IsOk}
 use Rattle.std.specs.Result.{result_ok}
+use Rattle.std.proofs.lemmas.Bool.{false≢true}
 use Rattle.sha2.specs.Sha256.{sha256}
 use Rattle.gx_model.specs.declared.objects.Kind.{Kind}
 use Rattle.gx_model.specs.Histories.{Records}
@@ -55,7 +56,7 @@ module _ (name : Kind → Bytes → Bytes) (was : Option Taken) where
 
         by : (s : Stored Records) → store_of name text ≡ s → IsOk s → IfSome (result_ok s) (λ r. Rewrites name r was now result) → IsOnTheWay (result_ok s) result → Grows name text was now result
         by (Ok r) e o h w = of r result e h w
-        by (Err why) e o h w = absurd o
+        by (Err why) e o h w = absurd (false≢true o)
 
     pub grown_so : (told : Option Bytes) (result : Result (Unit {0}) KeptFault) → IfSome told (λ text. IsOk (store_of name text)) → IfSome (told_by name told) (λ r. Rewrites name r was now result)
         → IsOnTheWay (told_by name told) result → IfSome told (λ text. Grows name text was now result)

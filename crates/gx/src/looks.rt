@@ -35,8 +35,18 @@ pub(crate) fn growing_file<'a>(
     run.want_read(growing_at(Host::new(run, file), file))
 }
 
-/// Opens a file at a path of which the first line is a growing store's. A look comes first, since to open a pipe would wait.
+/// Opens a file at a path of which the first line is a growing store's.
 pub(crate) fn growing_at<'a>(host: Host<'a>, path: &str) -> io::Result<Option<FileAt<'a>>> {
+    file_in_form(host, path, StoreForm::Growing)
+}
+
+/// Opens a file at a path of which the first line isn't a growing store's.
+pub(crate) fn plain_at<'a>(host: Host<'a>, path: &str) -> io::Result<Option<FileAt<'a>>> {
+    file_in_form(host, path, StoreForm::Plain)
+}
+
+/// Opens a file at a path whose text is of a form. A look comes first, since to open a pipe would wait.
+fn file_in_form<'a>(host: Host<'a>, path: &str, form: StoreForm) -> io::Result<Option<FileAt<'a>>> {
     let mut host = host;
     if host.look(path)?.kind != FileKind::File {
         return Ok(None);
@@ -48,7 +58,7 @@ pub(crate) fn growing_at<'a>(host: Host<'a>, path: &str) -> io::Result<Option<Fi
     let source = FileAt::read_only(host.run, opened);
     let mut front = [0; 10];
     match source.read_at(0, &mut front) {
-        Ok(count) if form_of(&front[..count]) == StoreForm::Growing => Ok(Some(source)),
+        Ok(count) if form_of(&front[..count]) == form => Ok(Some(source)),
         _ => Ok(None),
     }
 }

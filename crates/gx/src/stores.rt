@@ -7,6 +7,7 @@ mod differing;
 mod drop_refs;
 pub(crate) mod files;
 mod gc;
+mod grow;
 pub(crate) mod host;
 mod import;
 pub(crate) mod next_text;
@@ -22,6 +23,7 @@ use crate::run::{Run, Subject};
 use crate::streams::devices::Noted;
 pub(crate) use drop_refs::drop_refs;
 pub(crate) use gc::collect;
+pub(crate) use grow::grow;
 use gx_cli::{CliFault, Repo, lines_from};
 use gx_object::Sha1Namer;
 use gx_text::FromRead;
@@ -44,17 +46,6 @@ pub(crate) fn init(
     let mut next = NextText::claim_new(run, file)?;
     next.shape(form);
     next.publish_store(&Repo::new(run.rt.alloc(), Sha1Namer, state))?;
-    Ok(())
-}
-
-/// Makes a growing text of a store file's text, and leaves one that is.
-pub(crate) fn grow(run: &Run<'_>, file: &str, state: RandomState) -> Result<(), RunFault> {
-    let mut next = NextText::claim_next(run, file)?;
-    let repo = next.read_repo(state)?;
-    if next.form() == StoreForm::Plain {
-        next.shape(StoreForm::Growing);
-        next.publish_store(&repo)?;
-    }
     Ok(())
 }
 

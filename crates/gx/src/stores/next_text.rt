@@ -6,7 +6,7 @@ use super::differing::Differing;
 use super::host::Host;
 use crate::fault::RunFault;
 use crate::looks::file_at::FileAt;
-use crate::looks::{FileLook, growing_at, has_room_for_rows};
+use crate::looks::{FileLook, growing_at, has_room_for_rows, plain_at};
 use crate::run::{Run, Subject};
 use crate::stores::files::open_text;
 use crate::streams::devices::{Noted, flushed};
@@ -204,6 +204,26 @@ impl<'a> NextText<'a> {
         Ok(gone)
     }
 
+    /// Publishes the growing text of the store file, where that is of version 1 or 2. Answers false, where nothing was written, since it
+    /// isn't.
+    ///
+    /// Who fails leaves what [`NextText::publish_store`] does.
+    pub(crate) fn publish_grown(&mut self, state: RandomState) -> Result<bool, RunFault> {
+        let opened = plain_at(self.host, self.text.place().store());
+        let Some(source) = self.host.run.want_read(opened)? else {
+            return Ok(false);
+        };
+        self.host.run.placed(self.text.begin())?;
+        match write_grown(self.host.run, &mut self.text, source, state) {
+            Ok(()) => {
+                self.put_in_place()?;
+                Ok(true)
+            }
+            Err(RunFault::Damaged) if !self.is_written()? => Ok(false),
+            Err(fault) => Err(fault),
+        }
+    }
+
     /// The store file, to compare the next text with it, and how many bytes it has.
     fn open_store(&mut self, stamp: Stamp) -> Result<(FileAt<'a>, u64), RunFault> {
         match open_same(&mut self.host, self.text.place(), stamp) {
@@ -279,6 +299,25 @@ fn write_kept(
         Ok(mut out) => {
             let mut sink = IntoWrite::new(&mut out);
             let sent = gx_kept::collect(alloc, look, &listing, kept, &mut sink);
+            flushed(&mut out, sent.map_err(RunFault::from))
+        }
+        Err(_) => Err(RunFault::Command(CliFault::OutOfMemory)),
+    }
+}
+
+/// The growing text of a plain one goes out through a buffer.
+fn write_grown(
+    run: &Run<'_>,
+    text: &mut gx_place::NextText<Host<'_>>,
+    source: FileAt<'_>,
+    state: RandomState,
+) -> Result<(), RunFault> {
+    let alloc = run.rt.alloc();
+    let noted = Noted::new(run, Subject::NextText, text);
+    match BufWriter::with_capacity(alloc, BUFFER, noted) {
+        Ok(mut out) => {
+            let mut sink = IntoWrite::new(&mut out);
+            let sent = gx_plain::grow(alloc, Sha1Namer, source, state, &mut sink);
             flushed(&mut out, sent.map_err(RunFault::from))
         }
         Err(_) => Err(RunFault::Command(CliFault::OutOfMemory)),

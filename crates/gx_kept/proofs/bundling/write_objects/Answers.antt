@@ -12,9 +12,10 @@ pub loop-number-init : goal.loop-number-init
 loop-number-init g c = none_written (g.O.Objects.name_of c.args.objects.now) (g.O.Objects.told c.args.objects.now) c.args.listing.now c.args.marks.now c.args.pack.now
 
 pub write_object-requires : goal.write_object-requires
-write_object-requires g c =
-    stands_listed (g.O.Objects.name_of c.args.objects.now) (g.O.Objects.stands c.args.objects.now) (g.O.Objects.told c.args.objects.now) c.args.listing.now c.sound_if_told.ensures.sound c.requires.listed
-    c.loop-number.number (c.in-Some.name, c.in-Some.standing) c.in-Some.ensures
+write_object-requires g c = record {
+  there = stands_listed (g.O.Objects.name_of c.args.objects.now) (g.O.Objects.stands c.args.objects.now) (g.O.Objects.told c.args.objects.now) c.args.listing.now c.sound_if_told.ensures.sound c.requires.listed
+      c.loop-number.number (c.in-Some.name, c.in-Some.standing) c.in-Some.ensures;
+}
 
 pub returns-in_err-write_object-clause-objects : goal.returns-in_err-write_object-clause-objects
 returns-in_err-write_object-clause-objects g c =

@@ -1,13 +1,12 @@
 -- A pack of objects that are marked: its head, the entries, and the digest of all that.
-use Rattle.std.proofs.Common.{◌≡◌, ℕ, List, [], ◌++◌, append_assoc, length, map, Option, Some, None, Result, Ok, Err, refl, sym, ap, ◌∙◌, subst}
+use Rattle.std.proofs.Common.{◌≡◌, ℕ, List, [], ◌++◌, append_assoc, length, Option, Some, None, Ok, Err, sym, ap, ◌∙◌, subst}
 use Rattle.std.specs.Prelude.{IfSome, Bool}
-use Rattle.std.specs.List.{filter}
 use Rattle.std.proofs.lemmas.List.{length-map}
 use Rattle.sha1.specs.Sha1.{Holds, sha1}
 use Rattle.gx_model.specs.declared.objects.Kind.{Kind}
 use Rattle.gx_model.specs.Histories.{Records, object_of}
 use Rattle.gx_model.specs.Texts.{Bytes}
-use Rattle.gx_model.specs.Texts.Sinks.{FailedWithin, Taken, Took}
+use Rattle.gx_model.specs.Texts.Sinks.{FailedWithin, Took}
 use Rattle.gx_model.proofs.Texts.SentTexts.{failed_after, failed_longer, took_both}
 use Rattle.gx_store.specs.Marked.{marked}
 use Rattle.gx_listed.specs.Listings.{Listed, ListsIfTold}

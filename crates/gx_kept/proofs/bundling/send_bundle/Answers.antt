@@ -1,5 +1,4 @@
-use Rattle.std.proofs.Common.{◌≡◌, ◌++◌, sym, subst, rules}
-use Rattle.std.specs.Prelude.{IfSome}
+use Rattle.std.proofs.Common.{◌++◌, rules}
 use Rattle.std.proofs.lemmas.Result.{err_from_is_err_and}
 use Rattle.sha1.specs.Sha1.{sha1}
 use Rattle.gx_object.specs.Parts.{bytes_if}
@@ -7,8 +6,7 @@ use Rattle.gx_pack.specs.Bundles.{bundle_text}
 use Rattle.gx_kept.specs.Faults.{Sends, Stops, of_look}
 use Rattle.gx_kept.proofs.Stopping.{look_stops, look_told, of_told}
 use Rattle.gx_kept.specs.Sending.{left_of}
-use Rattle.gx_store.specs.Marked.{marked}
-use Rattle.gx_kept.specs.Bundling.{SendsObjects, bundled, head_line}
+use Rattle.gx_kept.specs.Bundling.{bundled, head_line}
 use Rattle.gx_kept.proofs.SentBundles.{at_told, each_told, head_fails, head_spelled, head_told, pack_name, pack_named, pack_sent}
 use Rattle.gx_kept.proofs.bundling.send_bundle.Goals as goal
 

@@ -1,4 +1,4 @@
-use Rattle.std.proofs.Common.{◌≡◌, ◌∙◌, ◌++◌, sym, subst}
+use Rattle.std.proofs.Common.{◌∙◌, ◌++◌, sym, subst}
 use Rattle.gx_file.specs.Sending.{Sent}
 use Rattle.gx_object.specs.Parts.{bytes_if}
 use Rattle.gx_kept.specs.Bundling.{head_line}

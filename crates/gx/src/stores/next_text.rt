@@ -219,7 +219,13 @@ impl<'a> NextText<'a> {
                 self.put_in_place()?;
                 Ok(true)
             }
-            Err(RunFault::Damaged) if !self.is_written()? => Ok(false),
+            Err(RunFault::Damaged) => {
+                if self.is_written()? {
+                    Err(RunFault::Damaged)
+                } else {
+                    Ok(false)
+                }
+            }
             Err(fault) => Err(fault),
         }
     }

@@ -160,7 +160,7 @@ fn add<O: Objects, N: Namer, A: Allocator + Copy>(
     ensures settles { IfSome (O.told objects.now) (λ r. OnOk result
         (Settles r name.now.bytes repo.new.1.records bad.new)) }
     ensures within { OnOk result (body_bytes repo.new.1.records
-        ≤ body_bytes repo.old.1.records + length object.body.now) }
+        ≤ body_bytes repo.old.1.records + length object.entry.body.now) }
 {
     objects.sound_if_told();
     repo.sound();

@@ -64,6 +64,10 @@ nothing_cut : cut_at 10 [] ≡ None
 unfolding cut_at
 nothing_cut = refl
 
+some_none : {A : Type 0} (x : A) (o : Option A) → o ≡ Some x → o ≡ None → ⊥
+some_none x None e f = cc
+some_none x (Some y) e f = cc
+
 map_none : {A B : Type 0} (f : A → B) (o : Option A) → option_map f o ≡ None → o ≡ None
 map_none f None e = refl
 map_none f (Some x) e = absurd (cc)
@@ -75,8 +79,7 @@ cut_front c (x ∷ xs) ys e = by (eqb x c) refl (cut_front c xs ys)
   where
     by : (t : Bool) → eqb x c ≡ t → (cut_at c xs ≡ None → cut_at c (xs ++ c ∷ ys) ≡ Some (xs, ys)) → cut_at c (x ∷ (xs ++ c ∷ ys)) ≡ Some (x ∷ xs, ys)
     by true t again =
-        let l : Some ([], xs) ≡ None = sym (cut_here c xs) ∙ ap (λ z. cut_at c (z ∷ xs)) (sym (eqb-true x c t)) ∙ e in
-        absurd (cc)
+        absurd (some_none ([], xs) (cut_at c (c ∷ xs)) (cut_here c xs) (ap (λ z. cut_at c (z ∷ xs)) (sym (eqb-true x c t)) ∙ e))
     by false t again =
         let none = map_none (λ (p : Bytes × Bytes). (x ∷ p.0, p.1)) (cut_at c xs) (sym (cut_past c x xs t) ∙ e) in
         cut_past c x (xs ++ c ∷ ys) t ∙ ap (option_map (λ (p : Bytes × Bytes). (x ∷ p.0, p.1))) (again none)
@@ -154,8 +157,7 @@ later_left lines n part later name cut before = λ refs h.
   where
     by : (refs : List (Bytes × Bytes)) → AreLines lines refs → (later ≡ []) ⊎ AreLast later refs → AreLeft name later refs
     by refs h (inl nothing) =
-        let l : None ≡ Some (before.stands.line, before.stands.behind) = sym nothing_cut ∙ ap (cut_at 10) (sym nothing) ∙ before.stands.front in
-        absurd (cc)
+        absurd (some_none (before.stands.line, before.stands.behind) (cut_at 10 later) before.stands.front (ap (cut_at 10) nothing ∙ nothing_cut))
     by refs h (inr last) =
         let f = is_first later before.stands.line before.stands.behind before.digits before.called last.behind last.lines before.stands.front before.stands.parts in
         let less = subst (λ z. byte_cmp z name ≡ Less) f.called_is before.less in

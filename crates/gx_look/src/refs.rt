@@ -122,13 +122,7 @@ fn near<'a>(lines: &'a [u8], before: &[u8], word: &[u8], after: &[u8]) -> &'a [u
 }
 
 /// The lines behind the one that ends behind so many bytes, where these begin with a lesser name than these three together; else all.
-fn behind<'a>(
-    lines: &'a [u8],
-    from: usize,
-    before: &[u8],
-    word: &[u8],
-    after: &[u8],
-) -> &'a [u8]
+fn behind<'a>(lines: &'a [u8], from: usize, before: &[u8], word: &[u8], after: &[u8]) -> &'a [u8]
     requires { from ≤ length lines.now }
     ensures { LeavesName lines.now (before.now ++ word.now ++ after.now) result.now }
 {

@@ -23,8 +23,8 @@ use std::hash::RandomState;
 /// An object that a lost ref reaches is saved, too, where all that it reaches can be read. Objects stand in the order of their
 /// places, each behind what it names.
 ///
-/// The bodies of what is saved have so many bytes at most: those of a store's objects aren't longer than its text. An object that would be
-/// more is lost as one of which a read failed.
+/// The bodies of what is saved have so many bytes at most: those of a store's objects aren't longer than its text. From the first object
+/// on that would be more they are lost as ones of which a read failed.
 ///
 /// `AllocError`: a growth was refused.
 /// Cost: trees, commits and tags are read twice, blobs once, and each is hashed once more where it is added; a look-up for each

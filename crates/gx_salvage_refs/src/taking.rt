@@ -16,7 +16,7 @@ use gx_repo::{AddFault, Repo};
 use std::alloc::{AllocError, Allocator};
 
 /// Takes over the objects at these places, the last one first, whose bodies have so many bytes at most. Those that can't be taken over
-/// are entered as bad, and so are those that would be more.
+/// are entered as bad, and so are those from the first on that would be more.
 ///
 /// Cost: the bodies, each hashed by where it stands and by where it goes, and a look-up for each link. Memory: what the
 /// repository holds of them.
@@ -91,8 +91,8 @@ fn take<O: Objects, N: Namer, A: Allocator + Copy>(
     }
 }
 
-/// The object at a place, whose body's bytes are taken off these. Where it has more, that is as a read that fails: what a store tells has
-/// no more bytes than it.
+/// The object at a place, whose body's bytes are taken off these. Where it has more, that is as a read that fails, and so is each one
+/// behind it, unread: what a store tells has no more bytes than it.
 fn read_within<'a, O: Objects, A: Allocator + Copy>(
     objects: &'a O,
     place: u64,
@@ -105,15 +105,21 @@ fn read_within<'a, O: Objects, A: Allocator + Copy>(
     ensures named { IfOk result (IsNamedAs (O.name_of objects.now) name.now.bytes) }
     ensures fault { OnlyUntold (O.told objects.now) result }
     ensures within { IfOk result (λ object. length object.body.now + bytes.new ≤ bytes.old) }
-    ensures unchanged { OnErr result (bytes.new ≡ bytes.old) }
+    ensures less { OnErr result (bytes.new ≤ bytes.old) }
 {
+    if *bytes == 0 {
+        return Err(LookFault::ReadFailed);
+    }
     let object = objects.object_at(place, name, room)?;
     match bytes.checked_sub(object.body.len() as u64) {
         Some(left) => {
             *bytes = left;
             Ok(object)
         }
-        None => Err(LookFault::ReadFailed),
+        None => {
+            *bytes = 0;
+            Err(LookFault::ReadFailed)
+        }
     }
 }
 
@@ -154,7 +160,7 @@ fn add<O: Objects, N: Namer, A: Allocator + Copy>(
     ensures settles { IfSome (O.told objects.now) (λ r. OnOk result
         (Settles r name.now.bytes repo.new.1.records bad.new)) }
     ensures within { OnOk result (body_bytes repo.new.1.records
-        ≤ body_bytes repo.old.1.records + length object.body.now) }
+        ≤ body_bytes repo.old.1.records + length object.entry.body.now) }
 {
     objects.sound_if_told();
     repo.sound();

@@ -1,4 +1,4 @@
-use Rattle.std.proofs.Common.{ap, sym, ◌∙◌}
+use Rattle.std.proofs.Common.{sym, ◌∙◌}
 use Rattle.std.specs.Bool.{passes}
 use Rattle.std.specs.Ordering.{is_lt}
 use Rattle.gx_model.proofs.Histories.PathRuns.{less_is}

@@ -54,4 +54,4 @@ returns-in-Ok-clause-within g c =
     on_ok (new ≤ old + size) (new + c.read_within.new.bytes ≤ old + c.args.bytes.now) c.add.result (λ more. omega (arith, read, more)) c.add.ensures.within
 
 pub returns-in_ok-cause_of-in-Err-clause-within : goal.returns-in_ok-cause_of-in-Err-clause-within
-returns-in_ok-cause_of-in-Err-clause-within g c = let same = c.in-Err.ensures.unchanged in if_ok c.enter_itself.result _ (omega (arith, same))
+returns-in_ok-cause_of-in-Err-clause-within g c = let less = c.in-Err.ensures.less in if_ok c.enter_itself.result _ (omega (arith, less))

@@ -19,7 +19,7 @@ def words_of(text: bytes) -> list[bytes]:
 
 
 def try_bundle(git: Callable[..., bytes], folder: Path, bundle: Path, refs: bytes) -> None:
-    """Git clones a bundle, and has these refs, what they reach, and nothing else."""
+    """Git clones and fetches a bundle, and has these refs, what they reach, and nothing else."""
     git("init", "-q", "--bare", folder / "empty")
     told = git("bundle", "verify", bundle, cwd=folder / "empty")
     assert b"records a complete history" in told
@@ -27,6 +27,8 @@ def try_bundle(git: Callable[..., bytes], folder: Path, bundle: Path, refs: byte
     git("clone", "-q", "--mirror", bundle, mirror)
     assert git("fsck", "--full", "--strict", cwd=mirror) == b""
     assert git("for-each-ref", "--format=%(objectname) %(refname)", cwd=mirror) == refs
+    git("fetch", "-q", bundle, "refs/*:refs/*", cwd=folder / "empty")
+    assert git("for-each-ref", "--format=%(objectname) %(refname)", cwd=folder / "empty") == refs
     held = git("cat-file", "--batch-all-objects", "--batch-check=%(objectname)", cwd=mirror)
     reached = git("rev-list", "--objects", "--no-object-names", "--all", cwd=mirror)
     assert words_of(held) == words_of(reached)

@@ -19,7 +19,7 @@ PARTS = ("src", "specs", "proofs")
 LINE = re.compile(r"^(file|old|new): ?(.*)$", re.M)
 SAID = re.compile(r"^fn (?P<symbol>\S+): (?P<words>.*)$", re.M)
 # said of a function that has nothing against it but others
-HIDDEN = "no proof: it calls "
+HIDDEN = re.compile(r"no proof: it calls |not proved; it calls ")
 # what the prover says of a text that it can't read, where no contract was tried
 UNREAD = re.compile(
     r"is not in scope|has no field|is no name|operand is missing|expected the end|cannot continue"
@@ -215,7 +215,7 @@ class Room:
         found = {}
         for edit in edits:
             words = [said[symbol] for symbol in symbols[edit.name]]
-            own = words if len(edits) == 1 else [it for it in words if not it.startswith(HIDDEN)]
+            own = words if len(edits) == 1 else [it for it in words if not HIDDEN.match(it)]
             kind, why = verdict_by(own)
             if len(edits) == 1 or kind == REFUSED or kind == PROVED and own == words:
                 found[edit.name] = kind, why

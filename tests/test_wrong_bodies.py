@@ -146,6 +146,35 @@ def test_no_edit_of_a_check_undoes_another(copy: Copy) -> None:
     assert done.stdout == "fn a() { y }\nfn b() { x }\n", done.stderr
 
 
+HIDDEN = """
+import subprocess
+from pathlib import Path
+import wrong_trials
+
+class Said(wrong_trials.Room):
+    def __init__(self):
+        self.crate, self.symbols = "c", {"a": ["a"], "b": ["b"]}
+
+    def check(self, edits):
+        words = "not proved; it stands on `c.b`, which antt refuses"
+        calls = "not proved; it calls `c::b`, which is not proved"
+        return subprocess.CompletedProcess([], 1, f"fn c::a: {calls}\\nfn c::b: {words}\\n")
+
+top = Path("../crates/gx_where/wrong")
+found = Said().judge([wrong_trials.Edit(top / "a.edit"), wrong_trials.Edit(top / "b.edit")])
+print({name: kind for name, (kind, _) in found.items()})
+"""
+
+
+def test_one_that_calls_what_is_refused_has_no_verdict(copy: Copy) -> None:
+    for name in ("a", "b"):
+        text = f"file: src/lib.rt\nold: {name}\nnew: x\n"
+        (copy.top / "crates/gx_where/wrong" / f"{name}.edit").write_text(text)
+    words = ["python3", "-c", HIDDEN]
+    done = subprocess.run(words, cwd=copy.top / "scripts", capture_output=True, text=True)
+    assert done.stdout == "{'b': 'refused'}\n", done.stderr
+
+
 def is_built() -> bool:
     return all((TOP / "crates" / crate / "out/rlib" / f"{crate}.rlib").is_dir() for crate in BELOW)
 

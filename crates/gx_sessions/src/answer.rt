@@ -202,8 +202,9 @@ fn file_fault(folder: &Folder, line: &Line<'_>) -> Option<CliFault> {
 fn file_of<'a>(line: &Line<'a>) -> Option<&'a str> {
     match line {
         Line::Stream(_) => None,
-        Line::Ask { file, .. } | Line::Change { file, .. } | Line::Verify { file, .. } => {
-            Some(file)
-        }
+        Line::Ask { file, .. }
+        | Line::Change { file, .. }
+        | Line::Verify { file, .. }
+        | Line::Bundle { file, .. } => Some(file),
     }
 }

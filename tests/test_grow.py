@@ -100,6 +100,21 @@ def test_spoiled(gx: Program, tmp_path: Path, randoms: random.Random, times: int
         try_spoiled(gx, tmp_path / "store", randoms)
 
 
+LONGEST = (1 << 64) - 1
+
+
+@pytest.mark.parametrize("digits", [b"", b" " + named("blob", b"abc").encode()])
+def test_longest_record(gx: Program, tmp_path: Path, digits: bytes) -> None:
+    """A line that tells of more bytes than any file has is the fault that `gx verify` tells."""
+    store = tmp_path / "store"
+    version = b"2" if digits else b"1"
+    line = b"blob %d%s\nabc\n" % (LONGEST, digits)
+    store.write_bytes(b"gxstore %s\nobjects 1\n%srefs 0\nend\n" % (version, line))
+    told = gx("verify", store)
+    assert (told.status, told.err) == (1, b"gx: store: Truncated\n")
+    assert gx("grow", store) == told
+
+
 LARGE = 24
 
 

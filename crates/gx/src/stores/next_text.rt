@@ -219,14 +219,17 @@ impl<'a> NextText<'a> {
                 self.put_in_place()?;
                 Ok(true)
             }
-            Err(RunFault::Damaged) => {
-                if self.is_written()? {
-                    Err(RunFault::Damaged)
-                } else {
-                    Ok(false)
+            Err(fault) => {
+                // a line may tell of more bytes than are read: a reading of the whole tells that
+                let is_of_text = matches!(
+                    fault,
+                    RunFault::Damaged | RunFault::Command(CliFault::ReadFailed)
+                );
+                if is_of_text && !self.is_written()? {
+                    return Ok(false);
                 }
+                Err(fault)
             }
-            Err(fault) => Err(fault),
         }
     }
 

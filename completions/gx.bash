@@ -23,9 +23,10 @@ __gx_operands() {
   operands=()
   for ((i = 2; i < ${#words[@]} - 1; i++)); do
     case ${words[i]} in
-      --max-count | -n | --prefix | --format | --head | --keep | --push | --expect-stamp | --wait)
+      --max-count | -n | --since | --until | --skip | --prefix | --format | --head | --keep | --push | --expect-stamp | --wait)
         i=$((i + 1))
         ;;
+      --points-at | --contains | --no-contains | --merged | --no-merged) i=$((i + 1)) ;;
       -?*) ;;
       *) operands+=("${words[i]}") ;;
     esac
@@ -66,7 +67,7 @@ __gx_revisions() {
   local -a names=()
   __gx_unquote "${operands[0]}"
   [[ -f $file ]] || return 0
-  if [[ ${words[1]} =~ ^(log|export)$ && $last =~ ^(\^|.*\.\.\.?)(.*)$ ]]; then
+  if [[ ${words[1]} =~ ^(log|export|bundle)$ && $last =~ ^(\^|.*\.\.\.?)(.*)$ ]]; then
     front=${BASH_REMATCH[1]}
     last=${BASH_REMATCH[2]}
   fi
@@ -105,10 +106,13 @@ __gx_options() {
     import) __gx_answer '' "$1" --done --force --push --report --explain --wait --help ;;
     try | check) __gx_answer '' "$1" --done --force --explain --help ;;
     verify) __gx_answer '' "$1" --salvage --help ;;
-    bundle) __gx_answer '' "$1" --head --help ;;
+    bundle) __gx_answer '' "$1" --all --head --pack --help ;;
     gc) __gx_answer '' "$1" --keep --report --wait --help ;;
+    refs) __gx_answer '' "$1" --points-at --contains --no-contains --merged --no-merged --help ;;
     export) __gx_answer '' "$1" --changes --no-done --help ;;
-    log) __gx_answer '' "$1" --all --stdin --format --reverse --max-count -n --parents --help ;;
+    log) __gx_answer '' "$1" --all --stdin --merges --no-merges --since --until --skip --max-count -n --format --reverse --count --parents --help ;;
+    diff) __gx_answer '' "$1" --name-status --name-only --raw --count --quiet --exit-code -z --help ;;
+    merge-base) __gx_answer '' "$1" --all --octopus --is-ancestor --help ;;
     *) __gx_answer '' "$1" --help ;;
   esac
 }
@@ -128,13 +132,13 @@ __gx_words_of_command() {
   local -a operands
   __gx_operands
   case ${words[1]}:${#operands[@]} in
-    init:0 | grow:0 | verify:0 | import:0 | drop:0 | set-ref:0 | put:0 | gc:0 | export:0 | bundle:0 | show:0 | ls:0 | archive:0 | batch:0 | refs:0 | log:0 | rev-parse:0) __gx_files "$last" ;;
-    show:1 | ls:1 | archive:1 | drop:[1-9]* | set-ref:1 | export:[1-9]* | log:[1-9]* | rev-parse:[1-9]*) __gx_revisions "$last" ;;
+    init:0 | grow:0 | verify:0 | import:0 | drop:0 | set-ref:0 | put:0 | gc:0 | export:0 | bundle:0 | show:0 | ls:0 | archive:0 | batch:0 | refs:0 | log:0 | rev-parse:0 | diff:0 | merge-base:0) __gx_files "$last" ;;
+    show:1 | ls:1 | archive:1 | drop:[1-9]* | set-ref:1 | export:[1-9]* | bundle:[1-9]* | log:[1-9]* | rev-parse:[1-9]* | diff:[12] | merge-base:[1-9]*) __gx_revisions "$last" ;;
   esac
 }
 
 _gx() {
-  local -a words commands=(blobs try check adapt where init grow verify import drop set-ref put gc export bundle show ls archive batch refs log rev-parse)
+  local -a words commands=(blobs try check adapt where init grow verify import drop set-ref put gc export bundle show ls archive batch refs log rev-parse diff merge-base)
   COMPREPLY=()
   # behind < and > bash completes files by itself
   [[ ${COMP_WORDS[COMP_CWORD - 1]} != *[\<\>]* ]] || return 0
@@ -147,7 +151,7 @@ _gx() {
     __gx_answer '' "$last" "${commands[@]}" help --help
   elif [[ ${words[1]} == help ]]; then
     __gx_answer '' "$last" "${commands[@]}"
-  elif [[ ${words[-2]} =~ ^(-n|--(max-count|prefix|format|keep|push|wait|expect-stamp))$ ]]; then
+  elif [[ ${words[-2]} =~ ^(-n|--(max-count|since|until|skip|prefix|format|keep|push|wait|expect-stamp))$ ]]; then
     __gx_value "$last"
   elif [[ ${words[1]} == log && $last == --format=* ]]; then
     __gx_answer '' "$last" --format={oneline,raw,subject,author,dates}

@@ -49,6 +49,8 @@ ENUMS = {
 # the enum whose texts have a number and a word, and the part that explains these, by what stands before the number
 NUMBERED = "gx_cli/src/fault.rt"
 PARTS = {"keep": "Objects to keep"}
+# the enum whose texts have the word of a part, and behind it one of its own
+RUNS, OF_RUNS = "gx/src/fault.rt", {"bundle": "Bundles"}
 # what no line of a push is refused for, since its objects come from the stream, and what is told without a part
 UNTOLD = {("Pushes", word) for word in ("BadRefName", "UnknownObject", "WrongKind")} | {("Stores", "ReadFailed"), ("Bundles", "Stopped")}
 
@@ -72,12 +74,18 @@ def numbered():
     return {(PARTS[front], word) for front, word in texts if front in PARTS}
 
 
+def of_runs():
+    """The words that stand behind that of a part, each with this."""
+    texts = re.findall(r'"gx: (\w+): (\w+)"', (TOP / "crates" / RUNS).read_text())
+    return {(OF_RUNS[front], word) for front, word in texts if front in OF_RUNS}
+
+
 def standing():
     """The faults of the sources, as pairs of a part and a word."""
     told = {
         (part, word) for part, places in ENUMS.items() for place in places for word in words_of(place)
     }
-    return numbered() | told - UNTOLD
+    return numbered() | of_runs() | told - UNTOLD
 
 
 def headings(text):

@@ -11,10 +11,13 @@ use Rattle.gx_kept.specs.declared.fault.KeptFault.{KeptFault}
 use Rattle.gx_kept.specs.declared.fault.KeptFault.TheVariants as kept
 use Rattle.gx_objects.specs.declared.fault.LookFault.{LookFault}
 use Rattle.gx_objects.specs.declared.fault.LookFault.TheVariants as look
+use Rattle.gx_questions.specs.declared.fault.AskFault.{AskFault}
+use Rattle.gx_questions.specs.declared.fault.AskFault.TheVariants as ask
+use Rattle.gx_ranges.specs.declared.fault.RangeFault.{RangeFault}
 use Rattle.gx_told.specs.declared.fault.ToldFault.{ToldFault}
 use Rattle.gx_told.specs.declared.fault.ToldFault.TheVariants as told
 use Rattle.gx.specs.declared.fault.RunFault.{RunFault}
-use Rattle.gx.specs.declared.fault.RunFault.TheVariants.{Command, LockFailed, LongName, StoreChanged, BadStamp, RandomFailed, Damaged, NotSmall, ManyObjects}
+use Rattle.gx.specs.declared.fault.RunFault.TheVariants.{Command, LockFailed, LongName, StoreChanged, BadStamp, RandomFailed, Damaged, NotSmall, ManyObjects, EmptyBundle}
 
 -- the line of a refusal, without its line feed
 abbrev pub line_of : RunFault → List ℕ
@@ -27,6 +30,7 @@ line_of RandomFailed = codes "gx: random bytes failed"
 line_of Damaged = codes "gx: store: Damaged"
 line_of NotSmall = codes "gx: no small repository"
 line_of ManyObjects = codes "gx: bundle: Unsupported"
+line_of EmptyBundle = codes "gx: bundle: Empty"
 
 -- why a run is refused that can't look into its store
 abbrev pub of_look : LookFault → RunFault
@@ -45,6 +49,16 @@ of_kept kept.WriteFailed = Command cli.WriteFailed
 abbrev pub of_bundle : BundleFault → RunFault
 of_bundle Unsupported = ManyObjects
 of_bundle (Stopped fault) = of_kept fault
+
+-- why a run is refused that is asked for range words, by the number of the first that is refused
+abbrev pub of_word : ℕ → AskFault → RunFault
+of_word word ask.OutOfMemory = Command cli.OutOfMemory
+of_word word ask.ReadFailed = Command cli.ReadFailed
+of_word word ask.Damaged = Damaged
+of_word word (ask.Revision kind) = Command (cli.Revision word kind)
+
+abbrev pub of_range : RangeFault → RunFault
+of_range fault = of_word fault.word fault.kind
 
 -- why a run is refused whose question is
 abbrev pub of_told : ToldFault → RunFault

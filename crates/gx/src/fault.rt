@@ -1,7 +1,15 @@
 //! Why a run of the program is refused.
 
 ghost use Rattle.std.specs.Prelude.{◌≡◌, Some};
-ghost use Rattle.gx.specs.RunFaults.{line_of, of_bundle, of_changes, of_kept, of_look, of_told};
+ghost use Rattle.gx.specs.RunFaults.{
+  line_of,
+  of_bundle,
+  of_changes,
+  of_kept,
+  of_look,
+  of_range,
+  of_told,
+};
 
 use gx_adapt::AdaptFault;
 use gx_changes::ChangesFault;
@@ -9,6 +17,8 @@ use gx_cli::{BlobsKind, CliFault};
 use gx_export::ExportFault;
 use gx_kept::{BundleFault, KeptFault};
 use gx_objects::LookFault;
+use gx_questions::AskFault;
+use gx_ranges::RangeFault;
 use gx_told::ToldFault;
 use std::alloc::AllocError;
 use std::fmt;
@@ -35,6 +45,8 @@ pub(crate) enum RunFault {
     NotSmall,
     /// There are more objects than a bundle can have.
     ManyObjects,
+    /// The range words of a bundle name no ref.
+    EmptyBundle,
 }
 
 impl fmt::Display for RunFault {
@@ -51,6 +63,7 @@ impl fmt::Display for RunFault {
             RunFault::Damaged => f.write_str("gx: store: Damaged"),
             RunFault::NotSmall => f.write_str("gx: no small repository"),
             RunFault::ManyObjects => f.write_str("gx: bundle: Unsupported"),
+            RunFault::EmptyBundle => f.write_str("gx: bundle: Empty"),
         }
     }
 }
@@ -114,6 +127,22 @@ impl From<BundleFault> for RunFault {
         match fault {
             BundleFault::Unsupported => RunFault::ManyObjects,
             BundleFault::Stopped(kept) => RunFault::from(kept),
+        }
+    }
+}
+
+impl From<RangeFault> for RunFault {
+    ghost from_gives = { λ from fault. fault ≡ of_range from };
+
+    fn from(fault: RangeFault) -> RunFault {
+        match fault.kind {
+            AskFault::OutOfMemory => RunFault::Command(CliFault::OutOfMemory),
+            AskFault::ReadFailed => RunFault::Command(CliFault::ReadFailed),
+            AskFault::Damaged => RunFault::Damaged,
+            AskFault::Revision(kind) => RunFault::Command(CliFault::Revision {
+                number: fault.word as u64,
+                kind,
+            }),
         }
     }
 }

@@ -6,7 +6,7 @@ pub(crate) mod file_at;
 use crate::fault::RunFault;
 use crate::run::Run;
 use crate::stores::host::Host;
-pub(crate) use changes::export_looked;
+pub(crate) use changes::{export_looked, ranges_of};
 use file_at::FileAt;
 use gx_at::ReadAt;
 use gx_cli::CliFault;

@@ -1,6 +1,7 @@
 //! The program `gx`: its words, store files and standard streams around `gx_cli`.
 #![tactic(auto)]
 
+mod ancestry;
 mod bundling;
 mod fault;
 mod looks;

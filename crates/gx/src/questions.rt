@@ -1,5 +1,8 @@
 //! Questions to store files. Of a growing store each reads what it needs; another store is read as a whole.
 
+ghost use Rattle.std.specs.Prelude.{◌≡◌, if◌then◌else◌};
+
+use crate::ancestry::{tell_ancestry, tell_bases};
 use crate::fault::RunFault;
 use crate::looks::{export_looked, growing_file, look_into};
 use crate::run::Run;
@@ -16,26 +19,92 @@ use std::alloc::Global;
 use std::hash::RandomState;
 use std::io::BufWriter;
 
-/// Answers a question to a store file.
+/// The status of a question whose answer is no.
+const NO: u8 = 3;
+
+/// Answers a question to a store file. Answers the status.
 pub(crate) fn ask(
     run: &Run<'_>,
     question: &Question<'_>,
     file: &str,
     state: RandomState,
-) -> Result<(), RunFault> {
+) -> Result<u8, RunFault> {
     match question {
         Question::Batch { form, format, nul } => {
             let ending = ending_of(*nul);
-            batch(run, *form, *format, ending, file, state)
+            batch(run, *form, *format, ending, file, state)?;
         }
-        Question::Export(_) => export(run, question, file, state),
+        Question::Export(_) => export(run, question, file, state)?,
         Question::ExportRange { done, ranges } => {
-            if export_looked(run, file, ranges, *done)? {
-                return Ok(());
+            if !export_looked(run, file, ranges, *done)? {
+                export(run, question, file, state)?;
             }
-            export(run, question, file, state)
         }
-        _ => print(run, question, file, state),
+        Question::Diff { .. } | Question::MergeBase { .. } | Question::IsAncestor { .. } => {
+            return Ok(status_of(tell(run, question, file, state)?));
+        }
+        _ => print(run, question, file, state)?,
+    }
+    Ok(0)
+}
+
+/// The status of a question that is answered yes or no. It is no refusal: standard error has nothing of it.
+fn status_of(is_so: bool) -> u8
+    ensures { result ≡ if is_so then 0 else 3 }
+{
+    if is_so { 0 } else { NO }
+}
+
+/// Tells what a question asks of a store, and whether its answer is yes.
+fn tell(
+    run: &Run<'_>,
+    question: &Question<'_>,
+    file: &str,
+    state: RandomState,
+) -> Result<bool, RunFault> {
+    if let Some(opened) = growing_file(run, file)? {
+        let look = look_into(run, file, opened)?;
+        return tell_of(run, &look, question);
+    }
+    let store = read_store(run, file)?;
+    let repo = open_text(run, store, state)?;
+    tell_of(run, &repo, question)
+}
+
+/// Tells what a question asks of objects and refs, and whether its answer is yes.
+fn tell_of<O: Objects>(
+    run: &Run<'_>,
+    objects: &O,
+    question: &Question<'_>,
+) -> Result<bool, RunFault> {
+    match question {
+        Question::MergeBase {
+            octopus,
+            all,
+            revision,
+            others,
+        } => tell_bases(run, objects, *octopus, *all, revision, others.as_slice()),
+        Question::IsAncestor {
+            revision,
+            descendant,
+        } => tell_ancestry(run, objects, revision, descendant),
+        _ => tell_buffered(run, objects, question),
+    }
+}
+
+/// The same of what is printed through a buffer.
+fn tell_buffered<O: Objects>(
+    run: &Run<'_>,
+    objects: &O,
+    question: &Question<'_>,
+) -> Result<bool, RunFault> {
+    let alloc = run.rt.alloc();
+    match BufWriter::new(alloc, Noted::output(run)) {
+        Ok(mut out) => {
+            let told = gx_told::tell(alloc, objects, question, &mut IntoWrite::new(&mut out));
+            flushed(&mut out, told.map_err(RunFault::from))
+        }
+        Err(_) => Err(RunFault::Command(CliFault::OutOfMemory)),
     }
 }
 

@@ -7,5 +7,8 @@ mod question;
 mod trial;
 
 pub use change::{Change, RefChange};
-pub use question::{BatchForm, ExportForm, LogFormat, LogOptions, Question};
+pub use question::{
+    BatchForm, CommitFilter, DiffForm, DiffOptions, ExportForm, LogFormat, LogOptions, Question,
+    RefFilter, RefTest,
+};
 pub use trial::Trial;

@@ -2,7 +2,8 @@
 #![tactic(auto)]
 
 use gx_at::TextAt;
-use gx_kept::{BundleFault, bundle};
+use gx_bundled::told_by;
+use gx_kept::{BundleFault, KeptFault, bundle};
 use gx_look::Look;
 use gx_object::Sha1Namer;
 use gx_text::{IntoWrite, Sink};
@@ -30,5 +31,8 @@ fn write_bundle<W: Sink>(
     let piece = 1_000;
     let look = Look::open(alloc, Sha1Namer, TextAt { text, piece })?;
     let listing = look.listing(alloc, state)?;
-    bundle(alloc, &look, &listing, None, sink)
+    let Ok(told) = told_by(alloc, &look, &[], true, false) else {
+        return Err(BundleFault::Stopped(KeptFault::OutOfMemory));
+    };
+    bundle(alloc, &look, &listing, &told.bundled(&look, None), sink)
 }

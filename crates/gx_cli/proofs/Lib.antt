@@ -28,4 +28,5 @@ pub mod FoundFaults
 pub mod LoggedLines
 pub mod MarkedNames
 pub mod CommitEntries
+pub mod KeptCommits
 pub mod ServedLines

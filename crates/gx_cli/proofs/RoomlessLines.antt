@@ -67,7 +67,7 @@ module _ (name : Kind → Bytes → Bytes) {A : Type 0} (o : Outcome A) (was : O
   roomless_served (line.Change path wait c) store coming f e h = roomless_change c store coming f e h
   roomless_served (line.Stream trial) store coming f e h = absurd (cc)
   roomless_served (line.Verify path salvage) store coming f e h = absurd (cc)
-  roomless_served (line.Bundle path head) store coming f e h = absurd (cc)
+  roomless_served (line.Bundle path ranges all head pack) store coming f e h = absurd (cc)
 
   pub roomless_again : (l : Line) (store : Bytes) (coming : Option Coming) (f : CliFault) → without_room l ≡ Some f → IsRefused f o → ServesExported name l store coming o
   roomless_again (line.Change path wait (changes.Import done force report explain)) store coming f e h =
@@ -79,7 +79,7 @@ module _ (name : Kind → Bytes → Bytes) {A : Type 0} (o : Outcome A) where
   pub unread_served : (other store : Bytes) (coming : Option Coming) (l : Line) (was now : Option Taken) → without_room l ≡ None → Serves name l other coming was now o → Serves name l store coming was now o
   unread_served other store coming (line.Stream trial) was now e h = h
   unread_served other store coming (line.Verify path salvage) was now e h = h
-  unread_served other store coming (line.Bundle path head) was now e h = h
+  unread_served other store coming (line.Bundle path ranges all head pack) was now e h = h
   unread_served other store coming (line.Change path wait (changes.Init false)) was now e h = h
   unread_served other store coming (line.Change path wait (changes.Init true)) was now e h = h
   unread_served other store coming (line.Change path wait changes.Grow) was now e h = h

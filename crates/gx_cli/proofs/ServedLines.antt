@@ -50,7 +50,7 @@ module _ (name : Kind → Bytes → Bytes) {A : Type 0} (o : Outcome A) (coming 
   line_refused (line.Change path wait change) store e s c h = absurd (c path wait change refl)
   line_refused (line.Ask path question) store e s c h = absurd (cc e)
   line_refused (line.Verify path salvage) store e s c h = h
-  line_refused (line.Bundle path head) store e s c h = h
+  line_refused (line.Bundle path ranges all head pack) store e s c h = h
 
   -- of what another change makes of an export nothing is told
   pub other_again : (c : Change) (store : Bytes) → ((done force report explain : Bool) → c ≡ changes.Import done force report explain → ⊥) → ChangesExported name c store coming o

@@ -17,10 +17,12 @@ use Rattle.gx_object.specs.declared.name.Name.{Name}
 use Rattle.gx_repo.specs.Repositories.{Repository}
 use Rattle.gx_rev.specs.Objects.{commit_at}
 use Rattle.gx_rev.specs.Reached.{is_wanted}
+use Rattle.gx_asks.specs.declared.question.CommitFilter.{CommitFilter}
 use Rattle.gx_asks.specs.declared.question.LogOptions.{LogOptions}
 use Rattle.gx_cli.specs.Answers.{Prints}
 use Rattle.gx_cli.specs.Gathering.{OfLines}
-use Rattle.gx_print.specs.Logs.{entry_of, log_text}
+use Rattle.gx_print.specs.Choices.{keeps}
+use Rattle.gx_print.specs.Logs.{AreCommits, chosen, entry_of, log_text}
 use Rattle.gx_cli.specs.declared.fault.CliFault.{CliFault}
 use Rattle.gx_cli.specs.declared.fault.CliFault.TheVariants.{OutOfMemory, ReadFailed}
 
@@ -52,3 +54,13 @@ module _ {N : Type 0} (names : N → Kind → Bytes → Bytes) where
   -- what is printed of the commit of this name
   abbrev pub entry_at : Repository N → LogOptions → Name → Bytes
   entry_at repo options commit = entry_of (names repo.0) options (commit_at repo.1 commit)
+
+  -- these are the names of the commits that are kept of those of some names
+  abbrev pub AreKept : Repository N → CommitFilter → List Name → List Name → Type 0
+  AreKept repo only listed kept =
+      (map (commit_at repo.1) kept ≡ filter (keeps (names repo.0) only) (map (commit_at repo.1) listed)) × AreCommits repo.1 kept
+
+  -- and those that are chosen
+  abbrev pub AreChosen : Repository N → LogOptions → List Name → List Name → Type 0
+  AreChosen repo options listed taken =
+      (map (commit_at repo.1) taken ≡ chosen (names repo.0) options (map (commit_at repo.1) listed)) × AreCommits repo.1 taken

@@ -138,7 +138,7 @@ without_room (line.Ask path question) = Some (room_of_question question)
 without_room (line.Change path wait change) = room_of_change change
 without_room (line.Stream trial) = None
 without_room (line.Verify path salvage) = None
-without_room (line.Bundle path head) = None
+without_room (line.Bundle path ranges all head pack) = None
 
 -- a format of these parts was read, or the text that was read is none; memory runs out only for one
 abbrev pub ReadsParts : {A : Type 0} → Option (List Part) → Result (Format A) CliFault → Type 0
@@ -172,6 +172,10 @@ module _ (name : Kind → Bytes → Bytes) where
   IsAnswered (questions.Log options words) r coming was now answer = LogsFrom name options options.stdin r (lent_texts words.items) coming was now answer
   IsAnswered (questions.Export form) r coming was now answer = SendsExport name form r was now answer
   IsAnswered (questions.ExportRange done words) r coming was now answer = SendsRange name done r (lent_texts words.items) was now answer
+  IsAnswered (questions.Diff options old new paths) r coming was now answer = (answer ≡ Err ReadFailed) × (now ≡ was)
+  IsAnswered (questions.MergeBase octopus all word others) r coming was now answer = (answer ≡ Err ReadFailed) × (now ≡ was)
+  IsAnswered (questions.IsAncestor word descendant) r coming was now answer = (answer ≡ Err ReadFailed) × (now ≡ was)
+  IsAnswered (questions.RefsThat filters patterns) r coming was now answer = (answer ≡ Err ReadFailed) × (now ≡ was)
   IsAnswered (questions.Batch form format nul) r coming was now answer = (answer ≡ Ok tt) × (now ≡ was)
 
 module _ (name : Kind → Bytes → Bytes) {A : Type 0} where
@@ -264,7 +268,7 @@ module _ (name : Kind → Bytes → Bytes) {A : Type 0} where
   Serves (line.Change path wait change) store coming was now o = ServesChange change store coming was now o
   Serves (line.Stream trial) store coming was now o = ServesStream trial coming was now o
   Serves (line.Verify path salvage) store coming was now o = IsRefused ReadFailed o × (now ≡ was)
-  Serves (line.Bundle path head) store coming was now o = IsRefused ReadFailed o × (now ≡ was)
+  Serves (line.Bundle path ranges all head pack) store coming was now o = IsRefused ReadFailed o × (now ≡ was)
 
   -- the import of an export, in any form, into an empty store makes that repository again, as far as its refs reach
   abbrev pub ChangesExported : Change → Bytes → Option Coming → Outcome A → Type 0

@@ -20,7 +20,7 @@ use crate::log::log;
 use crate::ls::list;
 use crate::refs::print_refs;
 use crate::rev_parse::print_names;
-use crate::{CliFault, LogFormat, LogOptions};
+use crate::{CliFault, CommitFilter, LogFormat, LogOptions};
 use gx_batch::{Answerer, BatchFault, Format, answer_revision, make_line, put_behind, refuse};
 use gx_object::Namer;
 use gx_print::{Asked, read_asked, word_at, words_in};
@@ -30,10 +30,21 @@ use gx_text::{Growing, Sink};
 use itoa::Buffer;
 use std::alloc::Allocator;
 
+/// No commit is left out.
+const ALL_COMMITS: CommitFilter = CommitFilter {
+    merges: false,
+    no_merges: false,
+    since: None,
+    until: None,
+};
+
 /// The options of `log` in a line.
 const NO_OPTIONS: LogOptions = LogOptions {
     reverse: false,
+    only: ALL_COMMITS,
+    skip: None,
     max_count: None,
+    count: false,
     parents: false,
     all: false,
     stdin: false,

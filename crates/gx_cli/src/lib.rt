@@ -46,7 +46,9 @@ pub use explaining::{explanation_lines, item_line};
 pub use fault::CliFault;
 pub use gc::{collect_opened, collect_store, collect_store_keeping, names_in};
 pub use gx_adapt::{Adapted, Report as AdaptReport};
-pub use gx_asks::{BatchForm, Change, ExportForm, LogFormat, LogOptions, RefChange, Trial};
+pub use gx_asks::{
+    BatchForm, Change, CommitFilter, ExportForm, LogFormat, LogOptions, RefChange, Trial,
+};
 pub use gx_blobs::{BlobsFault, BlobsKind, blobs};
 pub use gx_import::{Asked, Explanation, ImportFault, ImportKind, RefLoss, Report as ImportReport};
 pub use gx_line::{Line, LineFault, read_line};

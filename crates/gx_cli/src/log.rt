@@ -7,14 +7,16 @@ ghost use Rattle.gx_cli.specs.Logs.{LogsFrom};
 ghost use Rattle.gx_print.specs.Logs.{log_text};
 ghost use Rattle.gx_print.specs.Words.{with_lines};
 
+mod choices;
 mod commits;
 mod formats;
 
 use crate::lines::lines_from;
 use crate::words::ranges_of;
 use crate::{CliFault, LogOptions};
-use commits::{arrange, names_listed};
-use formats::print_commits;
+use choices::names_chosen;
+use commits::names_listed;
+use formats::print_chosen;
 use gx_object::Namer;
 use gx_print::{add_lines, texts_of};
 use gx_repo::Repo;
@@ -62,8 +64,8 @@ fn log_words<'a, N: Namer, A: Allocator + Copy, W: Sink>(
     log(alloc, repo, options, asked.as_slice(), sink)
 }
 
-/// Prints the commits that range words list, the last made first, and with `all` those of all refs, too. The commits go out one
-/// after the other.
+/// Prints the commits that range words list, the last made first, and with `all` those of all refs, too; of these those that the
+/// options keep. The commits go out one after the other. With `count` it is told how many they are.
 ///
 /// `Revision`: the first word that isn't a range word, or else the first that gives nothing, by its number from 1.
 /// Cost: that of `walk`, and for each commit a look-up and its text. Memory: the ranges, the names, and the longest text of a
@@ -80,7 +82,7 @@ pub(crate) fn log<N: Namer, A: Allocator + Copy, W: Sink>(
         (W.taken sink.old) (W.taken sink.new) result }
 {
     let ranges = ranges_of(alloc, words)?;
-    let mut names = names_listed(alloc, repo, ranges.as_slice(), options.all)?;
-    arrange(&mut names, options);
-    print_commits(alloc, repo, options, names.as_slice(), sink)
+    let names = names_listed(alloc, repo, ranges.as_slice(), options.all)?;
+    let names = names_chosen(alloc, repo, options, names.as_slice())?;
+    print_chosen(alloc, repo, options, names.as_slice(), sink)
 }

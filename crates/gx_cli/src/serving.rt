@@ -47,7 +47,7 @@ pub struct Outcome<A: Allocator> {
 ///
 /// Importing what was exported, in any form, makes the repository again, as far as its refs reach: the same refs and object names.
 ///
-/// `bundle` is refused by `ReadFailed`, too: it's asked of whatever holds objects.
+/// `bundle`, `diff` and `merge-base` are refused by `ReadFailed`, too: they are asked of whatever holds objects.
 ///
 /// Cost: that of a copy of the store's text, and of reading it, where one is read; for `import` also that of the import
 /// and the next text, and for `export` that of the export.

@@ -148,7 +148,8 @@ fn change_opened<N: Namer + Drop, R: Source + Drop, A: Allocator + Copy>(
 }
 
 /// Answers a question to a repository, as [`serve`](crate::serve) does to a store's text. Of a batch, which
-/// [`batch_opened`](crate::batch_opened) answers, nothing is printed.
+/// [`batch_opened`](crate::batch_opened) answers, nothing is printed. Refs that pass filters are refused here: `gx_told` answers
+/// them.
 ///
 /// Cost: that of the question.
 pub fn answer<N: Namer, R: Source + Drop, W: Sink, A: Allocator + Copy>(
@@ -183,6 +184,10 @@ pub fn answer<N: Namer, R: Source + Drop, W: Sink, A: Allocator + Copy>(
             let words = texts_of(alloc, ranges.as_slice())?;
             export_words(alloc, repo, *done, words.as_slice(), sink)
         }
+        Question::RefsThat { .. }
+        | Question::Diff { .. }
+        | Question::MergeBase { .. }
+        | Question::IsAncestor { .. } => Err(CliFault::ReadFailed),
         Question::Batch { .. } => Ok(()),
     }
 }

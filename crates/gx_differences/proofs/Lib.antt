@@ -2,3 +2,8 @@ mod Told
 mod PassedPairs
 mod Chosen
 mod Roots
+mod SideRuns
+mod PathRuns
+mod SidesByPairs
+mod ListedPairs
+mod ListedSteps

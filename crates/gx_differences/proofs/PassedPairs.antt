@@ -90,7 +90,7 @@ passed_all name front all left before after total gone e t u w =
 
 -- ---- levels
 
-kept_each : (es : Level) → IsLevel es → AllByRecursion (λ e. IsKept e.1) es
+pub kept_each : (es : Level) → IsLevel es → AllByRecursion (λ e. IsKept e.1) es
 kept_each [] h = tt
 kept_each (e ∷ es) h = (h.1, kept_each es h.3)
 

@@ -57,7 +57,7 @@ module _ (name : Kind → Bytes → Bytes) (namer : IsNamer name) (r : Records) 
       let held = subst (λ m. IsHeldTree name r.records m (named_map name f)) called (tree_is_held name namer r sound f s.1) in
       whole_tree name r t.bytes (named_map name f) held (files_named name namer r sound f (named_map name f) (tree_files f s.1)).held
 
-  root_if : (t : Option Name) → IsTreeIf r t → IsBelowIf name r 4095 [] (bytes_if t) (names_if name r t)
+  pub root_if : (t : Option Name) → IsTreeIf r t → IsBelowIf name r 4095 [] (bytes_if t) (names_if name r t)
   root_if None h = refl
   root_if (Some t) h = root_held t h
 

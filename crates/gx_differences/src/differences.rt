@@ -150,7 +150,7 @@ fn add_file<A: Allocator + Copy>(
 }
 
 /// An entry of a pair: both are at one component, and both are directories or none is.
-fn one_of<'a>(pair: &Pair<'a>) -> Option<Entry<'a>>
+pub(crate) fn one_of<'a>(pair: &Pair<'a>) -> Option<Entry<'a>>
     ensures { result ≡ or_other pair.now.old pair.now.new }
 {
     match pair.old {
@@ -160,7 +160,7 @@ fn one_of<'a>(pair: &Pair<'a>) -> Option<Entry<'a>>
 }
 
 /// The path of a component below another path. A text that writes no path is no repository's.
-fn child<A: Allocator + Copy>(
+pub(crate) fn child<A: Allocator + Copy>(
     alloc: A,
     front: &TreePath<A>,
     component: &[u8],
@@ -198,7 +198,7 @@ fn child_text<A: Allocator + Copy>(
 }
 
 /// The entries of a held tree. No tree has none.
-fn entries_in<'a, O: Objects, A: Allocator + Copy>(
+pub(crate) fn entries_in<'a, O: Objects, A: Allocator + Copy>(
     objects: &'a O,
     tree: Option<Name>,
     room: &'a mut Vec<u8, A>,

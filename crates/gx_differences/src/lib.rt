@@ -3,5 +3,7 @@
 #![tactic(auto)]
 
 mod differences;
+mod listed;
 
 pub use differences::{ChangedFile, Differences, compare};
+pub use listed::{Difference, FileLeaf, list};

@@ -62,33 +62,37 @@ $ refs|f % Ask { file: \"f\", question: Refs }
 
 /// The same of `log`.
 const LOGS: &str = "
-$ log|f|main % Ask { file: \"f\", question: Log { options: LogOptions { reverse: false, max_count: None, parents: false, all: false, stdin: false, format: Names }, ranges: [\"main\"] } }
-$ log|f|^main % Ask { file: \"f\", question: Log { options: LogOptions { reverse: false, max_count: None, parents: false, all: false, stdin: false, format: Names }, ranges: [\"^main\"] } }
-$ log|f|b|a..b|r^! % Ask { file: \"f\", question: Log { options: LogOptions { reverse: false, max_count: None, parents: false, all: false, stdin: false, format: Names }, ranges: [\"b\", \"a..b\", \"r^!\"] } }
-$ log|f|--|-x|--|^main % Ask { file: \"f\", question: Log { options: LogOptions { reverse: false, max_count: None, parents: false, all: false, stdin: false, format: Names }, ranges: [\"-x\", \"--\", \"^main\"] } }
-$ log|--reverse|f|a % Ask { file: \"f\", question: Log { options: LogOptions { reverse: true, max_count: None, parents: false, all: false, stdin: false, format: Names }, ranges: [\"a\"] } }
-$ log|f|a|--parents|b % Ask { file: \"f\", question: Log { options: LogOptions { reverse: false, max_count: None, parents: true, all: false, stdin: false, format: Names }, ranges: [\"a\", \"b\"] } }
-$ log|--reverse|--max-count|3|--parents|f|a % Ask { file: \"f\", question: Log { options: LogOptions { reverse: true, max_count: Some(3), parents: true, all: false, stdin: false, format: Names }, ranges: [\"a\"] } }
-$ log|--max-count=3|f|a|--parents|--reverse % Ask { file: \"f\", question: Log { options: LogOptions { reverse: true, max_count: Some(3), parents: true, all: false, stdin: false, format: Names }, ranges: [\"a\"] } }
-$ log|--max-count|0|f|a % Ask { file: \"f\", question: Log { options: LogOptions { reverse: false, max_count: Some(0), parents: false, all: false, stdin: false, format: Names }, ranges: [\"a\"] } }
-$ log|--max-count|007|f|a % Ask { file: \"f\", question: Log { options: LogOptions { reverse: false, max_count: Some(7), parents: false, all: false, stdin: false, format: Names }, ranges: [\"a\"] } }
-$ log|--max-count|+4|f|a % Ask { file: \"f\", question: Log { options: LogOptions { reverse: false, max_count: Some(4), parents: false, all: false, stdin: false, format: Names }, ranges: [\"a\"] } }
-$ log|--max-count|18446744073709551615|f|a % Ask { file: \"f\", question: Log { options: LogOptions { reverse: false, max_count: Some(18446744073709551615), parents: false, all: false, stdin: false, format: Names }, ranges: [\"a\"] } }
+$ log|f|main % Ask { file: \"f\", question: Log { options: LogOptions { reverse: false, only: CommitFilter { merges: false, no_merges: false, since: None, until: None }, skip: None, max_count: None, count: false, parents: false, all: false, stdin: false, format: Names }, ranges: [\"main\"] } }
+$ log|f|^main % Ask { file: \"f\", question: Log { options: LogOptions { reverse: false, only: CommitFilter { merges: false, no_merges: false, since: None, until: None }, skip: None, max_count: None, count: false, parents: false, all: false, stdin: false, format: Names }, ranges: [\"^main\"] } }
+$ log|f|b|a..b|r^! % Ask { file: \"f\", question: Log { options: LogOptions { reverse: false, only: CommitFilter { merges: false, no_merges: false, since: None, until: None }, skip: None, max_count: None, count: false, parents: false, all: false, stdin: false, format: Names }, ranges: [\"b\", \"a..b\", \"r^!\"] } }
+$ log|f|--|-x|--|^main % Ask { file: \"f\", question: Log { options: LogOptions { reverse: false, only: CommitFilter { merges: false, no_merges: false, since: None, until: None }, skip: None, max_count: None, count: false, parents: false, all: false, stdin: false, format: Names }, ranges: [\"-x\", \"--\", \"^main\"] } }
+$ log|--reverse|f|a % Ask { file: \"f\", question: Log { options: LogOptions { reverse: true, only: CommitFilter { merges: false, no_merges: false, since: None, until: None }, skip: None, max_count: None, count: false, parents: false, all: false, stdin: false, format: Names }, ranges: [\"a\"] } }
+$ log|f|a|--parents|b % Ask { file: \"f\", question: Log { options: LogOptions { reverse: false, only: CommitFilter { merges: false, no_merges: false, since: None, until: None }, skip: None, max_count: None, count: false, parents: true, all: false, stdin: false, format: Names }, ranges: [\"a\", \"b\"] } }
+$ log|--reverse|--max-count|3|--parents|f|a % Ask { file: \"f\", question: Log { options: LogOptions { reverse: true, only: CommitFilter { merges: false, no_merges: false, since: None, until: None }, skip: None, max_count: Some(3), count: false, parents: true, all: false, stdin: false, format: Names }, ranges: [\"a\"] } }
+$ log|--max-count=3|f|a|--parents|--reverse % Ask { file: \"f\", question: Log { options: LogOptions { reverse: true, only: CommitFilter { merges: false, no_merges: false, since: None, until: None }, skip: None, max_count: Some(3), count: false, parents: true, all: false, stdin: false, format: Names }, ranges: [\"a\"] } }
+$ log|--max-count|0|f|a % Ask { file: \"f\", question: Log { options: LogOptions { reverse: false, only: CommitFilter { merges: false, no_merges: false, since: None, until: None }, skip: None, max_count: Some(0), count: false, parents: false, all: false, stdin: false, format: Names }, ranges: [\"a\"] } }
+$ log|--max-count|007|f|a % Ask { file: \"f\", question: Log { options: LogOptions { reverse: false, only: CommitFilter { merges: false, no_merges: false, since: None, until: None }, skip: None, max_count: Some(7), count: false, parents: false, all: false, stdin: false, format: Names }, ranges: [\"a\"] } }
+$ log|--max-count|+4|f|a % Ask { file: \"f\", question: Log { options: LogOptions { reverse: false, only: CommitFilter { merges: false, no_merges: false, since: None, until: None }, skip: None, max_count: Some(4), count: false, parents: false, all: false, stdin: false, format: Names }, ranges: [\"a\"] } }
+$ log|--max-count|18446744073709551615|f|a % Ask { file: \"f\", question: Log { options: LogOptions { reverse: false, only: CommitFilter { merges: false, no_merges: false, since: None, until: None }, skip: None, max_count: Some(18446744073709551615), count: false, parents: false, all: false, stdin: false, format: Names }, ranges: [\"a\"] } }
 ";
 
 /// The same with its choices of words and of a format.
 const CHOICES: &str = "
-$ log|--all|f % Ask { file: \"f\", question: Log { options: LogOptions { reverse: false, max_count: None, parents: false, all: true, stdin: false, format: Names }, ranges: [] } }
-$ log|f|a|--all % Ask { file: \"f\", question: Log { options: LogOptions { reverse: false, max_count: None, parents: false, all: true, stdin: false, format: Names }, ranges: [\"a\"] } }
-$ log|--stdin|f % Ask { file: \"f\", question: Log { options: LogOptions { reverse: false, max_count: None, parents: false, all: false, stdin: true, format: Names }, ranges: [] } }
-$ log|--stdin|f|^a % Ask { file: \"f\", question: Log { options: LogOptions { reverse: false, max_count: None, parents: false, all: false, stdin: true, format: Names }, ranges: [\"^a\"] } }
-$ log|-n|3|f|a % Ask { file: \"f\", question: Log { options: LogOptions { reverse: false, max_count: Some(3), parents: false, all: false, stdin: false, format: Names }, ranges: [\"a\"] } }
-$ log|-n3|f|a % Ask { file: \"f\", question: Log { options: LogOptions { reverse: false, max_count: Some(3), parents: false, all: false, stdin: false, format: Names }, ranges: [\"a\"] } }
-$ log|--format=oneline|f|a % Ask { file: \"f\", question: Log { options: LogOptions { reverse: false, max_count: None, parents: false, all: false, stdin: false, format: Oneline }, ranges: [\"a\"] } }
-$ log|--format|raw|f|a % Ask { file: \"f\", question: Log { options: LogOptions { reverse: false, max_count: None, parents: false, all: false, stdin: false, format: Raw }, ranges: [\"a\"] } }
-$ log|f|a|--format=subject % Ask { file: \"f\", question: Log { options: LogOptions { reverse: false, max_count: None, parents: false, all: false, stdin: false, format: Subject }, ranges: [\"a\"] } }
-$ log|--format=author|f|a % Ask { file: \"f\", question: Log { options: LogOptions { reverse: false, max_count: None, parents: false, all: false, stdin: false, format: Author }, ranges: [\"a\"] } }
-$ log|--format=dates|--reverse|f|a % Ask { file: \"f\", question: Log { options: LogOptions { reverse: true, max_count: None, parents: false, all: false, stdin: false, format: Dates }, ranges: [\"a\"] } }
+$ log|--all|f % Ask { file: \"f\", question: Log { options: LogOptions { reverse: false, only: CommitFilter { merges: false, no_merges: false, since: None, until: None }, skip: None, max_count: None, count: false, parents: false, all: true, stdin: false, format: Names }, ranges: [] } }
+$ log|f|a|--all % Ask { file: \"f\", question: Log { options: LogOptions { reverse: false, only: CommitFilter { merges: false, no_merges: false, since: None, until: None }, skip: None, max_count: None, count: false, parents: false, all: true, stdin: false, format: Names }, ranges: [\"a\"] } }
+$ log|--stdin|f % Ask { file: \"f\", question: Log { options: LogOptions { reverse: false, only: CommitFilter { merges: false, no_merges: false, since: None, until: None }, skip: None, max_count: None, count: false, parents: false, all: false, stdin: true, format: Names }, ranges: [] } }
+$ log|--stdin|f|^a % Ask { file: \"f\", question: Log { options: LogOptions { reverse: false, only: CommitFilter { merges: false, no_merges: false, since: None, until: None }, skip: None, max_count: None, count: false, parents: false, all: false, stdin: true, format: Names }, ranges: [\"^a\"] } }
+$ log|-n|3|f|a % Ask { file: \"f\", question: Log { options: LogOptions { reverse: false, only: CommitFilter { merges: false, no_merges: false, since: None, until: None }, skip: None, max_count: Some(3), count: false, parents: false, all: false, stdin: false, format: Names }, ranges: [\"a\"] } }
+$ log|-n3|f|a % Ask { file: \"f\", question: Log { options: LogOptions { reverse: false, only: CommitFilter { merges: false, no_merges: false, since: None, until: None }, skip: None, max_count: Some(3), count: false, parents: false, all: false, stdin: false, format: Names }, ranges: [\"a\"] } }
+$ log|--format=oneline|f|a % Ask { file: \"f\", question: Log { options: LogOptions { reverse: false, only: CommitFilter { merges: false, no_merges: false, since: None, until: None }, skip: None, max_count: None, count: false, parents: false, all: false, stdin: false, format: Oneline }, ranges: [\"a\"] } }
+$ log|--format|raw|f|a % Ask { file: \"f\", question: Log { options: LogOptions { reverse: false, only: CommitFilter { merges: false, no_merges: false, since: None, until: None }, skip: None, max_count: None, count: false, parents: false, all: false, stdin: false, format: Raw }, ranges: [\"a\"] } }
+$ log|f|a|--format=subject % Ask { file: \"f\", question: Log { options: LogOptions { reverse: false, only: CommitFilter { merges: false, no_merges: false, since: None, until: None }, skip: None, max_count: None, count: false, parents: false, all: false, stdin: false, format: Subject }, ranges: [\"a\"] } }
+$ log|--format=author|f|a % Ask { file: \"f\", question: Log { options: LogOptions { reverse: false, only: CommitFilter { merges: false, no_merges: false, since: None, until: None }, skip: None, max_count: None, count: false, parents: false, all: false, stdin: false, format: Author }, ranges: [\"a\"] } }
+$ log|--format=dates|--reverse|f|a % Ask { file: \"f\", question: Log { options: LogOptions { reverse: true, only: CommitFilter { merges: false, no_merges: false, since: None, until: None }, skip: None, max_count: None, count: false, parents: false, all: false, stdin: false, format: Dates }, ranges: [\"a\"] } }
+$ log|--merges|f|a % Ask { file: \"f\", question: Log { options: LogOptions { reverse: false, only: CommitFilter { merges: true, no_merges: false, since: None, until: None }, skip: None, max_count: None, count: false, parents: false, all: false, stdin: false, format: Names }, ranges: [\"a\"] } }
+$ log|--no-merges|--count|f|a % Ask { file: \"f\", question: Log { options: LogOptions { reverse: false, only: CommitFilter { merges: false, no_merges: true, since: None, until: None }, skip: None, max_count: None, count: true, parents: false, all: false, stdin: false, format: Names }, ranges: [\"a\"] } }
+$ log|--since=5|--until|7|f|a % Ask { file: \"f\", question: Log { options: LogOptions { reverse: false, only: CommitFilter { merges: false, no_merges: false, since: Some(5), until: Some(7) }, skip: None, max_count: None, count: false, parents: false, all: false, stdin: false, format: Names }, ranges: [\"a\"] } }
+$ log|--skip|2|-n1|f|a % Ask { file: \"f\", question: Log { options: LogOptions { reverse: false, only: CommitFilter { merges: false, no_merges: false, since: None, until: None }, skip: Some(2), max_count: Some(1), count: false, parents: false, all: false, stdin: false, format: Names }, ranges: [\"a\"] } }
 ";
 
 /// The same of `rev-parse`, whose revisions stay in their order.
@@ -184,7 +188,7 @@ $ --help % help %
 
 Exit status:
 $ -h % help %
-  rev-parse  Prints the names%
+  rev-parse   Prints the names%
 $ help % help %
 Usage: gx <COMMAND>
 $ help|show % help %

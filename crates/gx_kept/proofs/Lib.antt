@@ -3,8 +3,10 @@ mod GoneObjects
 mod LaidMarks
 mod ListedRecords
 mod ListedStores
+mod MarkedBeyond
 mod MarkedTexts
 mod MarkedTips
+mod SentHeads
 mod SentMarked
 mod SentObjects
 mod SentRecords
@@ -13,6 +15,7 @@ mod Spreading
 mod Stopping
 mod TailLines
 mod Weights
+mod WholePacks
 mod WrittenObjects
 mod WrittenPacks
 mod SentBundles

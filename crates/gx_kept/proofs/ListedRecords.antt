@@ -159,7 +159,7 @@ module _ (rs : List Record) (k : ℕ) where
   parents_before [] h = tt
   parents_before (n ∷ ns) h = (kind_before kinds.Commit n h.0, parents_before ns h.1)
 
-  linked_before : (of : Kind) (body : Bytes) → IsLinked (take k rs) of body → AllByRecursion StandsBefore (links_of of body)
+  pub linked_before : (of : Kind) (body : Bytes) → IsLinked (take k rs) of body → AllByRecursion StandsBefore (links_of of body)
   linked_before kinds.Blob body h = tt
   linked_before kinds.Tree body (es, t, h) = subst (λ xs. AllByRecursion StandsBefore (filter_map link_of xs)) (sym (entries_read es body t)) (entries_before es h)
   linked_before kinds.Commit body (p, t, h, hs) =

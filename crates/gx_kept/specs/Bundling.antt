@@ -1,5 +1,5 @@
 -- Objects that go out one after the other, each read as it does. Source: gitformat-bundle(5), and gitformat-pack(5).
-use Rattle.std.specs.Prelude.{◌≡◌, Bool, List, [], ◌∷◌, ◌++◌, codes, map, IfSome, Option, Some, None, Result, Ok, Err, ⊤}
+use Rattle.std.specs.Prelude.{◌≡◌, Bool, List, map, IfSome, Option, Some, Result, Ok, Err, ⊤}
 use Rattle.std.specs.List.{flat_map}
 use Rattle.sha1.specs.Sha1.{sha1}
 use Rattle.gx_model.specs.declared.objects.Kind.{Kind}
@@ -10,7 +10,7 @@ use Rattle.gx_model.specs.Texts.Sinks.{Taken, Took}
 use Rattle.gx_store.specs.Marked.{marked}
 use Rattle.gx_listed.specs.Listings.{Listed}
 use Rattle.gx_pack.specs.Packs.{Object, entry_text, pack_text}
-use Rattle.gx_pack.specs.Bundles.{Bundle, bundle_text, held_line}
+use Rattle.gx_pack.specs.Bundles.{Bundle, bundle_text}
 use Rattle.gx_pack.specs.Writing.{Sent, Writes}
 use Rattle.gx_kept.specs.Faults.{Stops}
 use Rattle.gx_kept.specs.declared.fault.KeptFault.{KeptFault}
@@ -19,20 +19,6 @@ use Rattle.gx_kept.specs.declared.bundle_fault.BundleFault.{BundleFault}
 -- the objects of those records that are marked
 abbrev pub kept_of : List Bool → List Record → List Object
 kept_of marks records = map object_of (marked marks records)
-
--- HEAD, where it is told what it stands for
-abbrev pub head_refs : Option Bytes → List (Bytes × Bytes)
-head_refs None = []
-head_refs (Some called) = (codes "HEAD", called) ∷ []
-
--- its line
-abbrev pub head_line : Option Bytes → Bytes
-head_line None = []
-head_line (Some called) = held_line (codes "HEAD", called)
-
--- the bundle of a repository, and of a HEAD: who reads it has to have nothing
-abbrev pub bundled : Option Bytes → Records → Bundle
-bundled head r = record { had = []; refs = head_refs head ++ r.refs; objects = map object_of r.records }
 
 -- entries, one behind the other
 abbrev pub entries : List Object → Bytes
@@ -57,6 +43,11 @@ module _ (name : Kind → Bytes → Bytes) where
   NamesBundle listed was now (Ok done) = (marks : List Bool) × SendsObjects (marked marks listed) was now (Ok done)
   NamesBundle listed was now (Err fault) = ⊤
 
+  -- whatever is told, a pack that goes out as a whole has objects that have the names of some that are listed
+  abbrev pub NamesPack : List Listed → Option Taken → Option Taken → Result (Unit {0}) BundleFault → Type 0
+  NamesPack listed was now (Ok done) = (marks : List Bool) × (objects : List Object) × HaveNames (marked marks listed) objects × Took was now (pack_text sha1 objects)
+  NamesPack listed was now (Err fault) = ⊤
+
   -- the entry of an object that has this name went out, and of what is told it is that of the repository; or of this a front went out
   abbrev pub WritesObject : Option Records → Bytes → Sent → Sent → Result (Unit {0}) KeptFault → Type 0
   WritesObject told called was now (Ok done) =
@@ -76,8 +67,11 @@ module _ (name : Kind → Bytes → Bytes) where
   abbrev pub SendsPack : Option Records → List Listed → List Bool → Option Taken → Option Taken → Type 0
   SendsPack told listed marks was now = (sent : List Object) × HaveNames (marked marks listed) sent × Took was now (pack_text sha1 sent) × IfSome told (λ r. sent ≡ kept_of marks r.records)
 
-  -- their pack went out
+  -- or a front of it did
+  abbrev pub SendsPackOf : Option Records → List Listed → List Bool → Option Taken → Option Taken → Result (Unit {0}) KeptFault → Type 0
+  SendsPackOf told listed marks was now (Ok done) = SendsPack told listed marks was now
+  SendsPackOf told listed marks was now (Err fault) = IfSome told (λ r. Stops (pack_text sha1 (kept_of marks r.records)) was now fault)
+
+  -- to this sink and no other
   abbrev pub WritesPack : Option Records → List Listed → List Bool → Sent → Sent → Result (Unit {0}) KeptFault → Type 0
-  WritesPack told listed marks was now (Ok done) = (now.name ≡ was.name) × SendsPack told listed marks was.taken now.taken
-  WritesPack told listed marks was now (Err fault) =
-      (now.name ≡ was.name) × IfSome told (λ r. Stops (pack_text sha1 (kept_of marks r.records)) was.taken now.taken fault)
+  WritesPack told listed marks was now result = (now.name ≡ was.name) × SendsPackOf told listed marks was.taken now.taken result

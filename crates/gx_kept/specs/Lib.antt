@@ -5,3 +5,5 @@ pub mod Marking
 pub mod Sending
 pub mod BundleFaults
 pub mod Bundling
+pub mod Telling
+pub mod BundleLaws

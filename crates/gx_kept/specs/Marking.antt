@@ -1,5 +1,5 @@
 -- Marks of objects that are listed, by their numbers.
-use Rattle.std.specs.Prelude.{◌≡◌, ℕ, ◌<◌, Bool, List, length, map, slice_get, Some, Result, Ok, Err, ⊤}
+use Rattle.std.specs.Prelude.{◌≡◌, ℕ, ◌<◌, Bool, ◌&&◌, not, List, [], ◌∷◌, drop, length, map, slice_get, Some, Result, Ok, Err, ⊤}
 use Rattle.std.specs.List.{AllByRecursion, flat_map}
 use Rattle.gx_model.specs.declared.objects.Kind.{Kind}
 use Rattle.gx_model.specs.Histories.{AreDistinct, Record}
@@ -9,6 +9,7 @@ use Rattle.gx_model.specs.Records.Publishing.{Ref}
 use Rattle.gx_model.specs.Stores.StoreText.{stored_ref}
 use Rattle.gx_model.specs.Texts.{Bytes}
 use Rattle.gx_objects.specs.Answers.{AreRefs}
+use Rattle.gx_store.specs.Marked.{first_mark}
 use Rattle.gx_repo.specs.Pruning.{MarksNames, objects_held}
 use Rattle.gx_listed.specs.Listings.{HaveHeads, Listed, number_named}
 
@@ -45,3 +46,10 @@ RefusesTips listed lines (Err fault) = (refs : List Ref) → AreRefs refs → li
 -- besides those that were, the objects are marked that the record of a number names
 abbrev pub SpreadsAt : List Record → ℕ → List Bool → List Bool → Type 0
 SpreadsAt records number old new = (held : Record) → slice_get records number ≡ Some held → MarksNames records (links_of held.kind held.body) old new
+
+-- ---- marks without others
+
+-- the marks that don't stand in another list, too
+abbrev pub without_marks : List Bool → List Bool → List Bool
+without_marks [] others = []
+without_marks (mark ∷ marks) others = (not (first_mark others) && mark) ∷ without_marks marks (drop 1 others)

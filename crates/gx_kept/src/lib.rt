@@ -2,7 +2,10 @@
 //! It is asked of whatever holds objects, which are listed before.
 #![tactic(auto)]
 
+mod beyond;
 mod bundle_fault;
+pub mod bundle_laws;
+mod bundled;
 mod bundling;
 mod collecting;
 mod fault;
@@ -14,7 +17,8 @@ mod marking;
 mod sending;
 
 pub use bundle_fault::BundleFault;
-pub use bundling::bundle;
+pub use bundled::Bundled;
+pub use bundling::{bundle, pack};
 pub use collecting::{collect, rewrite};
 pub use fault::KeptFault;
 pub use listing::list;

@@ -63,7 +63,7 @@ fn mark_kept<O: Objects, A: Allocator + Copy>(
 }
 
 /// Marks the objects that refs hold, of which these are the lines. `Damaged` where one isn't listed.
-fn mark_tips<A: Allocator + Copy>(
+pub(crate) fn mark_tips<A: Allocator + Copy>(
     listing: &Listing<A>,
     marks: &mut [bool],
     lines: &[u8],
@@ -84,7 +84,11 @@ fn mark_tips<A: Allocator + Copy>(
 }
 
 /// Marks the objects of these names, where they are listed.
-fn mark_names<A: Allocator + Copy>(listing: &Listing<A>, marks: &mut [bool], names: &[Name])
+pub(crate) fn mark_names<A: Allocator + Copy>(
+    listing: &Listing<A>,
+    marks: &mut [bool],
+    names: &[Name],
+)
     requires long { length marks.old ≡ length listing.now }
     ensures same_room { length marks.new ≡ length marks.old }
     ensures marks { MarksHeld listing.now (bytes_of_names names.now) marks.old marks.new }
@@ -97,7 +101,7 @@ fn mark_names<A: Allocator + Copy>(listing: &Listing<A>, marks: &mut [bool], nam
 }
 
 /// Marks what the marked objects reach.
-fn spread<O: Objects, A: Allocator + Copy>(
+pub(crate) fn spread<O: Objects, A: Allocator + Copy>(
     objects: &O,
     listing: &Listing<A>,
     marks: &mut [bool],

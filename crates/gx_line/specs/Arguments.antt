@@ -103,6 +103,13 @@ salvage = text (codes "salvage")
 abbrev pub head : Rule
 head = text (codes "head")
 
+-- range words that may be left out, with whatever else
+abbrev pub told_ranges : Rule
+told_ranges = any_words (codes "range")
+
+abbrev pub pack : Rule
+pack = flag (codes "pack")
+
 -- which file it is that is replaced, which has to be told
 abbrev pub expect_stamp : Rule
 expect_stamp = record (text (codes "expect-stamp")) { required = true }
@@ -129,6 +136,10 @@ place = bound (whole_number (codes "number"))
 -- a flag that is refused beside a number
 abbrev pub fault : Rule
 fault = bound (flag (codes "fault"))
+
+-- patterns of ref names
+abbrev pub patterns : Rule
+patterns = any_words (codes "pattern")
 
 -- the names of refs, which are needed where --stdin isn't given
 abbrev pub refs : Rule
@@ -164,6 +175,24 @@ reverse = flag (codes "reverse")
 abbrev pub max_count : Rule
 max_count = record (number (codes "max-count")) { short = Some 110 }
 
+abbrev pub merges : Rule
+merges = flag (codes "merges")
+
+abbrev pub no_merges : Rule
+no_merges = flag (codes "no-merges")
+
+abbrev pub since : Rule
+since = number (codes "since")
+
+abbrev pub until : Rule
+until = number (codes "until")
+
+abbrev pub skip : Rule
+skip = number (codes "skip")
+
+abbrev pub count : Rule
+count = flag (codes "count")
+
 -- a flag that is refused beside --format
 abbrev pub parents : Rule
 parents = bound (flag (codes "parents"))
@@ -173,6 +202,46 @@ all = flag (codes "all")
 
 abbrev pub format : Rule
 format = text (codes "format")
+
+-- one or more other revisions
+abbrev pub others : Rule
+others = words (codes "other")
+
+abbrev pub octopus : Rule
+octopus = flag (codes "octopus")
+
+-- a flag that is refused beside --all, and beside --octopus
+abbrev pub is_ancestor : Rule
+is_ancestor = bound (flag (codes "is-ancestor"))
+
+-- the revisions that are compared
+abbrev pub old_revision : Rule
+old_revision = one_word (codes "before")
+
+abbrev pub new_revision : Rule
+new_revision = one_word (codes "after")
+
+abbrev pub paths : Rule
+paths = any_words (codes "path")
+
+-- what is printed of what differs: each is refused beside the others
+abbrev pub name_status : Rule
+name_status = bound (flag (codes "name-status"))
+
+abbrev pub name_only : Rule
+name_only = bound (flag (codes "name-only"))
+
+abbrev pub raw : Rule
+raw = bound (flag (codes "raw"))
+
+abbrev pub diff_count : Rule
+diff_count = flag (codes "count")
+
+abbrev pub quiet : Rule
+quiet = flag (codes "quiet")
+
+abbrev pub exit_code : Rule
+exit_code = flag (codes "exit-code")
 
 -- a flag that is refused beside --check
 abbrev pub commands : Rule

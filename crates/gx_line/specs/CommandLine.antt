@@ -1,5 +1,5 @@
 -- The command line of gx: what clap is told of it, and what a line says of the words that clap took.
-use Rattle.std.specs.Prelude.{◌≡◌, ◌⊎◌, ⊤, ℕ, Bool, true, false, not, List, [], ◌∷◌, map, Option, Some, None, Result, IfOk, codes, IsSomeAnd, option_map, unwrap_or}
+use Rattle.std.specs.Prelude.{◌≡◌, ◌⊎◌, ⊤, ℕ, Bool, true, false, not, List, [], ◌∷◌, ◌++◌, map, Option, Some, None, Result, IfOk, codes, IsSomeAnd, option_map, unwrap_or}
 use Rattle.std.specs.Borrow.{Bor}
 use Rattle.std.specs.Str.Parse.{ParsesUnsigned}
 use Rattle.std.specs.declared.num.ParseIntError.{ParseIntError}
@@ -14,13 +14,20 @@ use Rattle.gx_asks.specs.declared.change.Change.TheVariants.{Init, Grow, Import,
 use Rattle.gx_asks.specs.declared.change.RefChange.{RefChange}
 use Rattle.gx_asks.specs.declared.question.BatchForm.{BatchForm}
 use Rattle.gx_asks.specs.declared.question.BatchForm.TheVariants as form
+use Rattle.gx_asks.specs.declared.question.CommitFilter.{CommitFilter}
+use Rattle.gx_asks.specs.declared.question.DiffForm.{DiffForm}
+use Rattle.gx_asks.specs.declared.question.DiffForm.TheVariants as diff
+use Rattle.gx_asks.specs.declared.question.DiffOptions.{DiffOptions}
 use Rattle.gx_asks.specs.declared.question.ExportForm.{ExportForm}
 use Rattle.gx_asks.specs.declared.question.ExportForm.TheVariants.{Changes, FullTree}
 use Rattle.gx_asks.specs.declared.question.LogFormat.{LogFormat}
 use Rattle.gx_asks.specs.declared.question.LogFormat.TheVariants.{Names, Oneline, Raw, Subject, Author, Dates}
 use Rattle.gx_asks.specs.declared.question.LogOptions.{LogOptions}
 use Rattle.gx_asks.specs.declared.question.Question.{Question}
-use Rattle.gx_asks.specs.declared.question.Question.TheVariants.{Refs, Show, Ls, Archive, Names as Named, Log, Batch, Export, ExportRange}
+use Rattle.gx_asks.specs.declared.question.RefFilter.{RefFilter}
+use Rattle.gx_asks.specs.declared.question.RefTest.{RefTest}
+use Rattle.gx_asks.specs.declared.question.RefTest.TheVariants.{PointsAt, Contains, NoContains, Merged, NoMerged}
+use Rattle.gx_asks.specs.declared.question.Question.TheVariants.{Refs, RefsThat, Show, Ls, Archive, Names as Named, Log, Diff, MergeBase, IsAncestor, Batch, Export, ExportRange}
 use Rattle.gx_asks.specs.declared.trial.Trial.{Trial}
 use Rattle.gx_asks.specs.declared.trial.Trial.TheVariants.{Blobs, Try, Check, Adapt, Where, WhereFault}
 use Rattle.gx_line.specs.declared.command_line.Line.{Line}
@@ -99,7 +106,7 @@ abbrev pub export_command : App
 export_command = with_rule (with_rule (with_rule (file_command (codes "export")) rules.changes) rules.no_done) rules.sent_ranges
 
 abbrev pub bundle_command : App
-bundle_command = with_rule (file_command (codes "bundle")) rules.head
+bundle_command = with_rule (with_rule (with_rule (with_rule (file_command (codes "bundle")) rules.told_ranges) rules.all) rules.head) rules.pack
 
 abbrev pub where_command : App
 where_command =
@@ -124,12 +131,37 @@ abbrev pub chosen_command : App
 chosen_command =
     with_rule (with_rule (with_rule (with_rule (file_command (codes "log")) rules.ranges) rules.all) rules.stdin) rules.max_count
 
+-- which of these it keeps
+abbrev pub filtered_command : App
+filtered_command =
+    with_rule (with_rule (with_rule (with_rule (with_rule chosen_command rules.merges) rules.no_merges) rules.since) rules.until) rules.skip
+
 -- and how
 abbrev pub log_command : App
-log_command = with_rule (with_rule (with_rule chosen_command rules.reverse) rules.parents) rules.format
+log_command = with_rule (with_rule (with_rule (with_rule filtered_command rules.reverse) rules.count) rules.parents) rules.format
 
 abbrev pub rev_parse_command : App
 rev_parse_command = with_rule (file_command (codes "rev-parse")) (rules.words (codes "rev"))
+
+-- which revisions are asked for their ancestors
+abbrev pub compared_command : App
+compared_command = with_rule (with_rule (file_command (codes "merge-base")) rules.revision) rules.others
+
+abbrev pub merge_base_command : App
+merge_base_command = with_rule (with_rule (with_rule compared_command rules.all) rules.octopus) rules.is_ancestor
+
+-- what is compared
+abbrev pub told_command : App
+told_command = with_rule (with_rule (with_rule (file_command (codes "diff")) rules.old_revision) rules.new_revision) rules.paths
+
+-- what is printed of it
+abbrev pub formed_command : App
+formed_command =
+    with_rule (with_rule (with_rule (with_rule told_command rules.name_status) rules.name_only) rules.raw) rules.diff_count
+
+-- and how
+abbrev pub diff_command : App
+diff_command = with_rule (with_rule (with_rule formed_command rules.quiet) rules.exit_code) rules.nul
 
 -- what clap was told of a command, none of whose arguments are for the commands below it, too
 abbrev pub IsMade : Command → App → Type 0
@@ -152,11 +184,20 @@ abbrev pub with_stream_commands : App → App
 with_stream_commands a =
     under (under (under (under (under a (new_app (codes "blobs"))) try_command) check_command) adapt_command) where_command
 
+-- how refs have to stand to revisions
+abbrev pub tested_command : App → App
+tested_command a =
+    with_rule (with_rule (with_rule (with_rule (with_rule a (rules.text (codes "points-at"))) (rules.text (codes "contains")))
+    (rules.text (codes "no-contains"))) (rules.text (codes "merged"))) (rules.text (codes "no-merged"))
+
+abbrev pub refs_command : App
+refs_command = tested_command (with_rule (file_command (codes "refs")) rules.patterns)
+
 -- the commands on a store as a whole
 abbrev pub with_store_commands : App → App
 with_store_commands a =
     under (under (under (under (under (under (under (under (with_whole_commands a) import_command) drop_command) set_ref_command)
-    put_command) gc_command) export_command) bundle_command) (file_command (codes "refs"))
+    put_command) gc_command) export_command) bundle_command) refs_command
 
 -- the commands that show objects
 abbrev pub with_tree_commands : App → App
@@ -164,7 +205,7 @@ with_tree_commands a = under (under (under (under a show_command) ls_command) ar
 
 -- the commands with a list of words
 abbrev pub with_commit_commands : App → App
-with_commit_commands a = under (under a log_command) rev_parse_command
+with_commit_commands a = under (under (under (under a log_command) rev_parse_command) merge_base_command) diff_command
 
 -- the whole command line of gx, as clap is told of it
 abbrev pub gx : App
@@ -217,9 +258,37 @@ abbrev pub AreChosen : List Row → LogOptions → Type 0
 AreChosen rows options = IsFlag (codes "all") rows options.all
     × (IsFlag (codes "stdin") rows options.stdin × IsNumber (codes "max-count") rows options.max_count)
 
+-- which of these are kept
+abbrev pub IsFilter : List Row → CommitFilter → Type 0
+IsFilter rows only = IsFlag (codes "merges") rows only.merges × (IsFlag (codes "no-merges") rows only.no_merges
+    × (IsNumber (codes "since") rows only.since × IsNumber (codes "until") rows only.until))
+
+-- how they are listed
+abbrev pub AreListed : List Row → LogOptions → Type 0
+AreListed rows options = IsNumber (codes "skip") rows options.skip × (IsFlag (codes "count") rows options.count
+    × (IsFlag (codes "reverse") rows options.reverse × (IsFlag (codes "parents") rows options.parents × IsLogFormat rows options.format)))
+
 abbrev pub AreLogOptions : List Row → LogOptions → Type 0
-AreLogOptions rows options = AreChosen rows options × (IsFlag (codes "reverse") rows options.reverse
-    × (IsFlag (codes "parents") rows options.parents × IsLogFormat rows options.format))
+AreLogOptions rows options = AreChosen rows options × (IsFilter rows options.only × AreListed rows options)
+
+-- what is asked for of merge bases
+abbrev pub AreBaseFlags : List Row → Bool → Bool → Bool → Type 0
+AreBaseFlags rows is_ancestor octopus all = IsFlag (codes "is-ancestor") rows is_ancestor
+    × (IsFlag (codes "octopus") rows octopus × IsFlag (codes "all") rows all)
+
+-- what is printed of what differs
+abbrev pub IsDiffForm : List Row → DiffForm → Type 0
+IsDiffForm rows diff.Quiet = IsFlag (codes "quiet") rows true
+IsDiffForm rows diff.Count = IsFlag (codes "quiet") rows false × IsFlag (codes "count") rows true
+IsDiffForm rows diff.Raw = IsFlag (codes "quiet") rows false × (IsFlag (codes "count") rows false × IsFlag (codes "raw") rows true)
+IsDiffForm rows diff.Paths = IsFlag (codes "quiet") rows false × (IsFlag (codes "count") rows false
+    × (IsFlag (codes "raw") rows false × IsFlag (codes "name-only") rows true))
+IsDiffForm rows diff.Status = IsFlag (codes "quiet") rows false × (IsFlag (codes "count") rows false
+    × (IsFlag (codes "raw") rows false × IsFlag (codes "name-only") rows false))
+
+abbrev pub AreDiffOptions : List Row → DiffOptions → Type 0
+AreDiffOptions rows options = IsDiffForm rows options.form
+    × (IsFlag (codes "nul") rows options.nul × IsFlag (codes "exit-code") rows options.exit_code)
 
 abbrev pub AreFeatures : List Row → Bool → Bool → Type 0
 AreFeatures rows done force = IsFlag (codes "done") rows done × IsFlag (codes "force") rows force
@@ -247,14 +316,40 @@ IsBatchForm rows form.Bytes = IsFlag (codes "check") rows false × IsFlag (codes
 IsBatchForm rows form.Check = IsFlag (codes "check") rows true × IsFlag (codes "command") rows false
 IsBatchForm rows form.Commands = IsFlag (codes "check") rows false × IsFlag (codes "command") rows true
 
+-- a test of refs with the revision that is given for it, where one is
+abbrev pub filter_given : RefTest → Option Text → List (RefTest × Text)
+filter_given test None = []
+filter_given test (Some revision) = (test, revision) ∷ []
+
+-- the tests of refs that are given, in this order
+abbrev pub filters_given : List Row → List (RefTest × Text)
+filters_given rows =
+    filter_given PointsAt (first_of (codes "points-at") rows) ++ filter_given Contains (first_of (codes "contains") rows)
+    ++ filter_given NoContains (first_of (codes "no-contains") rows) ++ filter_given Merged (first_of (codes "merged") rows)
+    ++ filter_given NoMerged (first_of (codes "no-merged") rows)
+
+abbrev pub shown_filter : RefFilter → RefTest × Text
+shown_filter filter = (filter.test, filter.revision.now)
+
+abbrev pub AreFilters : List Row → List RefFilter → Type 0
+AreFilters rows filters = map shown_filter filters ≡ filters_given rows
+
 -- a question is the command `name` with the options and words that clap found for it
 unfoldable pub Asks : Text → List Row → Question → Type 0
-Asks name rows Refs = name ≡ codes "refs"
+Asks name rows Refs = (name ≡ codes "refs") × (AreFilters rows [] × AreAnyWords (codes "pattern") rows [])
+Asks name rows (RefsThat filters patterns) = (name ≡ codes "refs")
+    × (AreFilters rows filters.items × AreAnyWords (codes "pattern") rows patterns.items)
 Asks name rows (Show revision) = (name ≡ codes "show") × IsWord (codes "rev") rows revision
 Asks name rows (Ls recursive revision) = (name ≡ codes "ls") × (IsFlag (codes "recursive") rows recursive × IsWord (codes "rev") rows revision)
 Asks name rows (Archive prefix revision) = (name ≡ codes "archive") × (IsText (codes "prefix") rows prefix × IsWord (codes "rev") rows revision)
 Asks name rows (Named revisions) = (name ≡ codes "rev-parse") × AreWords (codes "rev") rows revisions.items
 Asks name rows (Log options ranges) = (name ≡ codes "log") × (AreLogOptions rows options × AreAnyWords (codes "range") rows ranges.items)
+Asks name rows (Diff options old new paths) = (name ≡ codes "diff") × (AreDiffOptions rows options
+    × (IsWord (codes "before") rows old × (IsWord (codes "after") rows new × AreAnyWords (codes "path") rows paths.items)))
+Asks name rows (MergeBase octopus all revision others) = (name ≡ codes "merge-base") × (AreBaseFlags rows false octopus all
+    × (IsWord (codes "rev") rows revision × AreWords (codes "other") rows others.items))
+Asks name rows (IsAncestor revision descendant) = (name ≡ codes "merge-base") × (IsFlag (codes "is-ancestor") rows true
+    × (IsWord (codes "rev") rows revision × AreWords (codes "other") rows (descendant ∷ [])))
 Asks name rows (Batch form format nul) = (name ≡ codes "batch") × (IsBatchForm rows form
     × (IsOption (codes "format") rows format × IsFlag (codes "nul") rows nul))
 Asks name rows (Export form) = (name ≡ codes "export") × (IsForm rows form × (all_of (codes "range") rows ≡ None))
@@ -291,7 +386,9 @@ Says name rows (Ask file question) = IsWord (codes "file") rows file × Asks nam
 Says name rows (Change file wait change) = IsWord (codes "file") rows file × (IsWait rows wait × Alters name rows change)
 Says name rows (Stream trial) = Tries name rows trial
 Says name rows (Verify file salvage) = (name ≡ codes "verify") × (IsOption (codes "salvage") rows salvage × IsWord (codes "file") rows file)
-Says name rows (Bundle file head) = (name ≡ codes "bundle") × (IsOption (codes "head") rows head × IsWord (codes "file") rows file)
+Says name rows (Bundle file ranges all head pack) =
+    (name ≡ codes "bundle") × (IsWord (codes "file") rows file × (AreAnyWords (codes "range") rows ranges.items
+    × (IsFlag (codes "all") rows all × (IsOption (codes "head") rows head × IsFlag (codes "pack") rows pack))))
 
 -- the commands that read a stream and keep nothing
 abbrev pub stream_names : List Text
@@ -336,6 +433,10 @@ HasNoForm rows = IsFlag (codes "changes") rows false × IsFlag (codes "no-done")
 -- --command stands beside --check
 abbrev pub HasNoBatchForm : List Row → Type 0
 HasNoBatchForm rows = IsFlag (codes "check") rows true × IsFlag (codes "command") rows true
+
+-- --is-ancestor stands before another number of words than one
+abbrev pub HasNoDescendant : List Row → Type 0
+HasNoDescendant rows = (word : Bor Text) → AreWords (codes "other") rows (word ∷ []) → ⊥
 
 -- there is no --stdin, and neither a ref with what it becomes
 abbrev pub HasNoRefChange : List Row → Type 0

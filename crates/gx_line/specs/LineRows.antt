@@ -25,7 +25,9 @@ line_rows =
     ∷ record { words = codes "gc" ∷ codes "--keep" ∷ codes "names" ∷ codes "a.gx" ∷ []; taken = true }
     ∷ record { words = codes "put" ∷ codes "--expect-stamp=new" ∷ codes "a.gx" ∷ []; taken = true }
     ∷ record { words = codes "bundle" ∷ codes "--head=main" ∷ codes "a.gx" ∷ []; taken = true }
+    ∷ record { words = codes "bundle" ∷ codes "--pack" ∷ codes "a.gx" ∷ codes "main" ∷ codes "^next" ∷ []; taken = true }
     ∷ record { words = codes "refs" ∷ codes "a.gx" ∷ []; taken = true }
+    ∷ record { words = codes "refs" ∷ codes "--merged=main" ∷ codes "a.gx" ∷ codes "refs/heads" ∷ []; taken = true }
     ∷ record { words = codes "show" ∷ codes "a.gx" ∷ codes "main" ∷ []; taken = true }
     ∷ record { words = codes "ls" ∷ codes "--recursive" ∷ codes "a.gx" ∷ codes "main" ∷ []; taken = true }
     ∷ record { words = codes "archive" ∷ codes "--prefix=b/" ∷ codes "a.gx" ∷ codes "main" ∷ []; taken = true }
@@ -33,7 +35,7 @@ line_rows =
     -- no command, a word too many, one too few, and an option that isn't there
     ∷ record { words = []; taken = false }
     ∷ record { words = codes "what" ∷ []; taken = false }
-    ∷ record { words = codes "refs" ∷ codes "a.gx" ∷ codes "main" ∷ []; taken = false }
+    ∷ record { words = codes "grow" ∷ codes "a.gx" ∷ codes "main" ∷ []; taken = false }
     ∷ record { words = codes "show" ∷ codes "a.gx" ∷ []; taken = false }
     ∷ record { words = codes "put" ∷ codes "a.gx" ∷ []; taken = false }
     ∷ record { words = codes "refs" ∷ codes "--all" ∷ codes "a.gx" ∷ []; taken = false }

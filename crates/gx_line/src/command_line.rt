@@ -19,7 +19,7 @@ use commands::command_line;
 use gx_asks::{Change, Question, Trial};
 use questions::question_of;
 use std::alloc::Global;
-use values::{is_set, number_of, option_of, unknown, word_of};
+use values::{any_words_of, is_set, number_of, option_of, unknown, word_of};
 
 /// A command with its options and words.
 #[derive(Debug, Drop)]
@@ -43,10 +43,14 @@ pub enum Line<'a> {
         file: &'a str,
         salvage: Option<&'a str>,
     },
-    /// All refs of a store, and the objects that they reach, go out as a bundle. With `head` this ref is HEAD, too.
+    /// Refs of a store go out as a bundle, with the objects that they reach and that what range words exclude doesn't: those
+    /// that words name, or all of them. With `head` this ref is HEAD, too. With `pack` the objects go out alone, as a pack.
     Bundle {
         file: &'a str,
+        ranges: Vec<&'a str>,
+        all: bool,
         head: Option<&'a str>,
+        pack: bool,
     },
 }
 
@@ -139,7 +143,10 @@ fn file_line<'a>(
         }),
         "bundle" => Ok(Line::Bundle {
             file,
+            ranges: any_words_of(alloc, matches, "range")?,
+            all: is_set(matches, "all"),
             head: option_of(matches, "head"),
+            pack: is_set(matches, "pack"),
         }),
         _ => ask_or_change(alloc, name, matches, file),
     }

@@ -1,9 +1,9 @@
 -- The commits that range words list, by their names: what is listed stands in the history, and is held.
-use Rattle.std.proofs.Common.{◌≡◌, ℕ, zero, suc, Bool, true, false, cond, refl, sym, ap, subst, ◌∙◌, List, [], ◌∷◌, ◌++◌, map, take, reverse, Option, None, Some, Result, Ok, Err, inl, inr}
+use Rattle.std.proofs.Common.{◌≡◌, ℕ, zero, suc, Bool, true, false, cond, refl, sym, ap, subst, ◌∙◌, List, [], ◌∷◌, ◌++◌, map, take, drop, reverse, Option, None, Some, Result, Ok, Err, inl, inr}
 use Rattle.std.specs.Prelude.{IsTrue, ◌&&◌, ◌||◌, not}
 use Rattle.std.specs.List.{AllByRecursion, filter, filter_map, list_any}
 use Rattle.std.proofs.lemmas.List.Folds.{list_any-append}
-use Rattle.std.proofs.lemmas.List.{map-append, reverse-append, take-map}
+use Rattle.std.proofs.lemmas.List.{drop-map, map-append, reverse-append, take-map}
 use Rattle.gx_model.specs.declared.objects.Kind.{Kind}
 use Rattle.gx_model.specs.declared.objects.Kind.TheVariants as kind
 use Rattle.gx_model.specs.Texts.{Bytes}
@@ -24,7 +24,7 @@ use Rattle.gx_object.specs.declared.name.Name.{Name}
 use Rattle.gx_rev.specs.Objects.{IsHeldAs, commit_at}
 use Rattle.gx_rev.specs.Walking.{is_included}
 use Rattle.gx_model.proofs.Records.HeldValues.{commit_stands, held_is, kind_held, value_held}
-use Rattle.gx_print.specs.Logs.{commits_logged, limited, turned, with_refs, words_of_refs}
+use Rattle.gx_print.specs.Logs.{commits_logged, limited, skipped, turned, with_refs, words_of_refs}
 use Rattle.gx_print.specs.Stored.{commits_listed}
 
 -- ---- what holds of all elements of a list
@@ -52,6 +52,16 @@ module _ {X : Type 0} (P : X → Type 0) where
   all_taken (suc n) [] h = tt
   all_taken (suc n) (x ∷ xs) h = (h.0, all_taken n xs h.1)
 
+  all_dropped : (n : ℕ) (xs : List X) → AllByRecursion P xs → AllByRecursion P (drop n xs)
+  all_dropped zero xs h = h
+  all_dropped (suc n) [] h = tt
+  all_dropped (suc n) (x ∷ xs) h = all_dropped n xs h.1
+
+  -- what holds of all holds of those that aren't passed over
+  pub all_skipped : (skip : Option ℕ) (xs : List X) → AllByRecursion P xs → AllByRecursion P (skipped skip xs)
+  all_skipped None xs h = h
+  all_skipped (Some n) xs h = all_dropped n xs h
+
   -- what holds of all holds of those that are kept, in either order
   pub all_arranged : (backwards : Bool) (most : Option ℕ) (xs : List X) → AllByRecursion P xs → AllByRecursion P (turned backwards (limited most xs))
   all_arranged true None xs h = all_reversed xs h
@@ -71,6 +81,11 @@ module _ {X Y : Type 0} (f : X → Y) where
   map_arranged false None xs = refl
   map_arranged true (Some n) xs = map-reverse (take n xs) ∙ ap reverse (sym (take-map f n xs))
   map_arranged false (Some n) xs = sym (take-map f n xs)
+
+  -- those that aren't passed over
+  pub map_skipped : (skip : Option ℕ) (xs : List X) → map f (skipped skip xs) ≡ skipped skip (map f xs)
+  map_skipped None xs = refl
+  map_skipped (Some n) xs = sym (drop-map f n xs)
 
 -- ---- listed commits stand in the history
 

@@ -9,6 +9,7 @@ use Rattle.std.specs.Option.{option_map}
 use Rattle.gx_model.specs.declared.faults.Fault.{Fault}
 use Rattle.gx_model.specs.Objects.{line}
 use Rattle.gx_model.specs.Texts.{Bytes, cut_at, same_bytes}
+use Rattle.gx_asks.specs.declared.question.CommitFilter.{CommitFilter}
 use Rattle.gx_asks.specs.declared.question.LogFormat.TheVariants.{Names}
 use Rattle.gx_asks.specs.declared.question.LogOptions.{LogOptions}
 use Rattle.gx_print.specs.Stored.{Printed, of_word}
@@ -87,6 +88,11 @@ abbrev pub answered_by : (Fault → Bytes) → Bytes → List Bytes → Printed 
 answered_by reason command words (Ok text) = printed_answer command text
 answered_by reason command words (Err (of_word number fault)) = line (word_at words number) (reason fault)
 
+-- no commit is left out
+abbrev pub all_commits : CommitFilter
+all_commits = record { merges = false; no_merges = false; since = None; until = None }
+
 -- the options of `log` in a line
 abbrev pub no_options : LogOptions
-no_options = record { reverse = false; max_count = None; parents = false; all = false; stdin = false; format = Names }
+no_options =
+    record { reverse = false; only = all_commits; skip = None; max_count = None; count = false; parents = false; all = false; stdin = false; format = Names }

@@ -4,6 +4,7 @@ pub mod WalkedFiles
 pub mod Words
 pub mod Messages
 pub mod Identities
+pub mod Choices
 pub mod Logs
 pub mod LogRows
 pub mod Asking

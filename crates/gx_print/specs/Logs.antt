@@ -1,6 +1,6 @@
 -- What `log` prints of a store, or why it is refused. Source: git-log(1), "PRETTY FORMATS", and git-rev-list(1), `--all` and `--stdin`.
-use Rattle.std.specs.Prelude.{ℕ, Bool, if◌then◌else◌, List, [], ◌∷◌, ◌++◌, map, take, reverse, codes, Option, Some, None, Result, Ok}
-use Rattle.std.specs.List.{AllByRecursion, flat_map, join_by}
+use Rattle.std.specs.Prelude.{ℕ, Bool, if◌then◌else◌, List, [], ◌∷◌, ◌++◌, map, take, drop, reverse, length, codes, decimal, Option, Some, None, Result, Ok}
+use Rattle.std.specs.List.{AllByRecursion, filter, flat_map, join_by}
 use Rattle.gx_model.specs.declared.objects.Kind.{Kind}
 use Rattle.gx_model.specs.declared.objects.Kind.TheVariants as kinds
 use Rattle.gx_model.specs.Texts.{Bytes}
@@ -17,6 +17,7 @@ use Rattle.gx_rev.specs.Objects.{IsHeldAs}
 use Rattle.gx_asks.specs.declared.question.LogFormat.{LogFormat}
 use Rattle.gx_asks.specs.declared.question.LogFormat.TheVariants.{Author, Dates, Names, Oneline, Raw, Subject}
 use Rattle.gx_asks.specs.declared.question.LogOptions.{LogOptions}
+use Rattle.gx_print.specs.Choices.{keeps}
 use Rattle.gx_print.specs.Identities.{name_and_email, seconds_in}
 use Rattle.gx_print.specs.Messages.{indented, subject, trimmed}
 use Rattle.gx_print.specs.Stored.{Printed, all_words}
@@ -28,13 +29,18 @@ abbrev pub limited : {A : Type 0} → Option ℕ → List A → List A
 limited None xs = xs
 limited (Some n) xs = take n xs
 
+-- these without so many of the first
+abbrev pub skipped : {A : Type 0} → Option ℕ → List A → List A
+skipped None xs = xs
+skipped (Some n) xs = drop n xs
+
 -- these, or the last one first
 abbrev pub turned : {A : Type 0} → Bool → List A → List A
 turned backwards xs = if backwards then reverse xs else xs
 
--- so many at most, counted before they are turned
+-- so many are passed over, so many at most are left then, and these are turned
 abbrev pub arranged : {A : Type 0} → LogOptions → List A → List A
-arranged options xs = turned options.reverse (limited options.max_count xs)
+arranged options xs = turned options.reverse (limited options.max_count (skipped options.skip xs))
 
 -- the commits of all refs, as words
 abbrev pub words_of_refs : History → List Word
@@ -85,7 +91,15 @@ told_parts Dates parents called parts = hex called ++ 32 ∷ both_dates parts.te
 abbrev pub entry_of_parts : LogOptions → Bytes → CommitParts → Bytes
 entry_of_parts options called parts = told_parts options.format options.parents called parts ++ 10 ∷ []
 
+-- how many there are, in a line
+abbrev pub count_text : ℕ → Bytes
+count_text count = decimal count ++ 10 ∷ []
+
 module _ (name : Kind → Bytes → Bytes) where
+  -- the commits that are kept, arranged
+  abbrev pub chosen : LogOptions → List Commit → List Commit
+  chosen options commits = arranged options (filter (keeps name options.only) commits)
+
   -- the commits that range words list, and where that is asked for those of all refs
   abbrev pub commits_logged : History → Bool → List RangeWord → Result (List Commit) WordFault
   commits_logged h refs ws = words_denoted name h ws >>= λ xs. Ok (listing h (with_refs refs h xs))
@@ -102,10 +116,14 @@ module _ (name : Kind → Bytes → Bytes) where
   abbrev pub entries_text : LogOptions → List Commit → Bytes
   entries_text options commits = join_by (entry_of options) (gap options.format) commits
 
+  -- what is printed of them, or how many they are
+  abbrev pub commits_text : LogOptions → List Commit → Bytes
+  commits_text options commits = if options.count then count_text (length commits) else entries_text options commits
+
   -- what is printed of what range words list: all are read, and then all are evaluated
   abbrev pub log_text : LogOptions → History → List Bytes → Printed
   log_text options h words =
-      all_words (each_word range_of words >>= λ ws. commits_logged h options.all ws >>= λ commits. Ok (entries_text options (arranged options commits)))
+      all_words (each_word range_of words >>= λ ws. commits_logged h options.all ws >>= λ commits. Ok (commits_text options (chosen options commits)))
 
 -- ---- commits in a repository
 

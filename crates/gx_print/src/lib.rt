@@ -3,6 +3,7 @@
 #![tactic(auto)]
 
 mod asked;
+mod choices;
 mod entries;
 mod formats;
 mod identities;
@@ -12,6 +13,7 @@ mod paths;
 mod words;
 
 pub use asked::{Asked, read_asked};
+pub use choices::{passes, put_count};
 pub use entries::{listing, put_line};
 pub use formats::{gap, put_commit};
 pub use names::shown_line;

@@ -76,7 +76,7 @@ module _ (stands : ℕ → ℕ) (all old : List (ℕ × Name)) where
 -- ---- the refs that are set
 
 -- what an object peels to is the commit of its target
-peeled_is : (v : Value) (c : Commit) → commit_in v ≡ Ok c → c ≡ peeled_at (target_in v)
+pub peeled_is : (v : Value) (c : Commit) → commit_in v ≡ Ok c → c ≡ peeled_at (target_in v)
 peeled_is (blob_value x) c e = absurd cc
 peeled_is (tree_value f) c e = absurd cc
 peeled_is (commit_value d) c e = let same : d ≡ c = cc in sym same
@@ -87,7 +87,7 @@ in_range : (words : List Word) (c : Commit) → (is_included words c || is_exclu
 in_range words c = sym (any_either (λ w. (span w).included c) (λ w. (span w).excluded c) words)
 
 -- all refs, with what their objects stand for
-all_targets : (stands : ℕ → ℕ) (r : Records) (refs : List Tip) → AreAllRefs stands r refs → targets r refs ≡ (history_of r).refs
+pub all_targets : (stands : ℕ → ℕ) (r : Records) (refs : List Tip) → AreAllRefs stands r refs → targets r refs ≡ (history_of r).refs
 all_targets stands r refs all = sym (mapped_twice (shown_ref r) shown_tip refs) ∙ ap (map (shown_ref r)) all.refs
 
 module _ {A : Type 0} (name : Kind → Bytes → Bytes) (namer : IsNamer name) (stands : ℕ → ℕ) (spans : Spans A) (refs : List Tip) (half front : List (ℕ × Name)) (places reached : BTreeSet ℕ) where

@@ -5,5 +5,5 @@
 mod spans;
 mod tips;
 
-pub use spans::Spans;
+pub use spans::{Spans, places_of, reached_places};
 pub use tips::{Tip, tips_of};

@@ -118,7 +118,9 @@ fn add_all<O: Objects, A: Allocator + Copy>(
 }
 
 /// The places at which the commits of refs stand.
-fn places_of<A: Allocator + Copy>(
+///
+/// OutOfMemory: a growth is refused. Cost and memory: the refs. Source: git-show-ref(1).
+pub fn places_of<A: Allocator + Copy>(
     alloc: A,
     refs: &[Tip<'_>],
 ) -> Result<BTreeSet<u64, A>, AllocError>
@@ -133,7 +135,13 @@ fn places_of<A: Allocator + Copy>(
 }
 
 /// Those of some places at which a commit stands that a front reaches.
-fn reached_places<O: Objects, A: Allocator + Copy>(
+///
+/// OutOfMemory: a growth is refused. ReadFailed: a read failed. Damaged: this is no repository.
+/// Cost: the bodies of the commits that the front reaches and that stand behind the first of the places, and a look-up for each of
+/// their parents. Memory: the places, and those that are still to be visited. What is in the room before and after stands for
+/// nothing.
+/// Source: gitglossary(7), "reachable".
+pub fn reached_places<O: Objects, A: Allocator + Copy>(
     alloc: A,
     objects: &O,
     room: &mut Vec<u8, A>,

@@ -10,4 +10,7 @@ pub mod CommitLines
 pub mod AnsweredLines
 pub mod AnsweredRevisions
 pub mod AnsweredCommands
+pub mod TakenCommits
 pub mod WalkedCommits
+pub mod FilteredRefs
+mod ToldDifferences

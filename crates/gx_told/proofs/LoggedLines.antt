@@ -1,9 +1,8 @@
 -- What is printed where the lines of a source are words, too.
-use Rattle.std.proofs.Common.{◌≡◌, ◌∙◌, refl, sym, ap, subst, Bool, true, false, ℕ, List, [], ◌++◌, append-nil, map, Option, None, Some, Result, Ok, Err}
+use Rattle.std.proofs.Common.{◌≡◌, refl, sym, ap, subst, Bool, true, false, ℕ, List, [], ◌++◌, append-nil, map, Option, None, Some, Result, Ok, Err}
 use Rattle.std.specs.Prelude.{IfSome}
 use Rattle.std.specs.declared.vec.Vec.{Vec}
 use Rattle.gx_model.specs.declared.objects.Kind.{Kind}
-use Rattle.gx_model.specs.declared.objects.Kind.TheVariants as kinds
 use Rattle.gx_model.specs.Faults.{◌>>=◌}
 use Rattle.gx_model.specs.Histories.{Records}
 use Rattle.gx_model.specs.Histories.Values.{Commit}
@@ -11,7 +10,6 @@ use Rattle.gx_model.specs.Records.HistoryOf.{history_of}
 use Rattle.gx_model.specs.Revisions.{RangeWord}
 use Rattle.gx_model.specs.Texts.{Bytes}
 use Rattle.gx_model.specs.Texts.Sinks.{Taken}
-use Rattle.gx_object.specs.declared.name.Name.{Name}
 use Rattle.gx_stream.specs.Heard.{heard}
 use Rattle.gx_text.specs.Devices.{Coming}
 use Rattle.gx_batch.specs.Batches.{AreRead, GivesLines}
@@ -22,18 +20,16 @@ use Rattle.gx_batch.specs.declared.fault.BatchFault.TheVariants as batch
 use Rattle.gx_asks.specs.declared.question.LogOptions.{LogOptions}
 use Rattle.gx_questions.specs.declared.fault.AskFault.{AskFault}
 use Rattle.gx_questions.specs.declared.fault.AskFault.TheVariants as ask
-use Rattle.gx_ranges.specs.Answers.{AreLogged, RefusesWord}
+use Rattle.gx_ranges.specs.Answers.{RefusesWord}
 use Rattle.gx_ranges.specs.Listings.{AreTipsOf, StillLists}
 use Rattle.gx_ranges.specs.declared.walking.CommitWalk.{CommitWalk}
-use Rattle.gx_print.specs.Logs.{AreCommits, arranged, commits_logged, entries_text, limited, log_text, turned}
-use Rattle.gx_rev.specs.Objects.{IsHeldAs, commit_at}
+use Rattle.gx_print.specs.Logs.{chosen, commits_logged, commits_text, log_text}
 use Rattle.gx_model.proofs.Texts.SentTexts.{took_nothing}
 use Rattle.gx_print.specs.Stored.{all_words}
-use Rattle.gx_print.proofs.ListedCommits.{all_arranged, map_arranged}
 use Rattle.gx_print.proofs.ReadSteps.{nothing_in_front}
 use Rattle.gx_told.specs.Faults.{of_batch, refused_at}
 use Rattle.gx_told.specs.Logging.{LogsFrom, LogsRead, PrintsWalk, ranges_text}
-use Rattle.gx_told.specs.Printing.{Prints, PrintsText}
+use Rattle.gx_told.specs.Printing.{Prints}
 use Rattle.gx_told.specs.declared.fault.ToldFault.{ToldFault}
 use Rattle.gx_told.specs.declared.fault.ToldFault.TheVariants.{OutOfMemory, ReadFailed}
 use Rattle.gx_told.proofs.Prints.{given_text, none_printed}
@@ -75,22 +71,7 @@ module _ (name : Kind → Bytes → Bytes) (options : LogOptions) (r : Records) 
   no_lines stdin words coming was now answer e h =
       subst (λ b. LogsFrom name options b r words coming was now answer) (sym e) (subst (λ ws. Prints (log_text name options (history_of r) ws) was now answer) (append-nil words) h)
 
-  -- ---- the commits of ranges
-
-  -- names of the commits that are logged, turned round where that is asked for, are those of held commits
-  pub turned_held : (ns : List Name) → AreCommits r ns → AreCommits r (turned options.reverse ns)
-  turned_held ns h = all_arranged (IsHeldAs kinds.Commit r) options.reverse None ns h
-
-  -- and what is printed of these is printed of the ranges
-  pub ranges_given : (ws : List RangeWord) (ns : List Name) (was now : Option Taken) (answer : Result (Unit {0}) ToldFault) → AreLogged options.max_count r (commits_logged name (history_of r) options.all ws) ns
-      → PrintsText (entries_text name options (map (commit_at r) (turned options.reverse ns))) was now answer → Prints (ranges_text name options (history_of r) ws) was now answer
-  ranges_given ws ns was now answer h k =
-      let commits = h.0.0 in
-      let text : List Commit → Bytes = λ cs. entries_text name options cs in
-      let same = map_arranged (commit_at r) options.reverse None ns ∙ ap (turned options.reverse) h.0.2 in
-      given_text (ranges_text name options (history_of r) ws) (text (arranged options commits)) was now answer
-      (ap (λ g. all_words (g >>= λ cs. Ok (text (arranged options cs)))) h.0.1)
-      (subst (λ cs. PrintsText (text cs) was now answer) same k)
+-- ---- the commits of ranges
 
 -- a word isn't a range, or one gives nothing
 pub ranges_refused : (told : Option Records) (name : Kind → Bytes → Bytes) (options : LogOptions) (ws : List RangeWord) (was : Option Taken) (word : ℕ) (fault : AskFault)
@@ -99,24 +80,22 @@ ranges_refused None name options ws was word fault h = tt
 ranges_refused (Some r) name options ws was word ask.OutOfMemory h = none_printed (ranges_text name options (history_of r) ws) was
 ranges_refused (Some r) name options ws was word ask.ReadFailed h = ([], nothing_in_front (ranges_text name options (history_of r) ws), took_nothing was)
 ranges_refused (Some r) name options ws was word ask.Damaged h = absurd (cc h.1)
-ranges_refused (Some r) name options ws was word (ask.Revision kind) h = (ap (λ g. all_words (g >>= λ cs. Ok (entries_text name options (arranged options cs)))) h, took_nothing was)
+ranges_refused (Some r) name options ws was word (ask.Revision kind) h = (ap (λ g. all_words (g >>= λ cs. Ok (commits_text name options (chosen name options cs)))) h, took_nothing was)
 
 -- ---- a walk
 
 module _ {A : Type 0} (name : Kind → Bytes → Bytes) (options : LogOptions) (stands : ℕ → ℕ) (told : Option Records) (ws : List RangeWord) (walk : CommitWalk A) where
   -- a walk begins with the commits that are logged
   abbrev Begins : Records → Type 0
-  Begins r = (commits : List Commit) × (commits_logged name (history_of r) options.all ws ≡ Ok commits) × StillLists stands r walk (limited options.max_count commits)
+  Begins r = (commits : List Commit) × (commits_logged name (history_of r) options.all ws ≡ Ok commits) × StillLists stands r walk commits
 
   pub begun_tips : IfSome told Begins → IfSome told (λ r. AreTipsOf stands r walk)
   begun_tips = map_told told Begins (λ r. AreTipsOf stands r walk) (λ r h. h.2.tips)
 
-  -- what is printed of a walk that isn't turned round is printed of the ranges
-  pub walk_given : options.reverse ≡ false → (was now : Option Taken) (answer : Result (Unit {0}) ToldFault) → IfSome told Begins → IfSome told (λ r. PrintsWalk name stands options walk was now r answer)
+  -- what is printed of a walk is printed of the ranges
+  pub walk_given : (was now : Option Taken) (answer : Result (Unit {0}) ToldFault) → IfSome told Begins → IfSome told (λ r. PrintsWalk name stands options walk was now r answer)
       → IfSome told (λ r. Prints (ranges_text name options (history_of r) ws) was now answer)
-  walk_given e was now answer = both_told told Begins (λ r. PrintsWalk name stands options walk was now r answer) (λ r. Prints (ranges_text name options (history_of r) ws) was now answer) (λ r b k.
-      let commits = b.0 in
-      let same : turned options.reverse (limited options.max_count commits) ≡ limited options.max_count commits = ap (λ t. turned t (limited options.max_count commits)) e in
-      given_text (ranges_text name options (history_of r) ws) (entries_text name options (limited options.max_count commits)) was now answer
-      (ap (λ g. all_words (g >>= λ cs. Ok (entries_text name options (arranged options cs)))) b.1 ∙ ap (λ cs. Ok (entries_text name options cs)) same)
-      (k (limited options.max_count commits) b.2))
+  walk_given was now answer = both_told told Begins (λ r. PrintsWalk name stands options walk was now r answer) (λ r. Prints (ranges_text name options (history_of r) ws) was now answer) (λ r b k.
+      given_text (ranges_text name options (history_of r) ws) (commits_text name options (chosen name options b.0)) was now answer
+      (ap (λ g. all_words (g >>= λ cs. Ok (commits_text name options (chosen name options cs)))) b.1)
+      (k b.0 b.2))

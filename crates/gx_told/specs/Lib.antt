@@ -1,7 +1,10 @@
 pub mod Faults
+pub mod Filtering
 pub mod Printing
 pub mod Walking
+pub mod Choosing
 pub mod Logging
 pub mod Archiving
 pub mod Batching
 pub mod Answering
+pub mod Differing

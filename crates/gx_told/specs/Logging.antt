@@ -18,10 +18,11 @@ use Rattle.gx_object.specs.declared.name.Name.{Name}
 use Rattle.gx_asks.specs.declared.question.LogFormat.{LogFormat}
 use Rattle.gx_asks.specs.declared.question.LogFormat.TheVariants.{Names}
 use Rattle.gx_asks.specs.declared.question.LogOptions.{LogOptions}
-use Rattle.gx_print.specs.Logs.{arranged, commits_logged, entries_text, log_text}
+use Rattle.gx_print.specs.Logs.{chosen, commits_logged, commits_text, entries_text, log_text}
 use Rattle.gx_print.specs.Stored.{Printed, all_words}
 use Rattle.gx_ranges.specs.Listings.{StillLists}
 use Rattle.gx_ranges.specs.declared.walking.CommitWalk.{CommitWalk}
+use Rattle.gx_told.specs.Choosing.{StillTakes, choice_of}
 use Rattle.gx_told.specs.Printing.{Prints, PrintsText}
 use Rattle.gx_told.specs.declared.fault.ToldFault.{ToldFault}
 use Rattle.gx_told.specs.declared.fault.ToldFault.TheVariants.{OutOfMemory, ReadFailed}
@@ -29,7 +30,7 @@ use Rattle.gx_told.specs.declared.fault.ToldFault.TheVariants.{OutOfMemory, Read
 module _ (name : Kind → Bytes → Bytes) (options : LogOptions) where
   -- what is printed of the commits that ranges list
   abbrev pub ranges_text : History → List RangeWord → Printed
-  ranges_text h ws = all_words (commits_logged name h options.all ws >>= λ commits. Ok (entries_text name options (arranged options commits)))
+  ranges_text h ws = all_words (commits_logged name h options.all ws >>= λ commits. Ok (commits_text name options (chosen name options commits)))
 
   -- What is printed where a source brings words, too, behind those that are given, and then it ends or fails. Where it fails,
   -- nothing is.
@@ -47,10 +48,15 @@ module _ (name : Kind → Bytes → Bytes) (options : LogOptions) where
 
 -- ---- a walk
 
--- the commits that a walk still lists are printed
+-- of the commits that a walk still lists those that are chosen are printed, or how many they are
 abbrev pub PrintsWalk : {A : Type 0} → (Kind → Bytes → Bytes) → (ℕ → ℕ) → LogOptions → CommitWalk A → Option Taken → Option Taken → Records → Result (Unit {0}) ToldFault → Type 0
 PrintsWalk name stands options walk was now repository result =
-    (commits : List Commit) → StillLists stands repository walk commits → PrintsText (entries_text name options commits) was now result
+    (commits : List Commit) → StillLists stands repository walk commits → PrintsText (commits_text name options (chosen name options commits)) was now result
+
+-- the commits that are still to be taken are printed
+abbrev pub PrintsTaken : {A : Type 0} → (Kind → Bytes → Bytes) → (ℕ → ℕ) → LogOptions → CommitWalk A → Option Taken → Option Taken → Records → Result (Unit {0}) ToldFault → Type 0
+PrintsTaken name stands options walk was now repository result =
+    (commits : List Commit) → StillTakes name stands repository walk (choice_of options) commits → PrintsText (entries_text name options commits) was now result
 
 -- ---- names alone
 

@@ -4,6 +4,7 @@
 
 mod archive;
 mod batches;
+mod diff;
 mod fault;
 mod files;
 mod held;
@@ -14,8 +15,10 @@ mod rev_parse;
 mod sending;
 mod serving;
 mod show;
+mod telling;
 mod words;
 
 pub use batches::batch;
 pub use fault::ToldFault;
 pub use serving::answer;
+pub use telling::tell;

@@ -1,6 +1,6 @@
 //! The commits that range words list, each in its format. Source: git-log(1) and git-rev-list(1).
 
-ghost use Rattle.std.specs.Prelude.{◌≡◌, false, map, true};
+ghost use Rattle.std.specs.Prelude.{map};
 ghost use Rattle.gx_model.specs.Records.HistoryOf.{history_of};
 ghost use Rattle.gx_rev.specs.Views.{shown_range};
 ghost use Rattle.gx_text.specs.Lent.{lent_texts};
@@ -10,21 +10,21 @@ ghost use Rattle.gx_questions.specs.Answers.{IfTold};
 ghost use Rattle.gx_told.specs.Logging.{LogsFrom, ranges_text};
 ghost use Rattle.gx_told.specs.Printing.{Prints};
 
+mod choices;
 mod commits;
 mod walks;
 
 use crate::ToldFault;
 use crate::words::{refused, unread};
-use commits::print_commits;
 use gx_asks::LogOptions;
 use gx_batch::{LineEnding, read_lines};
 use gx_objects::Objects;
 use gx_print::{add_lines, read_ranges, texts_of};
-use gx_ranges::{CommitWalk, walk};
+use gx_ranges::CommitWalk;
 use gx_rev::Range;
 use gx_text::{Sink, Source};
 use std::alloc::Allocator;
-use walks::print_walk;
+use walks::print_chosen;
 
 /// Prints the commits that range words list. With `stdin` the lines of the source are words, too, behind those that are given.
 ///
@@ -69,8 +69,9 @@ fn log_words<'a, O: Objects, A: Allocator + Copy, W: Sink>(
     log(alloc, objects, options, asked.as_slice(), sink)
 }
 
-/// Prints the commits that range words list, the last made first, and with `all` those of all refs, too. The commits go out one
-/// after the other, each as the walk comes to it; where they are turned round, once all are found.
+/// Prints the commits that range words list, the last made first, and with `all` those of all refs, too; of these those that the
+/// options keep. The commits go out one after the other, each as the walk comes to it; where they are turned round, once all are
+/// found. With `count` it is told how many they are.
 ///
 /// `Revision`: the first word that isn't a range word, or else the first that gives nothing, by its number from 1.
 /// Cost: that of `gx_ranges::walk`, and for each commit its text; turned round, unless their names alone are asked for, their
@@ -105,61 +106,12 @@ fn log_ranges<O: Objects, A: Allocator + Copy, W: Sink>(
         (history_of r) (map shown_range ranges.now))
         (W.taken sink.old) (W.taken sink.new)) result }
 {
-    if options.reverse {
-        log_turned(alloc, objects, options, ranges, sink)
-    } else {
-        log_walked(alloc, objects, options, ranges, sink)
-    }
-}
-
-/// Prints the commits that ranges list, the last made last.
-fn log_turned<O: Objects, A: Allocator + Copy, W: Sink>(
-    alloc: A,
-    objects: &O,
-    options: LogOptions,
-    ranges: &[Range<A>],
-    sink: &mut W,
-) -> Result<(), ToldFault>
-    requires { options.reverse ≡ true }
-    ensures { IfTold (O.told objects.now) (λ r. Prints (ranges_text (O.name_of objects.now) options
-        (history_of r) (map shown_range ranges.now))
-        (W.taken sink.old) (W.taken sink.new)) result }
-{
-    match walk(alloc, objects, ranges, options.all, options.max_count) {
-        Ok(names) => {
-            let mut names = names;
-            names.reverse();
-            print_commits(alloc, objects, options, names.as_slice(), sink)
-        }
-        Err(fault) => Err(refused(fault.word as u64, fault.kind)),
-    }
-}
-
-/// Prints the commits that ranges list, each as the walk comes to it.
-fn log_walked<O: Objects, A: Allocator + Copy, W: Sink>(
-    alloc: A,
-    objects: &O,
-    options: LogOptions,
-    ranges: &[Range<A>],
-    sink: &mut W,
-) -> Result<(), ToldFault>
-    requires { options.reverse ≡ false }
-    ensures { IfTold (O.told objects.now) (λ r. Prints (ranges_text (O.name_of objects.now) options
-        (history_of r) (map shown_range ranges.now))
-        (W.taken sink.old) (W.taken sink.new)) result }
-{
     let mut room = Vec::new(alloc);
-    match CommitWalk::begin(
-        alloc,
-        objects,
-        ranges,
-        options.all,
-        options.max_count,
-        &mut room,
-    ) {
+    // how many are taken at most is counted behind those that are left out
+    match CommitWalk::begin(alloc, objects, ranges, options.all, None, &mut room) {
         Ok(walk) => {
             let mut walk = walk;
-            print_walk(alloc, objects, options, &mut walk, &mut room, sink)
+            print_chosen(alloc, objects, options, &mut walk, &mut room, sink)
         }
         Err(fault) => Err(refused(fault.word as u64, fault.kind)),
     }

@@ -7,7 +7,7 @@ use crate::ToldFault;
 use crate::archive::print_archive;
 use crate::log::log_with_lines;
 use crate::ls::list;
-use crate::refs::print_refs;
+use crate::refs::{print_kept, print_refs};
 use crate::rev_parse::print_names;
 use crate::show::show;
 use gx_asks::Question;
@@ -16,16 +16,18 @@ use gx_print::texts_of;
 use gx_text::{Sink, Source};
 use std::alloc::Allocator;
 
-/// Answers a question to a store, which is asked for what it needs. An export and a batch answer nothing here: these are
-/// [`batch`](crate::batch)'s, and `gx_export`'s and `gx_changes`'.
+/// Answers a question to a store, which is asked for what it needs. An export, a batch, and what is answered yes or no answer nothing
+/// here: these are [`batch`](crate::batch)'s, [`tell`](crate::tell)'s, and `gx_export`'s and `gx_changes`'.
 ///
 /// `Revision`: the first word that isn't one, or else the first that gives nothing; nothing went out. `Damaged`: what the store
 /// holds is no repository's. `StoreReadFailed`, `OutOfMemory`, `WriteFailed`: a front of the text went out. `ReadFailed`: the source
 /// of `log --stdin` failed, and nothing went out.
 /// Cost: that of `gx_questions::eval` for each word, and what is printed; of `ls` the trees that are listed, of `archive` that of
-/// `gx_archive::archive_of_objects`, of `log` that of `gx_ranges::walk`. Memory: an object, and its text; of `ls -r` and `archive`
+/// `gx_archive::archive_of_objects`, of `log` that of `gx_ranges::walk`, of refs that of
+/// `gx_ref_filters::kept_refs`. Memory: an object, and its text; of `ls -r` and `archive`
 /// a path and the trees above it; of `log` the names.
-/// Source: git-cat-file(1), git-ls-tree(1), git-archive(1), git-show-ref(1), git-rev-parse(1), git-log(1).
+/// Source: git-cat-file(1), git-ls-tree(1), git-archive(1), git-show-ref(1), git-for-each-ref(1), git-rev-parse(1),
+/// git-log(1).
 pub fn answer<O: Objects, R: Source + Drop, W: Sink, A: Allocator + Copy>(
     alloc: A,
     objects: &O,
@@ -52,6 +54,16 @@ pub fn answer<O: Objects, R: Source + Drop, W: Sink, A: Allocator + Copy>(
         }
         Question::Log { options, ranges } => {
             log_with_lines(alloc, objects, *options, ranges.as_slice(), source, sink)
+        }
+        Question::Diff { .. } | Question::MergeBase { .. } | Question::IsAncestor { .. } => Ok(()),
+        Question::RefsThat { filters, patterns } => {
+            print_kept(
+                alloc,
+                objects,
+                filters.as_slice(),
+                patterns.as_slice(),
+                sink,
+            )
         }
         Question::Batch { .. } | Question::Export(_) | Question::ExportRange { .. } => Ok(()),
     }

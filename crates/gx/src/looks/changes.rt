@@ -33,8 +33,8 @@ pub(crate) fn export_looked<'a>(
     Ok(true)
 }
 
-/// The range words of an export. The first that isn't one is answered.
-fn ranges_of(run: &Run<'_>, words: &[&str]) -> Result<Vec<Range<Global>>, RunFault> {
+/// The range words of a command. The first that isn't one is answered.
+pub(crate) fn ranges_of(run: &Run<'_>, words: &[&str]) -> Result<Vec<Range<Global>>, RunFault> {
     let alloc = run.rt.alloc();
     let words = texts_of(alloc, words)?;
     match read_ranges(alloc, words.as_slice()) {

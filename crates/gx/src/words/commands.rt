@@ -1,6 +1,6 @@
 //! What runs the command of each line.
 
-use crate::bundling::bundle;
+use crate::bundling::{BundleAsked, bundle};
 use crate::fault::RunFault;
 use crate::questions::ask;
 use crate::run::Run;
@@ -20,7 +20,7 @@ pub(crate) fn run_line(run: &Run<'_>, line: &Line<'_>) -> Result<u8, RunFault> {
         return Err(RunFault::RandomFailed);
     };
     match line {
-        Line::Ask { file, question } => ask(run, question, file, state)?,
+        Line::Ask { file, question } => return ask(run, question, file, state),
         Line::Change { file, wait, change } => {
             run.wait_for_others(*wait);
             make(run, change, file, state)?;
@@ -34,7 +34,21 @@ pub(crate) fn run_line(run: &Run<'_>, line: &Line<'_>) -> Result<u8, RunFault> {
             file,
             salvage: None,
         } => verify(run, file, state)?,
-        Line::Bundle { file, head } => bundle(run, file, *head, state)?,
+        Line::Bundle {
+            file,
+            ranges,
+            all,
+            head,
+            pack,
+        } => {
+            let asked = BundleAsked {
+                ranges: ranges.as_slice(),
+                all: *all,
+                head: *head,
+                pack: *pack,
+            };
+            bundle(run, file, &asked, state)?;
+        }
     }
     Ok(0)
 }

@@ -1,4 +1,4 @@
-//! Which commits are listed, by their names, and in which order.
+//! Which commits are listed, by their names.
 
 ghost use Rattle.std.specs.Prelude.{◌≡◌, ◌&&◌, ◌||◌, Bool, IfOk, OnOk, length, map};
 ghost use Rattle.gx_export.specs.ChangedParts.{AreEither};
@@ -9,13 +9,13 @@ ghost use Rattle.gx_model.specs.Records.HistoryOf.{history_of};
 ghost use Rattle.gx_rev.specs.Views.{shown_range};
 ghost use Rattle.gx_rev.specs.Objects.{commit_at};
 ghost use Rattle.gx_rev.specs.Reached.{is_wanted};
-ghost use Rattle.gx_print.specs.Logs.{AreCommits, arranged, commits_logged, limited, turned};
+ghost use Rattle.gx_print.specs.Logs.{AreCommits, commits_logged};
 ghost use Rattle.gx_cli.specs.Logs.{ListsMarked};
 ghost use Rattle.gx_print.specs.Stored.{all_words};
 ghost use Rattle.gx_cli.specs.Words.{GivesWords};
 
+use crate::CliFault;
 use crate::words::refused;
-use crate::{CliFault, LogOptions};
 use gx_object::{Name, Namer};
 use gx_repo::Repo;
 use gx_rev::{Range, names_marked, reached_from_refs, walked};
@@ -94,31 +94,5 @@ fn add_marks(marks: &mut [bool], others: &[bool])
         if others[place] {
             marks[place] = true;
         }
-    }
-}
-
-/// Keeps so many names at most, and then turns them round, as the options ask.
-pub(super) fn arrange<A: Allocator>(names: &mut Vec<Name, A>, options: LogOptions)
-    ensures { names.new.items ≡ arranged options names.old.items }
-{
-    limit(names, options.max_count);
-    turn(names, options.reverse);
-}
-
-/// Keeps so many of the first names at most.
-fn limit<A: Allocator>(names: &mut Vec<Name, A>, max_count: Option<u64>)
-    ensures { names.new.items ≡ limited max_count names.old.items }
-{
-    if let Some(most) = max_count {
-        names.truncate(most as usize);
-    }
-}
-
-/// Turns the names round where that is asked for.
-fn turn<A: Allocator>(names: &mut Vec<Name, A>, reverse: bool)
-    ensures { names.new.items ≡ turned reverse names.old.items }
-{
-    if reverse {
-        names.reverse();
     }
 }

@@ -5,20 +5,53 @@ ghost use Rattle.std.specs.List.{flat_map};
 ghost use Rattle.gx_model.specs.declared.objects.Kind.TheVariants as kinds;
 ghost use Rattle.gx_rev.specs.Objects.{IsHeldAs, commit_at};
 ghost use Rattle.gx_cli.specs.Sending.{PrintsText};
-ghost use Rattle.gx_print.specs.Logs.{AreCommits, entries_text, next_entry};
+ghost use Rattle.gx_print.specs.Logs.{AreCommits, commits_text, count_text, entries_text, next_entry};
 ghost use Rattle.gx_cli.specs.Logs.{entry_at};
 
 use crate::sending::put_text;
 use crate::{CliFault, LogOptions};
 use gx_object::{Name, Namer};
-use gx_print::{gap, put_commit};
+use gx_print::{gap, put_commit, put_count};
 use gx_repo::Repo;
 use gx_rev::{body_of, view_of};
 use gx_text::Sink;
 use std::alloc::Allocator;
 
+/// Prints held commits, or how many they are.
+pub(super) fn print_chosen<N: Namer, A: Allocator + Copy, W: Sink>(
+    alloc: A,
+    repo: &Repo<N, A>,
+    options: LogOptions,
+    names: &[Name],
+    sink: &mut W,
+) -> Result<(), CliFault>
+    requires { AreCommits repo.now.1 names.now }
+    ensures { PrintsText (commits_text (N.name_of repo.now.0) options
+        (map (commit_at repo.now.1) names.now))
+        (W.taken sink.old) (W.taken sink.new) result }
+{
+    if options.count {
+        print_count(alloc, names.len() as u64, sink)
+    } else {
+        print_commits(alloc, repo, options, names, sink)
+    }
+}
+
+/// Prints how many commits there are.
+fn print_count<A: Allocator + Copy, W: Sink>(
+    alloc: A,
+    count: u64,
+    sink: &mut W,
+) -> Result<(), CliFault>
+    ensures { PrintsText (count_text count) (W.taken sink.old) (W.taken sink.new) result }
+{
+    let mut text = Vec::new(alloc);
+    put_count(&mut text, count)?;
+    put_text(sink, text.as_slice())
+}
+
 /// Prints held commits, one after the other, in their format.
-pub(super) fn print_commits<N: Namer, A: Allocator + Copy, W: Sink>(
+fn print_commits<N: Namer, A: Allocator + Copy, W: Sink>(
     alloc: A,
     repo: &Repo<N, A>,
     options: LogOptions,

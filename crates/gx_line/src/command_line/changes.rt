@@ -1,6 +1,6 @@
 //! The change of a store that a command and what clap found for it give.
 
-ghost use Rattle.std.specs.Prelude.{IfErr, IfNone, IfOk, IfSome, codes};
+ghost use Rattle.std.specs.Prelude.{IfErr, IfNone, IfOk, IfSome, codes, false, true};
 ghost use Rattle.clap.specs.Words.{found_of, rows_of};
 ghost use Rattle.gx_line.specs.CommandLine as say;
 

@@ -155,7 +155,40 @@ fn with_store_commands<'a>(
     let gx = with_command(gx, gc_command(alloc));
     let gx = with_command(gx, export_command(alloc));
     let gx = with_command(gx, bundle_command(alloc));
-    with_command(gx, file_command(alloc, "refs", stores::REFS))
+    with_command(gx, refs_command(alloc))
+}
+
+fn refs_command<'a>(alloc: Global) -> Result<Command<'a>, AllocError>
+    ensures { say.Makes result say.refs_command }
+{
+    let patterns = any_words(
+        alloc,
+        "pattern",
+        "PATTERN",
+        "Lists refs of this name, or whose names begin with it up to a\n\
+         slash",
+    );
+    let refs = with_argument(file_command(alloc, "refs", stores::REFS), patterns);
+    tested_command(alloc, refs)
+}
+
+/// How refs have to stand to revisions.
+fn tested_command<'a>(
+    alloc: Global,
+    refs: Result<Command<'a>, AllocError>,
+) -> Result<Command<'a>, AllocError>
+    ensures { (a : App) → say.Makes refs.entry a → say.Makes result (say.tested_command a) }
+{
+    let points_at = "Lists refs to this object, or to a tag of it";
+    let contains = "Lists refs whose commits are REV or have it behind them";
+    let no_contains = "Leaves these out";
+    let merged = "Lists refs whose commits are REV or one that it has behind it";
+    let no_merged = "Leaves these out";
+    let refs = with_argument(refs, text(alloc, "points-at", "REV", points_at));
+    let refs = with_argument(refs, text(alloc, "contains", "REV", contains));
+    let refs = with_argument(refs, text(alloc, "no-contains", "REV", no_contains));
+    let refs = with_argument(refs, text(alloc, "merged", "REV", merged));
+    with_argument(refs, text(alloc, "no-merged", "REV", no_merged))
 }
 
 fn init_command<'a>(alloc: Global) -> Result<Command<'a>, AllocError>
@@ -357,13 +390,24 @@ fn export_command<'a>(alloc: Global) -> Result<Command<'a>, AllocError>
 fn bundle_command<'a>(alloc: Global) -> Result<Command<'a>, AllocError>
     ensures { say.Makes result say.bundle_command }
 {
+    let ranges = any_words(
+        alloc,
+        "range",
+        "RANGE",
+        "Refs, and commits that aren't written, as above",
+    );
+    let all = flag(alloc, "all", "Tells all refs, whatever the RANGEs name");
     let head = text(
         alloc,
         "head",
         "REF",
         "Tells this ref as HEAD, too, so that git clone checks it out",
     );
-    with_argument(file_command(alloc, "bundle", stores::BUNDLE), head)
+    let pack = flag(alloc, "pack", "Writes the pack alone");
+    let bundle = with_argument(file_command(alloc, "bundle", stores::BUNDLE), ranges);
+    let bundle = with_argument(bundle, all);
+    let bundle = with_argument(bundle, head);
+    with_argument(bundle, pack)
 }
 
 /// The commands that show objects.
@@ -447,7 +491,109 @@ fn with_commit_commands<'a>(
     let revisions = words(alloc, "rev", "REV", "Revisions, as gx --help has it");
     let rev_parse = file_command(alloc, "rev-parse", commits::REV_PARSE);
     let rev_parse = with_argument(rev_parse, revisions);
-    with_command(gx, rev_parse)
+    let gx = with_command(gx, rev_parse);
+    let gx = with_command(gx, merge_base_command(alloc));
+    with_command(gx, diff_command(alloc))
+}
+
+fn diff_command<'a>(alloc: Global) -> Result<Command<'a>, AllocError>
+    ensures { say.Makes result say.diff_command }
+{
+    let quiet = flag(
+        alloc,
+        "quiet",
+        "Prints nothing, and tells by the exit status",
+    );
+    let exit_code = flag(alloc, "exit-code", "Ends with status 3 where paths differ");
+    let nul = letter(
+        alloc,
+        "nul",
+        'z',
+        "Ends the line of a path with a NUL, and quotes no path",
+    );
+    let diff = with_argument(formed_command(alloc), quiet);
+    let diff = with_argument(diff, exit_code);
+    with_argument(diff, nul)
+}
+
+/// What `diff` prints. Each form is refused beside the others.
+fn formed_command<'a>(alloc: Global) -> Result<Command<'a>, AllocError>
+    ensures { say.Makes result say.formed_command }
+{
+    let name_status = flag(
+        alloc,
+        "name-status",
+        "Prints the status and the path of each, as without it",
+    );
+    let name_status = name_status.conflicts_with("name-only")?;
+    let name_status = name_status.conflicts_with("raw")?;
+    let name_status = name_status.conflicts_with("count")?;
+    let name_only = flag(alloc, "name-only", "Prints the path of each alone");
+    let name_only = name_only.conflicts_with("raw")?;
+    let name_only = name_only.conflicts_with("count")?;
+    let raw = flag(alloc, "raw", "Prints the modes and the names of each, too");
+    let raw = raw.conflicts_with("count")?;
+    let count = flag(alloc, "count", "Prints how many there are of each status");
+    let diff = with_argument(told_command(alloc), name_status);
+    let diff = with_argument(diff, name_only);
+    let diff = with_argument(diff, raw);
+    with_argument(diff, count)
+}
+
+/// What `diff` compares.
+fn told_command<'a>(alloc: Global) -> Result<Command<'a>, AllocError>
+    ensures { say.Makes result say.told_command }
+{
+    let before = one_word(
+        alloc,
+        "before",
+        "OLD",
+        "The revision before, as gx --help has it",
+    );
+    let after = one_word(alloc, "after", "NEW", "The revision after");
+    let paths = any_words(
+        alloc,
+        "path",
+        "PATH",
+        "A path, with all below it. One that begins with a hyphen\n\
+         stands behind --",
+    );
+    let diff = with_argument(file_command(alloc, "diff", commits::DIFF), before);
+    let diff = with_argument(diff, after);
+    with_argument(diff, paths)
+}
+
+fn merge_base_command<'a>(alloc: Global) -> Result<Command<'a>, AllocError>
+    ensures { say.Makes result say.merge_base_command }
+{
+    let all = flag(alloc, "all", "Prints all of them, in place of one");
+    let octopus = flag(
+        alloc,
+        "octopus",
+        "Wants ancestors of all revisions, in place of ancestors of REV\n\
+         and of a merge of the OTHERs",
+    );
+    let is_ancestor = flag(
+        alloc,
+        "is-ancestor",
+        "Tells by the exit status whether REV is OTHER or one of its\n\
+         ancestors, and prints nothing",
+    );
+    let is_ancestor = is_ancestor.conflicts_with("all")?;
+    let is_ancestor = is_ancestor.conflicts_with("octopus")?;
+    let base = with_argument(compared_command(alloc), all);
+    let base = with_argument(base, octopus);
+    with_argument(base, is_ancestor)
+}
+
+/// The revisions of `merge-base`.
+fn compared_command<'a>(alloc: Global) -> Result<Command<'a>, AllocError>
+    ensures { say.Makes result say.compared_command }
+{
+    let others = words(alloc, "other", "OTHER", "Other revisions");
+    let base = file_command(alloc, "merge-base", commits::MERGE_BASE);
+    let base = with_argument(base, revision(alloc));
+    with_argument(base, others)
 }
 
 fn log_command<'a>(alloc: Global) -> Result<Command<'a>, AllocError>
@@ -458,6 +604,7 @@ fn log_command<'a>(alloc: Global) -> Result<Command<'a>, AllocError>
         "reverse",
         "Turns the list, so that the oldest commit comes first",
     );
+    let count = flag(alloc, "count", "Prints how many commits there are");
     let parents = flag(
         alloc,
         "parents",
@@ -471,9 +618,48 @@ fn log_command<'a>(alloc: Global) -> Result<Command<'a>, AllocError>
         "What is printed of each commit, in place of its name: oneline,\n\
          raw, subject, author or dates",
     );
-    let log = with_argument(chosen_command(alloc), reverse);
+    let log = with_argument(filtered_command(alloc), reverse);
+    let log = with_argument(log, count);
     let log = with_argument(log, parents);
     with_argument(log, format)
+}
+
+/// The arguments of `log` that leave out commits, behind those that choose them.
+fn filtered_command<'a>(alloc: Global) -> Result<Command<'a>, AllocError>
+    ensures { say.Makes result say.filtered_command }
+{
+    let merges = flag(
+        alloc,
+        "merges",
+        "Lists merges alone, which have two parents or more",
+    );
+    let no_merges = flag(alloc, "no-merges", "Lists no merges");
+    let since = number(
+        alloc,
+        "since",
+        "SECONDS",
+        "Lists no commits that were made before, by the committer",
+    )
+    .long("since");
+    let until = number(
+        alloc,
+        "until",
+        "SECONDS",
+        "Lists no commits that were made after, by the committer",
+    )
+    .long("until");
+    let skip = number(
+        alloc,
+        "skip",
+        "N",
+        "Passes over N commits, before --max-count counts",
+    )
+    .long("skip");
+    let log = with_argument(chosen_command(alloc), merges);
+    let log = with_argument(log, no_merges);
+    let log = with_argument(log, since);
+    let log = with_argument(log, until);
+    with_argument(log, skip)
 }
 
 /// The arguments of `log` that choose commits.

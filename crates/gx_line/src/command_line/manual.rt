@@ -62,7 +62,8 @@ Exit status:
   1  it was refused, for what standard error says in a line
   2  the command line isn't accepted
   3  it was done, but something is lost: of gx adapt lines that change refs, of
-     gx verify --salvage refs
+     gx verify --salvage refs; or the answer is no: gx merge-base found no common
+     ancestor, or no ancestor, or gx diff --exit-code paths that differ
 
 Refusals:
   gx: command N: KIND   the Nth command of the stream, from 1
@@ -80,7 +81,7 @@ Refusals:
                         gx verify tells the first fault, and
                         gx verify --salvage saves refs
   gx: export: KIND      OutOfMemory or WriteFailed
-  gx: bundle: KIND      Unsupported
+  gx: bundle: KIND      Empty or Unsupported
   gx: adapt: KIND       OutOfMemory, ReadFailed, WriteFailed, TruncatedData or
                         BadNumber
   gx: where: ...        as gx where --help has it

@@ -1,13 +1,13 @@
 //! What clap found for the arguments of a command.
 
-ghost use Rattle.std.specs.Prelude.{◌≡◌, IfErr, IfNone, IfOk, IfSome, None, Some, codes};
+ghost use Rattle.std.specs.Prelude.{◌≡◌, ◌++◌, IfErr, IfNone, IfOk, IfSome, None, OnOk, Some, codes, map, option_map};
 ghost use Rattle.clap.specs.Words.{all_of, first_of, found_of, rows_of};
 ghost use Rattle.gx_line.specs.CommandLine as say;
 ghost use Rattle.gx_line.specs.declared.fault.LineFault.TheVariants.{OutOfMemory};
 
 use crate::LineFault;
 use clap::ArgMatches;
-use gx_asks::{BatchForm, ExportForm, LogFormat, RefChange};
+use gx_asks::{BatchForm, ExportForm, LogFormat, RefChange, RefFilter, RefTest};
 use std::alloc::Global;
 
 /// What is said of a format that there isn't, in the manner of clap.
@@ -21,6 +21,13 @@ For more information, try '--help'.
 /// What is said of --push beside --force, in the manner of clap.
 pub(super) const FORCED_PUSH: &str = "\
 error: the argument '--push <F>' cannot be used with '--force'
+
+For more information, try '--help'.
+";
+
+/// What is said of --is-ancestor with several other revisions, in the manner of clap.
+pub(super) const ONE_DESCENDANT: &str = "\
+error: the argument '--is-ancestor' takes one OTHER
 
 For more information, try '--help'.
 ";
@@ -126,6 +133,60 @@ pub(super) fn ref_change_of<'a>(
         new: word_of(alloc, matches, "new")?,
         old: option_of(matches, "old"),
     }))
+}
+
+/// The tests of refs that are given.
+pub(super) fn filters_of<'a>(
+    alloc: Global,
+    matches: &ArgMatches<'a>,
+) -> Result<Vec<RefFilter<'a>>, LineFault>
+    ensures filters { IfOk result
+        (λ filters. say.AreFilters (rows_of (found_of matches.now)) filters.items) }
+    ensures memory { IfErr result (λ fault. fault ≡ OutOfMemory) }
+{
+    let mut filters = Vec::new(alloc);
+    add_filter(
+        &mut filters,
+        RefTest::PointsAt,
+        option_of(matches, "points-at"),
+    )?;
+    add_filter(
+        &mut filters,
+        RefTest::Contains,
+        option_of(matches, "contains"),
+    )?;
+    add_filter(
+        &mut filters,
+        RefTest::NoContains,
+        option_of(matches, "no-contains"),
+    )?;
+    add_filter(&mut filters, RefTest::Merged, option_of(matches, "merged"))?;
+    add_filter(
+        &mut filters,
+        RefTest::NoMerged,
+        option_of(matches, "no-merged"),
+    )?;
+    Ok(filters)
+}
+
+/// Adds a test of refs with the revision that is given for it, where one is.
+fn add_filter<'a>(
+    filters: &mut Vec<RefFilter<'a>>,
+    test: RefTest,
+    revision: Option<&'a str>,
+) -> Result<(), LineFault>
+    ensures added { OnOk result (map say.shown_filter filters.new.items
+        ≡ map say.shown_filter filters.old.items
+        ++ say.filter_given test (option_map (λ s. s.now) revision.entry)) }
+    ensures memory { IfErr result (λ fault. fault ≡ OutOfMemory) }
+{
+    let Some(revision) = revision else {
+        return Ok(());
+    };
+    match filters.push(RefFilter { test, revision }) {
+        Ok(()) => Ok(()),
+        Err(_) => Err(LineFault::OutOfMemory),
+    }
 }
 
 /// The format that a list of commits is asked for in.

@@ -19,7 +19,7 @@ use crate::log::log;
 use crate::ls::list;
 use crate::refs::print_refs;
 use crate::rev_parse::print_names;
-use gx_asks::{LogFormat, LogOptions};
+use gx_asks::{CommitFilter, LogFormat, LogOptions};
 use gx_batch::{Format, make_line};
 use gx_objects::Objects;
 use gx_print::{Asked, read_asked, word_at, words_in};
@@ -27,10 +27,21 @@ use gx_text::{Growing, Sink};
 use itoa::Buffer;
 use std::alloc::Allocator;
 
+/// No commit is left out.
+const ALL_COMMITS: CommitFilter = CommitFilter {
+    merges: false,
+    no_merges: false,
+    since: None,
+    until: None,
+};
+
 /// The options of `log` in a line.
 const NO_OPTIONS: LogOptions = LogOptions {
     reverse: false,
+    only: ALL_COMMITS,
+    skip: None,
     max_count: None,
+    count: false,
     parents: false,
     all: false,
     stdin: false,

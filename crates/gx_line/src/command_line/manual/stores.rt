@@ -304,22 +304,29 @@ pub(crate) const BUNDLE: Page = Page {
 Writes a store as a bundle, which git clone, git fetch and git bundle take as it
 is. It has all refs, and the objects that they reach, under their names.
 
+With RANGEs it has the refs that these are written as: REV, A..REV, REV^! and
+REV^-N name a ref where REV is its name, whole or shorter, and A...B names two.
+Commits that they exclude stand in the bundle as those that its reader needs,
+and what these reach isn't written. With --all all refs are told.
+
 With --head git clone checks REF out. Otherwise it needs --mirror, or --branch
 and a name.",
     details: "\
 Output:
   The bundle, of version 2, as in gitformat-bundle(5): the refs in the order of
   their names' bytes, and a pack with the objects in the order in which they
-  came into the store. They aren't compressed.
+  came into the store. They aren't compressed. With --pack the pack alone.
 
 Refusals:
   gx: read failed
   gx: store: KIND       as gx --help has it
-  gx: revision 1: KIND  KIND is UnknownRef where REF is no ref of the store,
-                        and WrongKind where it holds no commit
+  gx: revision N: KIND  the Nth RANGE, or behind them REF. KIND is UnknownRef
+                        where REF is no ref of the store, and WrongKind where
+                        it holds no commit
+  gx: bundle: Empty     RANGEs name no ref. Nothing was written
   gx: bundle: Unsupported
-                        refs reach 2^32 objects or more, as no pack can have.
-                        Nothing was written
+                        2^32 objects or more would be written, as no pack can
+                        have. Nothing was written
   gx: write failed      what was written is the bundle's beginning
   gx: out of memory     so it is here",
 };
@@ -327,13 +334,23 @@ Refusals:
 /// The page of `refs`.
 pub(crate) const REFS: Page = Page {
     about: "Lists the refs",
-    description: "Lists the refs, in the order of their names' bytes.",
+    description: "\
+Lists the refs, in the order of their names' bytes: all of them, or those that
+each option asks for and that one of the PATTERNs matches.",
     details: "\
+Operands and options:
+  PATTERN  the name of a ref, or the front of names up to a slash: refs/heads
+           lists the branches. There are no wildcards.
+  A REV that refs point at may be any object. The commit of a ref is its object,
+  or the one that its tag names.
+
 Output:
   A line for each ref: 40 digits of the name of its commit or tag, a space and
   the name of the ref.
 
 Refusals:
+  gx: revision N: KIND  the Nth REV, in the order in which the options stand
+                        above, as gx --help has it
   gx: read failed
   gx: store: KIND       as gx --help has it
   gx: write failed

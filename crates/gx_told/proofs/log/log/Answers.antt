@@ -5,7 +5,7 @@ use Rattle.gx_model.specs.Revisions.{range_of}
 use Rattle.gx_model.specs.Revisions.Ranges.{each_word}
 use Rattle.gx_rev.specs.Views.{shown_range}
 use Rattle.gx_text.specs.Lent.{lent_texts}
-use Rattle.gx_print.specs.Logs.{arranged, commits_logged, entries_text, log_text}
+use Rattle.gx_print.specs.Logs.{chosen, commits_logged, commits_text, log_text}
 use Rattle.gx_print.specs.Stored.{all_words}
 use Rattle.gx_told.specs.Logging.{ranges_text}
 use Rattle.gx_told.specs.Printing.{Prints}
@@ -19,7 +19,7 @@ returns-in-Err g c =
     let o = c.args.options in
     let read = each_word range_of (lent_texts c.args.words.now) in
     rw c.unread.ensures (each_told (g.O.Objects.told c.args.objects.now) _ (λ r.
-    unread_prints read (λ ws. commits_logged name (history_of r) o.all ws >>= λ commits. Ok (entries_text name o (arranged o commits))) (g.W.Sink.taken c.args.sink.now) c.in-Err.fault.word c.in-Err.fault.kind c.in-Err.ensures))
+    unread_prints read (λ ws. commits_logged name (history_of r) o.all ws >>= λ commits. Ok (commits_text name o (chosen name o commits))) (g.W.Sink.taken c.args.sink.now) c.in-Err.fault.word c.in-Err.fault.kind c.in-Err.ensures))
 
 pub returns-in-Ok : goal.returns-in-Ok
 returns-in-Ok g c =
@@ -31,5 +31,5 @@ returns-in-Ok g c =
     let answer = c.log_ranges.result in
     let read = c.in-Ok.ensures ∙ ap (λ ranges. Ok (map shown_range ranges)) (sym c.as_slice.ensures.value) in
     map_told told (λ r. Prints (ranges_text name o (history_of r) (map shown_range c.as_slice.result.now)) was now answer) (λ r. Prints (log_text name o (history_of r) (lent_texts c.args.words.now)) was now answer)
-    (λ r h. subst (λ given. Prints given was now answer) (sym (ap (λ w. all_words (w >>= λ ws. commits_logged name (history_of r) o.all ws >>= λ commits. Ok (entries_text name o (arranged o commits)))) read)) h)
+    (λ r h. subst (λ given. Prints given was now answer) (sym (ap (λ w. all_words (w >>= λ ws. commits_logged name (history_of r) o.all ws >>= λ commits. Ok (commits_text name o (chosen name o commits)))) read)) h)
     c.log_ranges.ensures

@@ -1,9 +1,11 @@
-use Rattle.std.proofs.Common.{Ok, refl, subst, sym}
+use Rattle.std.proofs.Common.{Ok, map, refl, subst, sym}
 use Rattle.gx_model.specs.Records.HistoryOf.{history_of}
 use Rattle.gx_text.specs.Lent.{lent_texts}
 use Rattle.gx_print.specs.Stored.{list_text, refs_text, show_text}
 use Rattle.gx_told.specs.Answering.{IsAnswered}
+use Rattle.gx_ref_filters.specs.Filters.{shown_filter}
 use Rattle.gx_told.specs.Archiving.{tar_text}
+use Rattle.gx_told.specs.Filtering.{kept_text}
 use Rattle.gx_told.specs.Logging.{LogsFrom}
 use Rattle.gx_told.specs.Printing.{Prints, PrintsText}
 use Rattle.gx_told.proofs.Prints.{given_text}
@@ -68,3 +70,19 @@ returns-in-Log g c =
     let o = c.in-Log.options in
     map_told told (λ r. LogsFrom name o o.stdin r (lent_texts c.as_slice-in-Log.result.now) coming was now answer) (λ r. IsAnswered name c.args.question.now r coming was now answer)
     (λ r h. subst (λ q. IsAnswered name q r coming was now answer) (sym c.in-Log.is) (subst (λ words. LogsFrom name o o.stdin r (lent_texts words) coming was now answer) c.as_slice-in-Log.ensures.value h)) c.log_with_lines.ensures
+
+pub returns-in-RefsThat : goal.returns-in-RefsThat
+returns-in-RefsThat g c =
+    let told = g.O.Objects.told c.args.objects.now in
+    let name = g.O.Objects.name_of c.args.objects.now in
+    let coming = g.R.Source.coming c.args.source in
+    let was = g.W.Sink.taken c.args.sink.now in
+    let now = g.W.Sink.taken c.print_kept.new.sink in
+    let answer = c.print_kept.result in
+    let filters = c.as_slice-in-RefsThat.result.now in
+    let patterns = c.as_slice-in-RefsThat-2.result.now in
+    map_told told (λ r. Prints (kept_text name (history_of r) (map shown_filter filters) (lent_texts patterns)) was now answer) (λ r. IsAnswered name c.args.question.now r coming was now answer)
+    (λ r h.
+    let behind = subst (λ fs. Prints (kept_text name (history_of r) (map shown_filter fs) (lent_texts patterns)) was now answer) c.as_slice-in-RefsThat.ensures.value h in
+    let asked = subst (λ ps. Prints (kept_text name (history_of r) (map shown_filter c.in-RefsThat.filters.items) (lent_texts ps)) was now answer) c.as_slice-in-RefsThat-2.ensures.value behind in
+    subst (λ q. IsAnswered name q r coming was now answer) (sym c.in-RefsThat.is) asked) c.print_kept.ensures

@@ -1,4 +1,4 @@
-use Rattle.gx_line.specs.CommandLine.{bundle_command, drop_command, export_command, gc_command, grow_command, import_command, init_command, put_command, set_ref_command, under, verify_command}
+use Rattle.gx_line.specs.CommandLine.{bundle_command, drop_command, export_command, gc_command, grow_command, import_command, init_command, put_command, refs_command, set_ref_command, under, verify_command}
 use Rattle.gx_line.proofs.command_line.commands.with_store_commands.Goals as goal
 
 pub returns : goal.returns
@@ -23,4 +23,4 @@ returns c = λ a h.
     let eighth = c.with_command-gx-8.ensures seven gc_command seventh c.gc_command.ensures in
     let ninth = c.with_command-gx-9.ensures eight export_command eighth c.export_command.ensures in
     let tenth = c.with_command-gx-10.ensures nine bundle_command ninth c.bundle_command.ensures in
-    c.with_command.ensures ten _ tenth c.file_command.ensures
+    c.with_command.ensures ten refs_command tenth c.refs_command.ensures

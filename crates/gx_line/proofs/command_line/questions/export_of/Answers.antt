@@ -1,7 +1,7 @@
 use Rattle.std.proofs.Common.{ap, codes, map, refl, subst, sym, ◌∙◌, Some}
 use Rattle.clap.specs.Words.{found_of, rows_of}
 use Rattle.clap.proofs.WalkLemmas.{raw_values-rows}
-use Rattle.gx_line.specs.CommandLine.{Asks, IsForm, Says}
+use Rattle.gx_line.specs.CommandLine.{Asks, IsForm}
 use Rattle.gx_line.proofs.NoLines.{caused, no_ranges}
 use Rattle.gx_line.proofs.command_line.questions.export_of.Goals as goal
 

@@ -1,0 +1,3 @@
+mod ExcludedCommits
+mod NamedRefs
+mod ToldRefs

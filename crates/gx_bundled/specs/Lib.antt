@@ -1,0 +1,3 @@
+pub mod Excluded
+pub mod Named
+pub mod Rows

@@ -1,0 +1,4 @@
+pub mod Bases
+pub mod Fronts
+pub mod Words
+pub mod Asked

@@ -1,0 +1,3 @@
+pub mod ReadItems
+pub mod ReadOffers
+pub mod ReadSources

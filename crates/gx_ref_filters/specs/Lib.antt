@@ -1,0 +1,3 @@
+pub mod Filters
+pub mod Patterns
+pub mod Steps

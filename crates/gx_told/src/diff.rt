@@ -1,0 +1,94 @@
+//! The paths at which two revisions differ, and whether any does. Source: git-diff-tree(1).
+
+ghost use Rattle.gx_model.specs.declared.objects.Kind.TheVariants as kinds;
+ghost use Rattle.gx_model.specs.Records.HistoryOf.{history_of};
+ghost use Rattle.gx_rev.specs.Objects.{IsHeldAs};
+ghost use Rattle.gx_text.specs.Lent.{lent_texts};
+ghost use Rattle.gx_questions.specs.Answers.{IfTold};
+ghost use Rattle.gx_differences.specs.Listed.{shown_differences};
+ghost use Rattle.gx_told.specs.Differing.{TellsDiff, TellsFound, TellsTrees, differing_words};
+
+use crate::ToldFault;
+use crate::sending::put_text;
+use crate::words::{refused, tree_of_word};
+use gx_asks::DiffOptions;
+use gx_diff::{ends_well, retain_asked, text_of};
+use gx_differences::{Difference, list};
+use gx_object::Name;
+use gx_objects::Objects;
+use gx_text::Sink;
+use std::alloc::Allocator;
+
+/// Tells at which paths the files of two revisions differ: of all paths, or of those that are asked for. Answers no where
+/// something differs and the options ask for that, and yes otherwise.
+///
+/// `Revision`: the first of both words that isn't a revision, or gives no tree. Nothing went out then.
+/// Cost: that of `gx_questions::tree` for both, the entries of the directories that differ, and each path that differs with each
+/// that is asked for. Memory: what differs and its text, and the two trees at each level of a path.
+/// Source: git-diff-tree(1), `-r`; git-diff(1), `--exit-code`.
+pub(crate) fn diff<O: Objects, A: Allocator + Copy, W: Sink>(
+    alloc: A,
+    objects: &O,
+    options: DiffOptions,
+    old: &[u8],
+    new: &[u8],
+    asked: &[&[u8]],
+    sink: &mut W,
+) -> Result<bool, ToldFault>
+    ensures { IfTold (O.told objects.now) (λ r. TellsDiff
+        (differing_words (O.name_of objects.now) (history_of r) old.now new.now
+        (lent_texts asked.now)) options (W.taken sink.old) (W.taken sink.new)) result }
+{
+    let mut room = Vec::new(alloc);
+    match tree_of_word(alloc, objects, &mut room, old) {
+        Ok(old) => match tree_of_word(alloc, objects, &mut room, new) {
+            Ok(new) => diff_trees(alloc, objects, options, old, new, asked, sink),
+            Err(fault) => Err(refused(2, fault)),
+        },
+        Err(fault) => Err(refused(1, fault)),
+    }
+}
+
+/// Does so for two held trees.
+fn diff_trees<O: Objects, A: Allocator + Copy, W: Sink>(
+    alloc: A,
+    objects: &O,
+    options: DiffOptions,
+    old: Name,
+    new: Name,
+    asked: &[&[u8]],
+    sink: &mut W,
+) -> Result<bool, ToldFault>
+    requires old { IfTold (O.told objects.now) (IsHeldAs kinds.Tree) old }
+    requires new { IfTold (O.told objects.now) (IsHeldAs kinds.Tree) new }
+    ensures { IfTold (O.told objects.now) (λ r. TellsTrees (O.name_of objects.now) r old new
+        (lent_texts asked.now) options (W.taken sink.old) (W.taken sink.new)) result }
+{
+    match list(alloc, objects, Some(old), Some(new)) {
+        Ok(found) => {
+            let mut found = found;
+            retain_asked(&mut found, asked);
+            print_found(alloc, options, found.as_slice(), sink)
+        }
+        Err(fault) => Err(refused(1, fault)),
+    }
+}
+
+/// Prints what tells of these paths, and answers.
+fn print_found<A: Allocator + Copy, W: Sink>(
+    alloc: A,
+    options: DiffOptions,
+    found: &[Difference<A>],
+    sink: &mut W,
+) -> Result<bool, ToldFault>
+    ensures { TellsFound options (shown_differences found.now) (W.taken sink.old)
+        (W.taken sink.new) result }
+{
+    match text_of(alloc, options, found) {
+        Ok(text) => match put_text(sink, text.as_slice()) {
+            Ok(()) => Ok(ends_well(options, found)),
+            Err(fault) => Err(fault),
+        },
+        Err(error) => Err(ToldFault::from(error)),
+    }
+}

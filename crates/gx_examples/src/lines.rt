@@ -226,7 +226,7 @@ Usage: gx archive [OPTIONS] <FILE> <REV>
 $ batch|--help % help %
 Usage: gx batch [OPTIONS] <FILE>
 $ refs|--help % help %
-Usage: gx refs <FILE>
+Usage: gx refs [OPTIONS] <FILE> [PATTERN]...
 $ log|--help % help %
 Usage: gx log [OPTIONS] <FILE> [RANGE]...
 $ log|--help % help %

@@ -25,7 +25,14 @@ pub enum Change<'a> {
         report: bool,
         explain: bool,
     },
-    /// The same, where the file `push` tells of each ref that changes what it was, and what may become of it.
+    /// A text of refs and objects is imported, as `git for-each-ref` and `git cat-file --batch` print them. With `force` branches
+    /// may lose commits. With `report` the refs that it changed are told, and with `explain` what a refusal is about.
+    Objects {
+        force: bool,
+        report: bool,
+        explain: bool,
+    },
+    /// A stream is imported, where the file `push` tells of each ref that changes what it was, and what may become of it.
     Push {
         push: &'a str,
         done: bool,

@@ -76,6 +76,35 @@ def test_clone_checks_out_head(
         assert git("status", "--porcelain", cwd=copy) == b""
 
 
+@pytest.mark.parametrize("form", ["plain", "growing"])
+def test_clone_has_what_head_reaches(
+    gx: Program, git: Callable[..., bytes], new_store, tmp_path: Path, form: str
+) -> None:
+    """Words needn't name the ref that is to be HEAD: its commit is checked out of the bundle."""
+    store, mirror = new_store(STREAMS["two branches"]), tmp_path / "mirror"
+    if form == "growing":
+        gx.prints("grow", store)
+    git("init", "-q", "--bare", mirror)
+    git("fast-import", "--quiet", stdin=gx.prints("export", store), cwd=mirror)
+    a, b = (gx.prints("rev-parse", store, name).strip() for name in ("a", "b"))
+    reached = objects_of(git, mirror, [a, b])
+    behind = objects_of(git, mirror, [b])
+    assert behind != reached
+    for word, head in ("a", "b"), ("b", "a"):
+        bundle, copy = tmp_path / f"{head}.bundle", tmp_path / head
+        bundle.write_bytes(gx.prints("bundle", f"--head={head}", store, word))
+        git("clone", "-q", bundle, copy)
+        assert git("rev-parse", "HEAD", cwd=copy).strip() == (a if head == "a" else b)
+        assert git("status", "--porcelain", cwd=copy) == b""
+        assert git("fsck", "--full", "--strict", cwd=copy) == b""
+        assert held_by(git, copy) == reached
+        pack = gx.prints("bundle", "--pack", f"--head={head}", store, word)
+        assert bundle.read_bytes().partition(b"\n\n")[2] == pack
+    # what HEAD alone reaches goes out, but for what is excluded
+    pack = gx.prints("bundle", "--pack", "--head=a", store, "^b")
+    assert packed_in(git, tmp_path / "alone", pack) == reached - behind
+
+
 def test_unknown_head_is_refused(gx: Program, new_store) -> None:
     """There is no such ref, or it holds a tag, which git checks out nowhere."""
     plain, growing = (new_store(STREAMS["two branches"], name) for name in ("plain", "growing"))

@@ -1,26 +1,29 @@
 -- What refs reach and other objects don't is marked.
 use Rattle.std.proofs.Common.{◌≡◌, ℕ, suc, ◌+◌, ◌<◌, ◌≤◌, Bool, true, false, List, [], ◌∷◌, ◌++◌, drop, append-nil, append_assoc, get_or, length, length-append, set, replicate, Option, Some, None, Ok, Err, Result, refl, sym, ap, ◌∙◌, subst, arith}
-use Rattle.std.specs.Prelude.{IfSome, OnOk, not, ◌&&◌, ⊤}
+use Rattle.std.specs.Prelude.{IfSome, OnOk, not, ◌&&◌, ◌||◌, ⊤}
+use Rattle.std.specs.declared.vec.Vec.{Vec}
 use Rattle.std.specs.List.{AllByRecursion, flat_map}
 use Rattle.std.proofs.lemmas.List.{drop_more, drop_all}
 use Rattle.std.proofs.Math.Seq.{set-append_seam}
 use Rattle.gx_model.specs.declared.objects.Kind.{Kind}
 use Rattle.gx_model.specs.Histories.{Record, Records}
-use Rattle.gx_model.specs.Pruning.{is_reachable}
+use Rattle.gx_model.specs.Pruning.{is_reachable, is_tip, links_to}
 use Rattle.gx_model.specs.Records.Publishing.{Ref}
 use Rattle.gx_model.specs.Records.Sound.{AnyByRecursion, IsSound}
 use Rattle.gx_model.specs.Stores.StoreText.{stored_ref}
-use Rattle.gx_model.specs.Texts.{Bytes}
+use Rattle.gx_model.specs.Texts.{Bytes, same_bytes}
 use Rattle.std.proofs.Common.{inl, inr}
-use Rattle.gx_objects.specs.Answers.{AreRefs}
+use Rattle.gx_objects.specs.Answers.{AreRefs, Tells}
+use Rattle.gx_objects.specs.declared.fault.LookFault.{LookFault}
 use Rattle.gx_repo.specs.Pruning.{Spreads, marks_by, objects_held, tips_of}
 use Rattle.gx_repo.proofs.PrunedRecords.{names_marked, none_marked, tips_marked}
 use Rattle.gx_store.specs.Marked.{first_mark}
 use Rattle.gx_listed.specs.Listings.{Listed, ListsIfTold}
 use Rattle.gx_kept.specs.Marking.{IsBelow, MarksHeld, without_marks}
-use Rattle.gx_kept.specs.Telling.{OfRefs, SpellsRefsOf, is_beyond}
+use Rattle.gx_kept.specs.Telling.{OfRefs, SpellsRefsOf, head_refs, is_beyond}
 use Rattle.gx_kept.proofs.ListedRecords.{same_length, tips_below}
 use Rattle.gx_kept.proofs.Spreading.{both_told}
+use Rattle.gx_kept.proofs.Stopping.{then_told}
 
 -- ---- what refs and names reach
 
@@ -82,15 +85,54 @@ without_by : (p q : Bytes → Bool) (rs : List Record) → without_marks (marks_
 without_by p q [] = refl
 without_by p q (r ∷ rs) = ap (λ marks. (not (q r.name) && p r.name) ∷ marks) (without_by p q rs)
 
--- what refs reach without what names reach
-pub beyond_are : (told : Option Records) (lines : Bytes) (had : List Bytes) (wanted other marks : List Bool) → marks ≡ without_marks wanted other
-    → IfSome told (λ r. OfRefs lines (λ refs. wanted ≡ marks_by (is_reachable (refs ++ tips_of []) r.records) r.records))
+-- what refs and HEAD reach without what names reach
+pub beyond_are : (told : Option Records) (lines : Bytes) (head : Option Bytes) (had : List Bytes) (wanted other marks : List Bool) → marks ≡ without_marks wanted other
+    → IfSome told (λ r. OfRefs lines (λ refs. wanted ≡ marks_by (is_reachable (head_refs head ++ refs) r.records) r.records))
     → IfSome told (λ r. OfRefs [] (λ refs. other ≡ marks_by (is_reachable (refs ++ tips_of had) r.records) r.records))
-    → IfSome told (λ r. OfRefs lines (λ refs. marks ≡ marks_by (is_beyond refs had r.records) r.records))
-beyond_are told lines had wanted other marks left = both_told told _ _ _ (λ r w o refs are e.
-    let first : wanted ≡ marks_by (is_reachable refs r.records) r.records = w refs are e ∙ ap (λ (rs : List Ref). marks_by (is_reachable rs r.records) r.records) (append-nil refs) in
+    → IfSome told (λ r. OfRefs lines (λ refs. marks ≡ marks_by (is_beyond (head_refs head ++ refs) had r.records) r.records))
+beyond_are told lines head had wanted other marks left = both_told told _ _ _ (λ r w o refs are e.
+    let first = w refs are e in
     let second : other ≡ marks_by (is_reachable (tips_of had) r.records) r.records = o [] no_refs refl in
-    left ∙ (λ i. without_marks (first i) (second i)) ∙ without_by (is_reachable refs r.records) (is_reachable (tips_of had) r.records) r.records)
+    left ∙ (λ i. without_marks (first i) (second i)) ∙ without_by (is_reachable (head_refs head ++ refs) r.records) (is_reachable (tips_of had) r.records) r.records)
+
+-- ---- HEAD
+
+-- which of two comes first is all the same
+either_first : (a b c : Bool) → (a || (b || c)) ≡ (b || (a || c))
+either_first true true c = refl
+either_first true false c = refl
+either_first false b c = refl
+
+-- HEAD holds what it holds, in front of the refs or behind them
+head_holds : (called : Bytes) (refs : List Ref) (n : Bytes) → is_tip (refs ++ tips_of (called ∷ [])) n ≡ is_tip (head_refs (Some called) ++ refs) n
+head_holds called [] n = refl
+head_holds called (ref ∷ refs) n = ap (λ b. same_bytes n ref.1 || b) (head_holds called refs n) ∙ either_first (same_bytes n ref.1) (same_bytes n called) (is_tip refs n)
+
+-- and reaches what it reaches
+head_reaches : (called : Bytes) (refs : List Ref) (rs : List Record) (n : Bytes) → is_reachable (refs ++ tips_of (called ∷ [])) rs n ≡ is_reachable (head_refs (Some called) ++ refs) rs n
+head_reaches called refs [] n = head_holds called refs n
+head_reaches called refs (r ∷ rs) n = λ i. head_reaches called refs rs n i || (head_reaches called refs rs r.name i && links_to r n)
+
+-- what refs reach beside other names is marked
+abbrev pub MarksBeside : {A : Type 0} → Bytes → List Bytes → Records → Vec Bool A → Type 0
+MarksBeside lines names r marks = OfRefs lines (λ refs. marks.items ≡ marks_by (is_reachable (refs ++ tips_of names) r.records) r.records)
+
+-- what refs and HEAD reach is
+abbrev pub MarksWanted : {A : Type 0} → Bytes → Option Bytes → Records → Vec Bool A → Type 0
+MarksWanted lines head r marks = OfRefs lines (λ refs. marks.items ≡ marks_by (is_reachable (head_refs head ++ refs) r.records) r.records)
+
+module _ {A : Type 0} (told : Option Records) (lines : Bytes) where
+  -- where HEAD isn't told, it reaches nothing
+  pub none_wanted : (result : Result (Vec Bool A) LookFault) → Tells told (MarksBeside lines []) result → Tells told (MarksWanted lines None) result
+  none_wanted (Err fault) h = h
+  none_wanted (Ok marks) h = then_told told (λ r. MarksBeside lines [] r marks) (λ r. MarksWanted lines None r marks) (λ r beside refs are e.
+      beside refs are e ∙ ap (λ (rs : List Ref). marks_by (is_reachable rs r.records) r.records) (append-nil refs)) h
+
+  -- where it is, what it holds
+  pub head_wanted : (called : Bytes) (result : Result (Vec Bool A) LookFault) → Tells told (MarksBeside lines (called ∷ [])) result → Tells told (MarksWanted lines (Some called)) result
+  head_wanted called (Err fault) h = h
+  head_wanted called (Ok marks) h = then_told told (λ r. MarksBeside lines (called ∷ []) r marks) (λ r. MarksWanted lines (Some called) r marks) (λ r beside refs are e.
+      beside refs are e ∙ (λ i. marks_by (λ n. head_reaches called refs r.records n i) r.records)) h
 
 -- ---- one after the other
 

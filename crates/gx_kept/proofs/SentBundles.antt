@@ -33,7 +33,7 @@ use Rattle.gx_pack.proofs.BundlesRead.{bundles_are_read}
 use Rattle.gx_pack.proofs.PacksRead.{packs_are_read}
 use Rattle.gx_kept.specs.Bundling.{NamesPack, SendsObjects, SendsPackOf, WritesPack, kept_of}
 use Rattle.gx_kept.specs.Faults.{Sends, Stops}
-use Rattle.gx_kept.specs.Telling.{AreNames, IsReadAs, IsReadAsPack, OfRefs, SendsHead, SendsMarked, TellsNames, bundle_with, head_refs, is_beyond, marked_with, reached_beyond, sent_with, with_refs}
+use Rattle.gx_kept.specs.Telling.{AreNames, IsReadAs, IsReadAsPack, OfRefs, SendsHead, SendsMarked, TellsNames, bundle_with, head_refs, is_sent, marked_with, reached_beyond, refs_with, sent_with, with_refs}
 use Rattle.gx_kept.specs.declared.bundled.Bundled.{Bundled}
 use Rattle.gx_kept.specs.declared.fault.KeptFault.{KeptFault}
 use Rattle.gx_kept.specs.declared.fault.KeptFault.TheVariants.{WriteFailed}
@@ -46,7 +46,7 @@ use Rattle.gx_kept.proofs.Weights.{marked_long}
 
 module _ (bundled : Bundled) (marks : List Bool) (was first : Option Taken) where
   abbrev head_of_bundle : List Ref → Bytes
-  head_of_bundle refs = bundle_head (bytes_of_names bundled.had.now) (head_refs (bytes_if bundled.head) ++ refs)
+  head_of_bundle refs = bundle_head (bytes_of_names bundled.had.now) (refs_with bundled refs)
 
   -- the sink fails before the pack
   pub head_stops : (told : Option Records) (failed : Failed) → SendsHead bundled was first (Err failed) → IfSome told (SendsMarked bundled marks was first (Err WriteFailed))
@@ -76,12 +76,12 @@ module _ (bundled : Bundled) (marks : List Bool) (was first : Option Taken) wher
 
 -- these are the marks of what goes out
 abbrev pub AreMarks : Bundled → List Bool → Records → Type 0
-AreMarks bundled marks r = OfRefs bundled.refs.now (λ refs. marks ≡ marks_by (is_beyond refs (bytes_of_names bundled.had.now) r.records) r.records)
+AreMarks bundled marks r = OfRefs bundled.refs.now (λ refs. marks ≡ marks_by (is_sent bundled refs r) r.records)
 
 -- so what is kept goes out
-kept_is : (bundled : Bundled) (refs : List Ref) (marks : List Bool) (r : Records) → marks ≡ marks_by (is_beyond refs (bytes_of_names bundled.had.now) r.records) r.records → kept_of marks r.records ≡ sent_with bundled refs r
+kept_is : (bundled : Bundled) (refs : List Ref) (marks : List Bool) (r : Records) → marks ≡ marks_by (is_sent bundled refs r) r.records → kept_of marks r.records ≡ sent_with bundled refs r
 unfolding reached_beyond
-kept_is bundled refs marks r e = ap (map object_of) (ap (λ ms. marked ms r.records) e ∙ marked_left (is_beyond refs (bytes_of_names bundled.had.now) r.records) r.records)
+kept_is bundled refs marks r e = ap (map object_of) (ap (λ ms. marked ms r.records) e ∙ marked_left (is_sent bundled refs r) r.records)
 
 module _ (told : Option Records) (bundled : Bundled) (marks : List Bool) (are : IfSome told (AreMarks bundled marks)) where
   -- what holds of the objects that are kept holds of those that go out

@@ -68,9 +68,17 @@ with_refs had head refs objects = record { had = had; refs = head_refs head ++ r
 abbrev pub marked_with : Bundled → List Ref → List Bool → Records → Bundle
 marked_with bundled refs marks r = with_refs (bytes_of_names bundled.had.now) (bytes_if bundled.head) refs (kept_of marks r.records)
 
--- the objects of a repository that go out with these refs
+-- the refs of a bundle that tells these: HEAD is one of them, where it is told
+abbrev pub refs_with : Bundled → List Ref → List Ref
+refs_with bundled refs = head_refs (bytes_if bundled.head) ++ refs
+
+-- whether the object of a name goes out with them
+abbrev pub is_sent : Bundled → List Ref → Records → Bytes → Bool
+is_sent bundled refs r = is_beyond (refs_with bundled refs) (bytes_of_names bundled.had.now) r.records
+
+-- the objects of a repository that do
 abbrev pub sent_with : Bundled → List Ref → Records → List Object
-sent_with bundled refs r = map object_of (reached_beyond refs (bytes_of_names bundled.had.now) r.records)
+sent_with bundled refs r = map object_of (reached_beyond (refs_with bundled refs) (bytes_of_names bundled.had.now) r.records)
 
 -- the bundle of a repository with these refs
 abbrev pub bundle_with : Bundled → List Ref → Records → Bundle
@@ -88,7 +96,7 @@ pub record TellsNames (bundled : Bundled) : Type 0 where
 -- what stands before the pack goes out, or the sink fails within it
 abbrev pub SendsHead : Bundled → Option Taken → Option Taken → Result (Unit {0}) Failed → Type 0
 SendsHead bundled was now result =
-    OfRefs bundled.refs.now (λ refs. Sent (bundle_head (bytes_of_names bundled.had.now) (head_refs (bytes_if bundled.head) ++ refs)) was now result)
+    OfRefs bundled.refs.now (λ refs. Sent (bundle_head (bytes_of_names bundled.had.now) (refs_with bundled refs)) was now result)
 
 -- a bundle of the objects that are marked went out, or a front of it
 abbrev pub SendsMarked : Bundled → List Bool → Option Taken → Option Taken → Result (Unit {0}) KeptFault → Records → Type 0

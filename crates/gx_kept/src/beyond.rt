@@ -1,22 +1,24 @@
-//! Marks of the objects that refs reach and other objects don't, by their numbers. Source: git-rev-list(1), `--objects`.
+//! Marks of the objects that refs or HEAD reach and other objects don't, by their numbers. Source: git-rev-list(1), `--objects`.
 
 ghost use Rattle.std.specs.Prelude.{◌≡◌, ◌++◌, false, length, replicate, IfOk, IfSome, OnOk};
 ghost use Rattle.gx_model.specs.Pruning.{is_reachable};
 ghost use Rattle.gx_object.specs.Commits.{bytes_of_names};
+ghost use Rattle.gx_object.specs.Parts.{bytes_if};
 ghost use Rattle.gx_objects.specs.Answers.{OnlyUntold, SpellsRefs, Tells};
 ghost use Rattle.gx_repo.specs.Pruning.{marks_by, tips_of};
 ghost use Rattle.gx_listed.specs.Listings.{ListsIfTold};
 ghost use Rattle.gx_kept.specs.Marking.{without_marks};
-ghost use Rattle.gx_kept.specs.Telling.{OfRefs, SpellsRefsOf, is_beyond};
+ghost use Rattle.gx_kept.specs.Telling.{OfRefs, SpellsRefsOf, head_refs, is_sent};
 
+use crate::Bundled;
 use crate::marking::{mark_names, mark_tips, spread};
 use gx_listed::Listing;
 use gx_object::Name;
 use gx_objects::{LookFault, Objects};
 use std::alloc::Allocator;
 
-/// Which of the objects that are listed the refs of these lines reach, and the objects of these names don't. A name that no object
-/// has reaches none.
+/// Which of the objects that are listed go out with a bundle: its refs or its HEAD reach them, and what its reader has doesn't. A name
+/// that no object has reaches none.
 ///
 /// OutOfMemory: a growth was refused. ReadFailed: a read failed. Damaged: this is no repository.
 /// Cost: the refs, the names, and for each tree, commit and tag that either reach its body, and a look-up for each object that it
@@ -25,21 +27,42 @@ pub(crate) fn marks_beyond<O: Objects, A: Allocator + Copy>(
     alloc: A,
     objects: &O,
     listing: &Listing<A>,
+    bundled: &Bundled<'_>,
+) -> Result<Vec<bool, A>, LookFault>
+    requires listed { ListsIfTold (O.told objects.now) (O.stands objects.now) listing.now }
+    requires spelled { SpellsRefs bundled.now.refs.now }
+    requires held { IfSome (O.told objects.now) (SpellsRefsOf bundled.now.refs.now) }
+    ensures count { IfOk result (λ marks. length marks.items ≡ length listing.now) }
+    ensures marks { Tells (O.told objects.now) (λ r marks. OfRefs bundled.now.refs.now
+        (λ refs. marks.items ≡ marks_by (is_sent bundled.now refs r) r.records)) result }
+    ensures fault { OnlyUntold (O.told objects.now) result }
+{
+    let mut marks = marks_wanted(alloc, objects, listing, bundled.refs, bundled.head)?;
+    let reached = marks_reached(alloc, objects, listing, b"", bundled.had)?;
+    unmark(&mut marks, reached.as_slice());
+    Ok(marks)
+}
+
+/// Which of the objects that are listed HEAD reaches, or the refs of these lines.
+fn marks_wanted<O: Objects, A: Allocator + Copy>(
+    alloc: A,
+    objects: &O,
+    listing: &Listing<A>,
     refs: &[u8],
-    had: &[Name],
+    head: Option<Name>,
 ) -> Result<Vec<bool, A>, LookFault>
     requires listed { ListsIfTold (O.told objects.now) (O.stands objects.now) listing.now }
     requires spelled { SpellsRefs refs.now }
     requires held { IfSome (O.told objects.now) (SpellsRefsOf refs.now) }
     ensures count { IfOk result (λ marks. length marks.items ≡ length listing.now) }
     ensures marks { Tells (O.told objects.now) (λ r marks. OfRefs refs.now (λ refs. marks.items
-        ≡ marks_by (is_beyond refs (bytes_of_names had.now) r.records) r.records)) result }
+        ≡ marks_by (is_reachable (head_refs (bytes_if head) ++ refs) r.records) r.records)) result }
     ensures fault { OnlyUntold (O.told objects.now) result }
 {
-    let mut marks = marks_reached(alloc, objects, listing, refs, &[])?;
-    let reached = marks_reached(alloc, objects, listing, b"", had)?;
-    unmark(&mut marks, reached.as_slice());
-    Ok(marks)
+    let Some(called) = head else {
+        return marks_reached(alloc, objects, listing, refs, &[]);
+    };
+    marks_reached(alloc, objects, listing, refs, &[called])
 }
 
 /// Which of the objects that are listed the refs of these lines reach, or the objects of these names.

@@ -28,13 +28,13 @@ use gx_pack::Pack;
 use gx_text::{Failed, Sink};
 use std::alloc::Allocator;
 
-/// Sends a bundle of refs and of the objects that they reach, but for what its reader has, in the order in which they are listed.
-/// Whatever the objects are, no body goes out that hasn't the name under which it is listed.
+/// Sends a bundle of refs, and of HEAD where that is told, with the objects that they reach, but for what its reader has, in the order
+/// in which they are listed. Whatever the objects are, no body goes out that hasn't the name under which it is listed.
 ///
 /// Unsupported: 2^32 objects or more would go out, and nothing did. Stopped by OutOfMemory: a growth was refused. ReadFailed: a read
 /// failed. Damaged: this is no repository. WriteFailed: the sink failed. What went out by then is a front of the bundle.
-/// Cost: the bundle's length, of which each byte is digested once, and the bodies of trees, commits and tags that its refs or what
-/// its reader has reach a second time. Memory: two bytes for each object that is listed, and one body.
+/// Cost: the bundle's length, of which each byte is digested once, and the bodies of trees, commits and tags that its refs, its
+/// HEAD or what its reader has reach a second time. Memory: two bytes for each object that is listed, and one body.
 /// Source: git-bundle(1), gitformat-bundle(5), and gitformat-pack(5).
 pub fn bundle<O: Objects, A: Allocator + Copy, W: Sink>(
     alloc: A,
@@ -54,7 +54,7 @@ pub fn bundle<O: Objects, A: Allocator + Copy, W: Sink>(
     ensures many { IfSome (O.told objects.now) (HasTooMany bundled.now result) }
     ensures fault { IsStopped (O.told objects.now) result }
 {
-    let marks = marks_beyond(alloc, objects, listing, bundled.refs, bundled.had)?;
+    let marks = marks_beyond(alloc, objects, listing, bundled)?;
     let count = count_sent(marks.as_slice())?;
     send_bundle(
         alloc,
@@ -89,7 +89,7 @@ pub fn pack<O: Objects, A: Allocator + Copy, W: Sink>(
     ensures many { IfSome (O.told objects.now) (HasTooMany bundled.now result) }
     ensures fault { IsStopped (O.told objects.now) result }
 {
-    let marks = marks_beyond(alloc, objects, listing, bundled.refs, bundled.had)?;
+    let marks = marks_beyond(alloc, objects, listing, bundled)?;
     let count = count_sent(marks.as_slice())?;
     send_pack(alloc, objects, listing, marks.as_slice(), count, sink)?;
     Ok(())

@@ -78,8 +78,10 @@ repositories() {
 }
 
 refs_in() { git --git-dir="$1" for-each-ref --format='%(objectname) %(refname)'; }
+# a HEAD of its own isn't asked, so `--all` doesn't do
 objects_in() {
-  git --git-dir="$1" rev-list --objects --no-object-names --all | git --git-dir="$1" cat-file --batch-check | sort
+  git --git-dir="$1" for-each-ref --format='%(objectname)' | git --git-dir="$1" rev-list --objects --no-object-names --stdin |
+    git --git-dir="$1" cat-file --batch-check | sort
 }
 
 # how it went: `equal`, `differs: WHAT`, or what refused it, without its numbers and names

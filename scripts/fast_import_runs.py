@@ -5,8 +5,9 @@
     scripts/fast_import_runs.py --each RECORDED    prints a line for each run that git takes
 
 RECORDED has a folder for each run, as scripts/recorder/git makes it. GX names the program. Of a run that both take, the refs
-have to be the same, and gx has to hold all objects that git has made, so those of all marks. Status 1 tells that
-one isn't so. An option that `gx import` doesn't have is a cause of its own, where it changes what is imported.
+have to be the same, and gx has to hold all objects that git has made, so those of all marks. What is refused or
+differs is tried once more behind `gx adapt`. An option that `gx import` doesn't have is a cause of its own, where
+it changes what is imported. Status 1 tells that a run differs.
 """
 
 import os
@@ -39,6 +40,7 @@ OPTIONS = {
 NEEDS = [
     (r"feature (import|export|relative|no-relative)-marks.*|\w+: feature relative-marks", MARKS),
     (r"(feature )?(cat-blob|ls|get-mark)\b", BACK),
+    (r"tag ", "tags of blobs, trees and tags"),
     (r"feature date-format|option git date-format", DATES),
     (r"(feature notes|N )", "notes (`N`)"),
     (r"M 0?40000 ", "trees by their names (`M 040000`)"),
@@ -98,10 +100,12 @@ def words_for(run: Run, known: str) -> tuple[list[str], str]:
 
 
 def need_of(told: str) -> str:
-    """What a refusal is for."""
+    """What a refusal is for. The line that it tells stands in quotes where it has special bytes."""
     fault = re.search(r"^gx: command \d+: (\w+)$", told, re.M)
     line = re.search(r"^gx: line \d+, byte \d+: (.*)$", told, re.M)
     shown = line[1] if line else ""
+    if shown.startswith('"'):
+        shown = re.sub(r"\\(.)", r"\1", shown[1:-1])
     for pattern, need in NEEDS:
         if re.match(pattern, shown):
             return need
@@ -121,23 +125,31 @@ def difference(run: Run, base: Base, store: Path) -> str:
     return f"objects: {lacking[:4]}" if lacking else ""
 
 
-def result_of(run: Run, known: str) -> tuple[str, str]:
+def tried(run: Run, words: list[str], base: Base, is_adapted: bool) -> tuple[str, str]:
     """`equal`; or `differs` or `refused`, with what differs or is needed."""
+    stream = run.text("stdin")
+    if is_adapted:
+        stream = subprocess.run([GX, "adapt"], input=stream, stdout=subprocess.PIPE, stderr=subprocess.DEVNULL).stdout
+    with tempfile.TemporaryDirectory() as name:
+        store = Path(name) / "store"
+        store.write_bytes(base.text)
+        done = subprocess.run([GX, "--explain", "import", *words, store], input=stream, stdout=subprocess.DEVNULL, stderr=subprocess.PIPE)
+        if done.returncode != 0:
+            return "refused", need_of(done.stderr.decode(errors="replace"))
+        differs = difference(run, base, store)
+        return ("differs", differs) if differs else ("equal", "")
+
+
+def result_of(run: Run, known: str) -> tuple[str, str]:
+    """How it came out: as `tried` tells, or `adapted` where it is equal once `gx adapt` has had the stream, with what came before."""
     words, need = words_for(run, known)
     if need:
         return "refused", need
-    with tempfile.TemporaryDirectory() as name:
-        store = Path(name) / "store"
-        base = base_of(run.folder / "before")
-        store.write_bytes(base.text)
-        with (run.folder / "stdin").open("rb") as stream:
-            command = [GX, "--explain", "import", *words, store]
-            done = subprocess.run(command, stdin=stream, stdout=subprocess.DEVNULL, stderr=subprocess.PIPE)
-        told = done.stderr.decode(errors="replace")
-        if done.returncode != 0:
-            return "refused", need_of(told)
-        differs = difference(run, base, store)
-        return ("differs", differs) if differs else ("equal", "whole" if base.is_whole else "without some objects of the base")
+    base = base_of(run.folder / "before")
+    first = tried(run, words, base, is_adapted=False)
+    if first[0] != "equal" and tried(run, words, base, is_adapted=True)[0] == "equal":
+        return "adapted", first[1]
+    return first
 
 
 def tests_of(runs: list[Run]) -> str:
@@ -164,11 +176,12 @@ def main() -> int:
     for run in taken:
         how, what = result_of(run, known)
         ended[how] += 1
-        if how != "equal":
+        if how in ("refused", "differs"):
             needs[what if how == "refused" else f"differs, {what}"].append(run)
         if each:
             print(f"{run.folder.name}: {how}, {what}: {run.text('title').decode().strip()}")
-    print(f"recorded: {len(runs)}, git takes: {len(taken)}, gx takes: {ended['equal'] + ended['differs']}, equal: {ended['equal']}")
+    taken_by_gx = f"equal: {ended['equal']}, equal once adapted: {ended['adapted']}, differ: {ended['differs']}"
+    print(f"recorded: {len(runs)}, git takes: {len(taken)}, {taken_by_gx}, refused: {ended['refused']}")
     table(needs)
     return 1 if ended["differs"] else 0
 

@@ -29,7 +29,7 @@ def commit_of(names: Names, chance: random.Random) -> bytes:
     """A commit that git takes."""
     parents = b"".join(b"parent %s\n" % names.commit for _ in range(chance.randrange(2)))
     who = b"%s %d +0%d00\n"
-    name = chance.choice([b"A U Thor <a@x>", b"<a@x>", b"A <>", b"Zo\xc3\xab <z@x>"])
+    name = chance.choice([b"A U Thor <a@x>", b"A <a@x>", b"A <>", b"Zo\xc3\xab <z@x>"])
     lines = [b"tree %s\n" % names.tree, parents]
     lines += [word + who % (name, chance.randrange(1, 2**31), 1) for word in (b"author ", b"committer ")]
     lines += [b"encoding ISO-8859-1\n"] if chance.random() < 0.2 else []
@@ -83,7 +83,7 @@ def changed_times(body: bytes, chance: random.Random) -> bytes:
 
 def changed(body: bytes, chance: random.Random) -> bytes:
     """A body with one change or two, seldom with none."""
-    for _ in range(chance.choice([0, 1, 1, 1, 1, 1, 1, 2])):
+    for _ in range(chance.choice([0, 1, 1, 1, 1, 1, 1, 2, 3])):
         how = chance.choice([changed_lines, changed_bytes, changed_bytes, changed_times])
         body = how(body, chance) or b"\n"
     return body if chance.random() < 0.95 else body[: chance.randrange(len(body) + 1)]

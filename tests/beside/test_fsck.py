@@ -20,23 +20,53 @@ REFUSED = re.compile(rb"^error(?: in \w+)?:? .*", re.M)
 NAME = re.compile(rb"\b[0-9a-f]{40}\b")
 PLACE = re.compile(rb"objects/([0-9a-f]{2})/([0-9a-f]{38})")
 
-# Behind `git`, what fsck alone takes; behind `gx`, what gx alone takes; the first that fits names the difference.
-IDENT = rb"^(?:author|committer|tagger) "
-FRONT = rb"\A(?:(?!\n\n)[\s\S])*?"  # in the headers
-GIT_ALONE = {
-    "no message, nor an empty line": rb"\A(?!(?:[^\n]+\n)+\n)",
-    "a tag of a tree or a blob": rb"\Aobject \w+\ntype (?:tree|blob)\n",
-    "digits in upper case": rb"\A(?:tree|object) \w*[A-F]|" + FRONT + rb"^parent \w*[A-F]",
-    "a zone above 1400": FRONT + IDENT + rb".* [+-](?:1[5-9]|14[^0]|140[^0]|[2-9]\d)",
-    "a tag whose name makes no ref": rb"\Aobject \w+\ntype \w+\ntag ",
-    "further headers": rb"\A(?:[^\n]+\n)*\n",
+# who and when of the lines of headers that tell it
+PERSON = re.compile(rb"^(?:author|committer|tagger) (.*)$", re.M)
+TIME = re.compile(rb"> (\d+) [+-](\d+)\Z")
+COMMIT = rb"\Atree .*\n(?:parent .*\n)*author .*\ncommitter .*\n"
+TAG = rb"\Aobject .*\ntype .*\ntag .*\n(?:tagger .*\n)?"
+# git-check-ref-format(1), of what stands behind refs/tags/
+NO_REF = re.compile(rb"\.\.|@\{|[\0-\x20\x7f~^:?*\[\\]|\.lock(?:/|\Z)|(?:\A|/)(?:\.|/|\Z)|\.\Z")
+
+
+def headers_of(body: bytes) -> bytes:
+    return body.partition(b"\n\n")[0]
+
+
+def people(body: bytes) -> list[bytes]:
+    return PERSON.findall(headers_of(body))
+
+
+def times(body: bytes) -> list[tuple[bytes, bytes]]:
+    """The seconds and the digits of the zone, where both are numbers."""
+    return [found.groups() for found in map(TIME.search, people(body)) if found]
+
+
+def has(pattern: bytes) -> Callable[[bytes], bool]:
+    return lambda body: re.search(pattern, body) is not None
+
+
+def names_no_ref(body: bytes) -> bool:
+    name = re.match(rb"object .*\ntype .*\ntag (.*)\n", body)
+    return name is not None and NO_REF.search(name[1]) is not None
+
+
+# what fsck alone takes, and what gx alone takes
+GIT_ALONE: dict[str, Callable[[bytes], bool]] = {
+    "neither message nor the empty line before it": has(rb"\A(?:[^\n]+\n)+\Z"),
+    "a tag of a tree, a blob or a tag": has(rb"\Aobject \w+\ntype (?:tree|blob|tag)\n"),
+    "digits in upper case": has(rb"\A(?:tree .*\n(?:parent .*\n)*?parent|tree|object) (?=.*[A-F])[0-9a-fA-F]{40}\n"),
+    "a zone above 1400": lambda body: any(int(zone) > 1400 for _, zone in times(body)),
+    "a tag whose name makes no ref": names_no_ref,
+    "further headers of a commit": has(COMMIT + rb"(?!\n|encoding .+\n(?:\n|\Z))[^\n]"),
+    "further headers of a tag": has(TAG + rb"(?!\n)[^\n]"),
 }
-GX_ALONE = {
-    "a name that begins with `<`": FRONT + IDENT + rb"<",
-    "a zone of other than four digits": FRONT + IDENT + rb".*> \d+ [+-](?!\d{4}$)",
-    "seconds with zeros before them": FRONT + IDENT + rb".*> 0\d",
-    "seconds from 2^63 on": FRONT + IDENT + rb".*> \d{19,20} ",
-    "a NUL in the headers": FRONT + rb"\0",
+GX_ALONE: dict[str, Callable[[bytes], bool]] = {
+    "a name that begins with `<`": lambda body: any(who.startswith(b"<") for who in people(body)),
+    "a zone of other than four digits": lambda body: any(len(zone) != 4 for _, zone in times(body)),
+    "zeros before the seconds": lambda body: any(re.match(rb"0\d", when) for when, _ in times(body)),
+    "seconds from 2^63 on": lambda body: any(int(when) >= 2**63 for when, _ in times(body)),
+    "a NUL in the headers": lambda body: b"\0" in headers_of(body),
 }
 
 
@@ -69,38 +99,29 @@ class Sides:
                 found.setdefault(name, line)
         return found
 
-    def refused_by_gx(self, record: Record) -> bytes:
-        """What `gx verify` tells of a store with this record, or nothing; a name that leads nowhere isn't looked at."""
+    def told_by_gx(self, record: Record) -> bytes:
+        """What `gx verify` tells of a store with this record, or nothing."""
         records = [*self.held, record]
         text = b"gxstore 2\nobjects %d\n" % len(records) + b"".join(each.text() for each in records)
         store = self.folder / "store"
         store.write_bytes(text + b"refs 0\nend\n")
         told = self.gx("verify", store)
-        return b"" if told.status == 0 or b"Dangling" in told.err else told.err
-
-
-def difference(body: bytes, among: dict[str, bytes]) -> str:
-    for name, pattern in among.items():
-        if re.search(pattern, body, re.M):
-            return name
-    return ""
-
-
-def is_form(line: bytes) -> bool:
-    """Whether fsck's line is about the form of an object, and not about what it names."""
-    return not re.search(rb"broken link|missing|bad (?:parents|tree pointer)|bad object|not a (?:tree|commit)", line)
+        return told.err if told.status else b""
 
 
 def compare(sides: Sides, bodies: dict[bytes, Record]) -> None:
-    """Adds the bodies to the repository, and compares what both say of each."""
+    """Compares what both say of each body; not where it names what isn't there, which is no matter of its form."""
     told = sides.refused_by_git()
     for name, record in bodies.items():
-        git, gx = told.get(name, b""), sides.refused_by_gx(record)
+        git, gx = told.get(name, b""), sides.told_by_gx(record)
+        if b"Dangling" in gx:
+            counted["bodies that name what isn't there"] += 1
+            continue
         counted["bodies that git refuses" if git else "bodies that git takes"] += 1
         if bool(git) == bool(gx):
             continue
-        side = "gx alone" if git else "git alone"
-        why = difference(record.body, GX_ALONE if git else GIT_ALONE)
+        side, among = ("gx alone", GX_ALONE) if git else ("git alone", GIT_ALONE)
+        why = next((name for name, holds in among.items() if holds(record.body)), None)
         assert why, f"{side} takes a {record.kind.decode()}\n{record.body!r}\ngit: {git!r}\ngx: {gx!r}"
         counted[f"{side} takes: {why}"] += 1
 

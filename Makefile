@@ -7,7 +7,7 @@ SOURCES := crates.txt $(shell find crates -name out -prune -o -path '*/src/*' -n
 PYTHON := /usr/bin/python3
 WHAT ?= all
 .DEFAULT_GOAL := help
-.PHONY: help try test prove gate bench docs install library library-try to-build to-test
+.PHONY: help try test prove gate bench docs dist install library library-try to-build to-test
 
 # stops with one line where a command isn't there: $(call needs,NAME..)
 needs = $(foreach name,$(1),$(if $(shell command -v $(name) 2> /dev/null),,$(error $(name) is missing$(why_$(name)))))
@@ -43,6 +43,10 @@ install: ## installs the proved gx with its manuals and completions below PREFIX
 
 library: ## makes libginlarch.a and libginlarch.so of the proved library
 	scripts/library.sh
+
+dist: ## makes a release of the proved gx and library, as a tar in out/dist
+	$(call needs,git rt xz)
+	scripts/dist.sh
 
 library-try: $(TRIED_LIBRARY) ## builds libginlarch.so without proofs, for Python
 

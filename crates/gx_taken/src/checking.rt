@@ -1,0 +1,89 @@
+//! Whether refs may be what items tell. Source: gitglossary(7), "ref" and "fast-forward", and git-fetch(1).
+
+use crate::fault::{Refused, TakeFault};
+use crate::parts::RefItem;
+use gx_import::RefLoss;
+use gx_object::{Name, Namer};
+use gx_repo::{Repo, is_target};
+use gx_rev::{Parents, is_ancestor};
+use std::alloc::{AllocError, Allocator};
+
+/// Refuses the first ref that may not be what its item tells. Without `force` none may lose a commit.
+pub(crate) fn check_refs<N: Namer, A: Allocator + Copy>(
+    alloc: A,
+    repo: &Repo<N, A>,
+    refs: &[RefItem<A>],
+    force: bool,
+) -> Result<(), TakeFault<A>> {
+    let mut parents = Parents::new(alloc);
+    for item in refs {
+        let against = against_ref(alloc, repo, &mut parents, item, force)?;
+        if let Some(kind) = against {
+            return Err(TakeFault::Item {
+                number: item.number,
+                kind,
+            });
+        }
+    }
+    Ok(())
+}
+
+/// What is against a ref. Nothing is against one that is to be dropped.
+fn against_ref<N: Namer, A: Allocator + Copy>(
+    alloc: A,
+    repo: &Repo<N, A>,
+    parents: &mut Parents<A>,
+    item: &RefItem<A>,
+    force: bool,
+) -> Result<Option<Refused<A>>, AllocError> {
+    let name = item.offered.name.as_slice();
+    let object = item.offered.object;
+    if is_none(&object) {
+        return Ok(None);
+    }
+    match may_hold(repo, name, &object) {
+        None => Ok(Some(Refused::DanglingRef(Vec::from_slice(alloc, name)?, object))),
+        Some(false) => Ok(Some(Refused::WrongKind(Vec::from_slice(alloc, name)?))),
+        Some(true) if force => Ok(None),
+        Some(true) => against_move(alloc, repo, parents, name, &object),
+    }
+}
+
+/// Whether a name is that of no object: forty zeros tell it.
+pub(crate) fn is_none(object: &Name) -> bool {
+    object.bytes == [0; 20]
+}
+
+/// Whether a ref may hold an object that is held.
+fn may_hold<N: Namer, A: Allocator + Copy>(
+    repo: &Repo<N, A>,
+    name: &[u8],
+    object: &Name,
+) -> Option<bool> {
+    let (kind, body) = repo.store().get(object)?;
+    Some(is_target(name, kind, body))
+}
+
+/// What is against the move of a ref to an object: that it loses a commit.
+fn against_move<N: Namer, A: Allocator + Copy>(
+    alloc: A,
+    repo: &Repo<N, A>,
+    parents: &mut Parents<A>,
+    name: &[u8],
+    object: &Name,
+) -> Result<Option<Refused<A>>, AllocError> {
+    let (_, Some(held)) = repo.ref_near(0, name) else {
+        return Ok(None);
+    };
+    let Some(old) = repo.peel(&held) else {
+        return Ok(None);
+    };
+    let Some(new) = repo.peel(object) else {
+        return Ok(None);
+    };
+    if is_ancestor(alloc, repo, parents, &old, &new)? {
+        return Ok(None);
+    }
+    let name = Vec::from_slice(alloc, name)?;
+    Ok(Some(Refused::NotFastForward(RefLoss { name, old, new })))
+}

@@ -1,0 +1,76 @@
+//! What is offered, taken into a repository.
+
+use crate::checking::check_refs;
+use crate::fault::{Refused, TakeFault};
+use crate::parts::{Label, Parts, number_of, parts_of};
+use crate::setting::set_refs;
+use gx_object::Namer;
+use gx_offered::{Offered, read_offer};
+use gx_placed::{ObjectFault, PlaceFault, place};
+use gx_repo::Repo;
+use gx_text::Source;
+use std::alloc::Allocator;
+
+/// A repository with the objects and refs of a text that a source gives, as `git for-each-ref` and `git cat-file --batch` print them.
+///
+/// All objects come first, each behind what it names; one that is held or given before isn't added again. Then the refs are set in
+/// order: the last item of a ref wins, and forty zeros drop it. Without `force` no ref may lose a commit that it had before.
+///
+/// `ReadFailed`: the source failed, or gave more than 2^63 - 1 bytes, whatever stands before that. `Item`: the first fault, in
+/// this order: the items that aren't read (`Unread`), objects that can't be placed (`BadObject`, `NameHeld`, `Dangling`), and refs
+/// that may not be set (`DanglingRef`, `WrongKind`, `NotFastForward`). `OutOfMemory`: a growth was refused. After a fault nothing
+/// is left.
+/// Cost: one pass over the text, each body hashed twice, a look-up for each link, and for each ref that moves
+/// `gx_rev::is_ancestor`. Memory: the text, and what is kept of each item.
+/// Source: git-cat-file(1), "BATCH OUTPUT", git-for-each-ref(1), and git-fetch(1).
+pub fn take_text<N: Namer + Drop, R: Source + Drop, A: Allocator + Copy>(
+    alloc: A,
+    namer: &N,
+    repo: Repo<N, A>,
+    source: R,
+    force: bool,
+) -> Result<Repo<N, A>, TakeFault<A>> {
+    let items = read_offer(alloc, namer, source)?;
+    take(alloc, repo, items, force)
+}
+
+/// A repository with the objects and refs that items tell.
+///
+/// The faults are those of [`take_text`] but `ReadFailed` and `Unread`. Cost: a pass over the items, one over the bodies, a look-up
+/// for each link, and for each ref that moves `gx_rev::is_ancestor`. Memory: what is kept of each item.
+/// Source: gitglossary(7), "object database" and "ref".
+pub fn take<N: Namer + Drop, A: Allocator + Copy>(
+    alloc: A,
+    repo: Repo<N, A>,
+    items: Vec<Offered<A>, A>,
+    force: bool,
+) -> Result<Repo<N, A>, TakeFault<A>> {
+    let Parts {
+        objects,
+        labels,
+        refs,
+    } = parts_of(alloc, items)?;
+    let mut repo = repo;
+    match place(alloc, &mut repo, objects) {
+        Ok(()) => {}
+        Err(PlaceFault::OutOfMemory) => return Err(TakeFault::OutOfMemory),
+        Err(PlaceFault::Object(at, fault)) => return Err(unplaced(&labels, at, fault)),
+    }
+    check_refs(alloc, &repo, refs.as_slice(), force)?;
+    set_refs(alloc, &mut repo, refs.as_slice())?;
+    Ok(repo)
+}
+
+/// The refusal of the object at this place of those that are given.
+fn unplaced<A: Allocator>(labels: &[Label], at: usize, fault: ObjectFault) -> TakeFault<A> {
+    let name = labels[at].name;
+    let kind = match fault {
+        ObjectFault::BadObject => Refused::BadObject(name),
+        ObjectFault::NameHeld => Refused::NameHeld(name),
+        ObjectFault::Dangling(link) => Refused::Dangling(name, link),
+    };
+    TakeFault::Item {
+        number: number_of(labels, &name),
+        kind,
+    }
+}

@@ -1,0 +1,3 @@
+mod ToldRefs
+mod FreeRefs
+mod TurnedRefs

@@ -1,8 +1,19 @@
 //! Whether refs may be what items tell. Source: gitglossary(7), "ref" and "fast-forward", and git-fetch(1).
 
+ghost use Rattle.std.specs.Prelude.{◌≡◌, IfOk};
+ghost use Rattle.std.specs.Option.{option_map};
+ghost use Rattle.std.specs.Map.{lookup};
+ghost use Rattle.gx_model.specs.Records.Growth.{record_named};
+ghost use Rattle.gx_model.specs.Stores.StoreReading.{is_target_of_kind};
+ghost use Rattle.gx_model.specs.Texts.{same_bytes};
+ghost use Rattle.gx_rev.specs.Parents.{HoldsParents};
+ghost use Rattle.gx_wide.specs.Placing.{is_dropped};
+ghost use Rattle.gx_taken.specs.Calls.{ChecksRefs, TellsAgainst};
+ghost use Rattle.gx_taken.specs.Parts.{ref_offered, shown_ref_items};
+ghost use Rattle.gx_taken.specs.Taking.{first_refused, move_fault, ref_fault};
+
 use crate::fault::{Refused, TakeFault};
 use crate::parts::RefItem;
-use gx_import::RefLoss;
 use gx_object::{Name, Namer};
 use gx_repo::{Repo, is_target};
 use gx_rev::{Parents, is_ancestor};
@@ -14,7 +25,9 @@ pub(crate) fn check_refs<N: Namer, A: Allocator + Copy>(
     repo: &Repo<N, A>,
     refs: &[RefItem<A>],
     force: bool,
-) -> Result<(), TakeFault<A>> {
+) -> Result<(), TakeFault<A>>
+    ensures { ChecksRefs (first_refused force repo.now.1 (shown_ref_items refs.now)) result }
+{
     let mut parents = Parents::new(alloc);
     for item in refs {
         let against = against_ref(alloc, repo, &mut parents, item, force)?;
@@ -35,7 +48,12 @@ fn against_ref<N: Namer, A: Allocator + Copy>(
     parents: &mut Parents<A>,
     item: &RefItem<A>,
     force: bool,
-) -> Result<Option<Refused<A>>, AllocError> {
+) -> Result<Option<Refused<A>>, AllocError>
+    requires holds { HoldsParents repo.now.1 parents.old }
+    ensures holds { HoldsParents repo.now.1 parents.new }
+    ensures against { TellsAgainst (ref_fault force repo.now.1 (ref_offered item.now.offered))
+        result }
+{
     let name = item.offered.name.as_slice();
     let object = item.offered.object;
     if is_none(&object) {
@@ -50,7 +68,9 @@ fn against_ref<N: Namer, A: Allocator + Copy>(
 }
 
 /// Whether a name is that of no object: forty zeros tell it.
-pub(crate) fn is_none(object: &Name) -> bool {
+pub(crate) fn is_none(object: &Name) -> bool
+    ensures { result ≡ is_dropped object.now.bytes }
+{
     object.bytes == [0; 20]
 }
 
@@ -59,7 +79,10 @@ fn may_hold<N: Namer, A: Allocator + Copy>(
     repo: &Repo<N, A>,
     name: &[u8],
     object: &Name,
-) -> Option<bool> {
+) -> Option<bool>
+    ensures { result ≡ option_map (λ held. is_target_of_kind name.now held.kind held.body)
+        (record_named repo.now.1.records object.now.bytes) }
+{
     let (kind, body) = repo.store().get(object)?;
     Some(is_target(name, kind, body))
 }
@@ -71,7 +94,12 @@ fn against_move<N: Namer, A: Allocator + Copy>(
     parents: &mut Parents<A>,
     name: &[u8],
     object: &Name,
-) -> Result<Option<Refused<A>>, AllocError> {
+) -> Result<Option<Refused<A>>, AllocError>
+    requires holds { HoldsParents repo.now.1 parents.old }
+    ensures holds { HoldsParents repo.now.1 parents.new }
+    ensures against { TellsAgainst (move_fault repo.now.1 (name.now, object.now.bytes)
+        (lookup (same_bytes name.now) repo.now.1.refs)) result }
+{
     let (_, Some(held)) = repo.ref_near(0, name) else {
         return Ok(None);
     };
@@ -85,5 +113,5 @@ fn against_move<N: Namer, A: Allocator + Copy>(
         return Ok(None);
     }
     let name = Vec::from_slice(alloc, name)?;
-    Ok(Some(Refused::NotFastForward(RefLoss { name, old, new })))
+    Ok(Some(Refused::NotFastForward(name, old, new)))
 }

@@ -1,15 +1,12 @@
 //! Why a text of refs and objects isn't taken.
 
-ghost use Rattle.std.specs.Prelude.{◌≡◌, Some};
-ghost use Rattle.gx_taken.specs.Faults.{of_offer, refusal, word};
+ghost use Rattle.std.specs.Prelude.{◌≡◌};
+ghost use Rattle.gx_taken.specs.Refusals.{of_offer, word};
 ghost use Rattle.gx_taken.specs.declared.fault.TakeFault.TheVariants.{OutOfMemory};
 
-use gx_import::RefLoss;
 use gx_object::Name;
 use gx_offered::{ItemFault, OfferFault};
 use std::alloc::{AllocError, AllocFailed, Allocator};
-use std::fmt;
-use thiserror::Error;
 
 /// What is against an item.
 #[derive(Drop)]
@@ -27,8 +24,8 @@ pub enum Refused<A: Allocator> {
     DanglingRef(Vec<u8, A>, Name),
     /// The ref of this name may not hold the object.
     WrongKind(Vec<u8, A>),
-    /// The ref would lose a commit.
-    NotFastForward(RefLoss<A>),
+    /// The ref of this name would lose a commit: the one where it stands, or that its tag names, and the one to which it would move.
+    NotFastForward(Vec<u8, A>, Name, Name),
 }
 
 impl<A: Allocator + Copy> Refused<A> {
@@ -47,7 +44,7 @@ impl<A: Allocator + Copy> Refused<A> {
             Refused::NameHeld(_) => "NameHeld",
             Refused::Dangling(..) | Refused::DanglingRef(..) => "Dangling",
             Refused::WrongKind(_) => "WrongKind",
-            Refused::NotFastForward(_) => "NotFastForward",
+            Refused::NotFastForward(..) => "NotFastForward",
         }
     }
 }

@@ -1,5 +1,10 @@
 //! An offer in its parts: the objects and the refs.
 
+ghost use Rattle.std.specs.Prelude.{◌≡◌, IfOk, IsTrue};
+ghost use Rattle.gx_offered.specs.Items.{shown_offer};
+ghost use Rattle.gx_taken.specs.Parts.{ArePartsOf, is_named, shown_labels};
+ghost use Rattle.gx_taken.specs.Taking.{number_named};
+
 use gx_object::Name;
 use gx_offered::{Offered, OfferedObject, OfferedRef};
 use std::alloc::{AllocError, Allocator};
@@ -30,7 +35,9 @@ pub(crate) struct Parts<A: Allocator> {
 pub(crate) fn parts_of<A: Allocator + Copy>(
     alloc: A,
     items: Vec<Offered<A>, A>,
-) -> Result<Parts<A>, AllocError> {
+) -> Result<Parts<A>, AllocError>
+    ensures { IfOk result (λ parts. ArePartsOf (shown_offer items) parts) }
+{
     let mut objects = Vec::new(alloc);
     let mut labels = Vec::new(alloc);
     let mut refs = Vec::new(alloc);
@@ -55,7 +62,10 @@ pub(crate) fn parts_of<A: Allocator + Copy>(
 }
 
 /// The number of the first item that gives the object of this name.
-pub(crate) fn number_of(labels: &[Label], name: &Name) -> usize {
+pub(crate) fn number_of(labels: &[Label], name: &Name) -> usize
+    requires { IsTrue (is_named (shown_labels labels.now) name.now.bytes) }
+    ensures { result ≡ number_named (shown_labels labels.now) name.now.bytes }
+{
     for label in labels {
         if label.name == *name {
             return label.number;

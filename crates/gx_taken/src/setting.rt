@@ -1,5 +1,15 @@
 //! Refs that are dropped and set as items tell, in order. Source: git-update-ref(1), "--stdin".
 
+ghost use Rattle.std.specs.Prelude.{◌≡◌, Bool, IfOk, None, OnOk, [], map};
+ghost use Rattle.gx_model.specs.Laws.RepositoryLaws.{with_refs};
+ghost use Rattle.gx_model.specs.Records.Publishing.{changes_fault, with_changes};
+ghost use Rattle.gx_repo.specs.Dropping.{unknown_behind, without};
+ghost use Rattle.gx_repo.specs.Refs.{shown_update};
+ghost use Rattle.gx_text.specs.Lent.{lent_texts};
+ghost use Rattle.gx_taken.specs.Parts.{shown_ref_items};
+ghost use Rattle.gx_taken.specs.Setting.{HaveRefNames, IsTurned};
+ghost use Rattle.gx_taken.specs.Taking.{first_refused, with_all_told};
+
 use crate::checking::is_none;
 use crate::parts::RefItem;
 use gx_object::Namer;
@@ -19,7 +29,14 @@ pub(crate) fn set_refs<N: Namer, A: Allocator + Copy>(
     alloc: A,
     repo: &mut Repo<N, A>,
     refs: &[RefItem<A>],
-) -> Result<(), OutOfMemory> {
+) -> Result<(), OutOfMemory>
+    requires names { HaveRefNames (shown_ref_items refs.now) }
+    requires free { (force : Bool)
+        × (first_refused force repo.old.1 (shown_ref_items refs.now) ≡ None) }
+    ensures namer { repo.new.0 ≡ repo.old.0 }
+    ensures set { OnOk result (repo.new.1
+        ≡ with_refs repo.old.1 (with_all_told repo.old.1.refs (shown_ref_items refs.now))) }
+{
     let turns = turns_of(alloc, repo, refs)?;
     drop_all(repo, turns.dropped.as_slice())?;
     publish_all(repo, turns.changes.as_slice())
@@ -30,7 +47,13 @@ fn turns_of<'a, N: Namer, A: Allocator + Copy>(
     alloc: A,
     repo: &Repo<N, A>,
     refs: &'a [RefItem<A>],
-) -> Result<Turns<'a, A>, AllocError> {
+) -> Result<Turns<'a, A>, AllocError>
+    requires names { HaveRefNames (shown_ref_items refs.now) }
+    requires free { (force : Bool)
+        × (first_refused force repo.now.1 (shown_ref_items refs.now) ≡ None) }
+    ensures { IfOk result (λ turns. IsTurned repo.now.1 (shown_ref_items refs.now)
+        (lent_texts turns.dropped.items) (map shown_update turns.changes.items)) }
+{
     let mut seen = BTreeSet::new(alloc);
     let mut dropped = Vec::new(alloc);
     let mut changes = Vec::new(alloc);
@@ -59,7 +82,12 @@ fn turns_of<'a, N: Namer, A: Allocator + Copy>(
 fn drop_all<N: Namer, A: Allocator + Copy>(
     repo: &mut Repo<N, A>,
     names: &[&[u8]],
-) -> Result<(), OutOfMemory> {
+) -> Result<(), OutOfMemory>
+    requires { unknown_behind repo.old.1.refs [] (lent_texts names.now) ≡ None }
+    ensures namer { repo.new.0 ≡ repo.old.0 }
+    ensures dropped { OnOk result (repo.new.1
+        ≡ with_refs repo.old.1 (without (lent_texts names.now) repo.old.1.refs)) }
+{
     match repo.drop_refs(names) {
         Ok(()) => Ok(()),
         Err(DropFault::OutOfMemory) => Err(AllocError),
@@ -71,10 +99,17 @@ fn drop_all<N: Namer, A: Allocator + Copy>(
 fn publish_all<N: Namer, A: Allocator + Copy>(
     repo: &mut Repo<N, A>,
     changes: &[RefChange<'_>],
-) -> Result<(), OutOfMemory> {
+) -> Result<(), OutOfMemory>
+    requires { changes_fault repo.old.1.records (map shown_update changes.now) ≡ None }
+    ensures namer { repo.new.0 ≡ repo.old.0 }
+    ensures set { OnOk result (repo.new.1
+        ≡ with_refs repo.old.1 (with_changes repo.old.1.refs (map shown_update changes.now))) }
+{
     match repo.publish(changes) {
         Ok(()) => Ok(()),
         Err(PublishFault::OutOfMemory) => Err(AllocError),
-        Err(_) => unreachable!(),
+        Err(PublishFault::BadRefName) => unreachable!(),
+        Err(PublishFault::UnknownObject) => unreachable!(),
+        Err(PublishFault::WrongKind) => unreachable!(),
     }
 }

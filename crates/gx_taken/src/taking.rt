@@ -1,5 +1,11 @@
 //! What is offered, taken into a repository.
 
+ghost use Rattle.std.specs.Prelude.{◌≡◌, ◌<◌, IfOk, length};
+ghost use Rattle.gx_model.specs.Records.Sound.{IsSound};
+ghost use Rattle.gx_offered.specs.Items.{shown_offer};
+ghost use Rattle.gx_taken.specs.Calls.{AreGoodItems, IsTaken, TakesText, is_unplaced};
+ghost use Rattle.gx_taken.specs.Taking.{taken};
+
 use crate::checking::check_refs;
 use crate::fault::{Refused, TakeFault};
 use crate::parts::{Label, Parts, number_of, parts_of};
@@ -29,7 +35,12 @@ pub fn take_text<N: Namer + Drop, R: Source + Drop, A: Allocator + Copy>(
     repo: Repo<N, A>,
     source: R,
     force: bool,
-) -> Result<Repo<N, A>, TakeFault<A>> {
+) -> Result<Repo<N, A>, TakeFault<A>>
+    requires same { N.name_of namer.now ≡ N.name_of repo.0 }
+    ensures namer { IfOk result (λ left. left.0 ≡ repo.0) }
+    ensures taken { TakesText (N.name_of repo.0) force repo.1 (R.coming source) result }
+    ensures sound { IfOk result (λ left. IsSound (N.name_of repo.0) left.1) }
+{
     let items = read_offer(alloc, namer, source)?;
     take(alloc, repo, items, force)
 }
@@ -44,7 +55,12 @@ pub fn take<N: Namer + Drop, A: Allocator + Copy>(
     repo: Repo<N, A>,
     items: Vec<Offered<A>, A>,
     force: bool,
-) -> Result<Repo<N, A>, TakeFault<A>> {
+) -> Result<Repo<N, A>, TakeFault<A>>
+    requires good { AreGoodItems (N.name_of repo.0) (shown_offer items) }
+    ensures namer { IfOk result (λ left. left.0 ≡ repo.0) }
+    ensures taken { IsTaken (taken force repo.1 (shown_offer items)) result }
+    ensures sound { IfOk result (λ left. IsSound (N.name_of repo.0) left.1) }
+{
     let Parts {
         objects,
         labels,
@@ -58,11 +74,15 @@ pub fn take<N: Namer + Drop, A: Allocator + Copy>(
     }
     check_refs(alloc, &repo, refs.as_slice(), force)?;
     set_refs(alloc, &mut repo, refs.as_slice())?;
+    repo.sound();
     Ok(repo)
 }
 
 /// The refusal of the object at this place of those that are given.
-fn unplaced<A: Allocator>(labels: &[Label], at: usize, fault: ObjectFault) -> TakeFault<A> {
+fn unplaced<A: Allocator>(labels: &[Label], at: usize, fault: ObjectFault) -> TakeFault<A>
+    requires { at < length labels.now }
+    ensures { result ≡ TODO }
+{
     let name = labels[at].name;
     let kind = match fault {
         ObjectFault::BadObject => Refused::BadObject(name),

@@ -126,10 +126,10 @@ fn branch_loses_commits_by_force_alone(rt: HostRuntime) {
         Err(TakeFault::Item { number, kind }) => {
             assert!(rt; number == 2);
             match kind {
-                Refused::NotFastForward(loss) => {
-                    assert!(rt; loss.name.as_slice() == b"refs/heads/main".as_slice());
-                    assert!(rt; Name::read(NEW_DIGITS) == Some(loss.old));
-                    assert!(rt; Name::read(OLD_DIGITS) == Some(loss.new));
+                Refused::NotFastForward(name, old, new) => {
+                    assert!(rt; name.as_slice() == b"refs/heads/main".as_slice());
+                    assert!(rt; Name::read(NEW_DIGITS) == Some(old));
+                    assert!(rt; Name::read(OLD_DIGITS) == Some(new));
                 }
                 _ => assert!(rt; false),
             }

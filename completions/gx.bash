@@ -103,7 +103,7 @@ __gx_options() {
     grow) __gx_answer '' "$1" --wait --help ;;
     batch) __gx_answer '' "$1" --check --command --format -z --help ;;
     adapt) __gx_answer '' "$1" --drop-signatures --help ;;
-    import) __gx_answer '' "$1" --done --force --push --report --explain --wait --help ;;
+    import) __gx_answer '' "$1" --objects --done --force --push --report --explain --wait --help ;;
     try | check) __gx_answer '' "$1" --done --force --explain --help ;;
     verify) __gx_answer '' "$1" --salvage --help ;;
     bundle) __gx_answer '' "$1" --all --head --pack --help ;;

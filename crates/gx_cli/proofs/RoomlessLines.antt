@@ -55,6 +55,7 @@ module _ (name : Kind → Bytes → Bytes) {A : Type 0} (o : Outcome A) (was : O
   roomless_change : (c : Change) (store : Bytes) (coming : Option Coming) (f : CliFault) → room_of_change c ≡ Some f → IsRefused f o → ServesChange name c store coming was was o
   roomless_change (changes.Init growing) store coming f e h = absurd (cc)
   roomless_change changes.Grow store coming f e h = absurd (cc)
+  roomless_change (changes.Objects force report explain) store coming f e h = absurd (cc)
   roomless_change (changes.Push push done report explain) store coming f e h = absurd (cc)
   roomless_change (changes.Put stamp) store coming f e h = absurd (cc)
   roomless_change (changes.Import done force report explain) store coming f e h =
@@ -83,6 +84,7 @@ module _ (name : Kind → Bytes → Bytes) {A : Type 0} (o : Outcome A) where
   unread_served other store coming (line.Change path wait (changes.Init false)) was now e h = h
   unread_served other store coming (line.Change path wait (changes.Init true)) was now e h = h
   unread_served other store coming (line.Change path wait changes.Grow) was now e h = h
+  unread_served other store coming (line.Change path wait (changes.Objects force report explain)) was now e h = h
   unread_served other store coming (line.Change path wait (changes.Push push done report explain)) was now e h = h
   unread_served other store coming (line.Change path wait (changes.Put stamp)) was now e h = h
   unread_served other store coming _ was now e h = absurd (cc)

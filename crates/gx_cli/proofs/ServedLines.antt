@@ -30,6 +30,7 @@ module _ (name : Kind → Bytes → Bytes) {A : Type 0} (o : Outcome A) (coming 
       → EndsOpened (store_of name store) (λ r. ChangesOpened name c r coming o × (now ≡ was)) was now o → ServesChange name c store coming was now o
   change_served (changes.Init growing) store s i h = absurd (cc s)
   change_served changes.Grow store s i h = absurd (cc s)
+  change_served (changes.Objects force report explain) store s i h = absurd (cc s)
   change_served (changes.Push push done report explain) store s i h = absurd (cc s)
   change_served (changes.Put stamp) store s i h = absurd (cc s)
   change_served (changes.Import done force report explain) store s i h = absurd (i done force report explain refl)
@@ -39,6 +40,7 @@ module _ (name : Kind → Bytes → Bytes) {A : Type 0} (o : Outcome A) (coming 
   pub change_refused : (c : Change) (store : Bytes) → room_of_change c ≡ None → ((growing : Bool) → c ≡ changes.Init growing → ⊥) → IsRefused ReadFailed o × (now ≡ was) → ServesChange name c store coming was now o
   change_refused (changes.Init growing) store e i h = absurd (i growing refl)
   change_refused changes.Grow store e i h = h
+  change_refused (changes.Objects force report explain) store e i h = h
   change_refused (changes.Push push done report explain) store e i h = h
   change_refused (changes.Put stamp) store e i h = h
   change_refused _ store e i h = absurd (cc e)

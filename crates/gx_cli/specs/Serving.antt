@@ -128,6 +128,7 @@ room_of_question question = Store file.OutOfMemory
 abbrev pub room_of_change : Change → Option CliFault
 room_of_change (changes.Init growing) = None
 room_of_change changes.Grow = None
+room_of_change (changes.Objects force report explain) = None
 room_of_change (changes.Push push done report explain) = None
 room_of_change (changes.Put stamp) = None
 room_of_change change = Some (Store file.OutOfMemory)
@@ -241,6 +242,7 @@ module _ (name : Kind → Bytes → Bytes) {A : Type 0} where
   ServesChange (changes.Init false) store coming was now o = IsWritten name empty_repository o × (now ≡ was)
   ServesChange (changes.Init true) store coming was now o = IsRefused ReadFailed o × (now ≡ was)
   ServesChange changes.Grow store coming was now o = IsRefused ReadFailed o × (now ≡ was)
+  ServesChange (changes.Objects force report explain) store coming was now o = IsRefused ReadFailed o × (now ≡ was)
   ServesChange (changes.Push push done report explain) store coming was now o = IsRefused ReadFailed o × (now ≡ was)
   ServesChange (changes.Put stamp) store coming was now o = IsRefused ReadFailed o × (now ≡ was)
   ServesChange (changes.Import done force report explain) store coming was now o = ImportsText (features_of done force) store coming was now o

@@ -47,7 +47,8 @@ pub struct Outcome<A: Allocator> {
 ///
 /// Importing what was exported, in any form, makes the repository again, as far as its refs reach: the same refs and object names.
 ///
-/// `bundle`, `diff` and `merge-base` are refused by `ReadFailed`, too: they are asked of whatever holds objects.
+/// `bundle`, `diff` and `merge-base` are refused by `ReadFailed`, too: they are asked of whatever holds objects. So is an import
+/// with `--objects`, whose text is no stream.
 ///
 /// Cost: that of a copy of the store's text, and of reading it, where one is read; for `import` also that of the import
 /// and the next text, and for `export` that of the export.
@@ -267,7 +268,11 @@ fn room_of_change(change: &Change<'_>) -> Option<CliFault>
     ensures { result ≡ room_of_change change.now }
 {
     match change {
-        Change::Init { .. } | Change::Grow | Change::Push { .. } | Change::Put { .. } => None,
+        Change::Init { .. }
+        | Change::Grow
+        | Change::Objects { .. }
+        | Change::Push { .. }
+        | Change::Put { .. } => None,
         _ => Some(CliFault::Store(FileFault::OutOfMemory)),
     }
 }

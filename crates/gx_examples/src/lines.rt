@@ -31,6 +31,9 @@ $ import|f|--report % Change { file: \"f\", wait: None, change: Import { done: f
 $ import|f|--explain % Change { file: \"f\", wait: None, change: Import { done: false, force: false, report: false, explain: true } }
 $ import|--wait|3|f % Change { file: \"f\", wait: Some(3), change: Import { done: false, force: false, report: false, explain: false } }
 $ import|--push=p|f|--done % Change { file: \"f\", wait: None, change: Push { push: \"p\", done: true, report: false, explain: false } }
+$ import|--objects|f % Change { file: \"f\", wait: None, change: Objects { force: false, report: false, explain: false } }
+$ import|--wait=1|--force|f|--objects % Change { file: \"f\", wait: Some(1), change: Objects { force: true, report: false, explain: false } }
+$ import|--report|--objects|f|--explain % Change { file: \"f\", wait: None, change: Objects { force: false, report: true, explain: true } }
 $ put|f|--expect-stamp=new % Change { file: \"f\", wait: None, change: Put { stamp: \"new\" } }
 $ drop|f|refs/heads/a|b % Change { file: \"f\", wait: None, change: Drop { refs: [\"refs/heads/a\", \"b\"], stdin: false } }
 $ drop|f|--stdin % Change { file: \"f\", wait: None, change: Drop { refs: [], stdin: true } }
@@ -120,6 +123,10 @@ $ where|18446744073709551616 % refused
 $ where|1|f % refused
 $ import|--push=p|--force|f % refused
 $ import|f|--push % refused
+$ import|--objects|--done|f % refused
+$ import|--push=p|--objects|f % refused
+$ import|--objects|f|--objects % refused
+$ import|--objects % refused
 $ put|f % refused
 $ gc|f|--wait=x % refused
 $ where|1|--fault % refused

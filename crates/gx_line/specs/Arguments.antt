@@ -87,6 +87,10 @@ growing = flag (codes "growing")
 abbrev pub explain : Rule
 explain = flag (codes "explain")
 
+-- refs and objects are imported, and no stream
+abbrev pub objects : Rule
+objects = flag (codes "objects")
+
 -- a file that tells what refs are wanted to be
 abbrev pub push : Rule
 push = text (codes "push")

@@ -10,7 +10,7 @@ use Rattle.clap.specs.declared.error.kind.ErrorKind.{ErrorKind}
 use Rattle.clap.specs.declared.error.kind.ErrorKind.TheVariants as kind
 use Rattle.gx_line.specs.Arguments as rules
 use Rattle.gx_asks.specs.declared.change.Change.{Change as ChangeAsked}
-use Rattle.gx_asks.specs.declared.change.Change.TheVariants.{Init, Grow, Import, Push, Drop, SetRef, Put, Gc}
+use Rattle.gx_asks.specs.declared.change.Change.TheVariants.{Init, Grow, Import, Objects, Push, Drop, SetRef, Put, Gc}
 use Rattle.gx_asks.specs.declared.change.RefChange.{RefChange}
 use Rattle.gx_asks.specs.declared.question.BatchForm.{BatchForm}
 use Rattle.gx_asks.specs.declared.question.BatchForm.TheVariants as form
@@ -83,7 +83,7 @@ abbrev pub telling_import : App
 telling_import = with_rule (with_rule (with_features (file_command (codes "import"))) rules.report) rules.explain
 
 abbrev pub import_command : App
-import_command = with_wait (with_rule telling_import rules.push)
+import_command = with_wait (with_rule (with_rule telling_import rules.push) rules.objects)
 
 abbrev pub drop_command : App
 drop_command = with_wait (with_rule (with_rule (file_command (codes "drop")) rules.refs) rules.stdin)
@@ -301,6 +301,10 @@ IsWait rows wait = IsNumber (codes "wait") rows wait
 abbrev pub AreTold : List Row → Bool → Bool → Type 0
 AreTold rows report explain = IsFlag (codes "report") rows report × IsFlag (codes "explain") rows explain
 
+-- a stream is imported, and not refs and objects
+abbrev pub HasStream : List Row → Type 0
+HasStream rows = IsFlag (codes "objects") rows false
+
 -- a ref is set, or what standard input tells
 abbrev pub IsRefChange : List Row → Option RefChange → Type 0
 IsRefChange rows None = IsFlag (codes "stdin") rows true
@@ -360,9 +364,11 @@ unfoldable pub Alters : Text → List Row → ChangeAsked → Type 0
 Alters name rows (Init growing) = (name ≡ codes "init") × IsFlag (codes "growing") rows growing
 Alters name rows Grow = name ≡ codes "grow"
 Alters name rows (Import done force report explain) = (name ≡ codes "import") × (AreFeatures rows done force
-    × (AreTold rows report explain × (first_of (codes "push") rows ≡ None)))
+    × (AreTold rows report explain × (HasStream rows × (first_of (codes "push") rows ≡ None))))
+Alters name rows (Objects force report explain) = (name ≡ codes "import") × (AreFeatures rows false force
+    × (AreTold rows report explain × (IsFlag (codes "objects") rows true × (first_of (codes "push") rows ≡ None))))
 Alters name rows (Push push done report explain) = (name ≡ codes "import") × (AreFeatures rows done false
-    × (AreTold rows report explain × IsWord (codes "push") rows push))
+    × (AreTold rows report explain × (HasStream rows × IsWord (codes "push") rows push)))
 Alters name rows (Drop refs stdin) = (name ≡ codes "drop") × (IsFlag (codes "stdin") rows stdin × AreAnyWords (codes "ref") rows refs.items)
 Alters name rows (SetRef change force) = (name ≡ codes "set-ref") × (IsRefChange rows change × IsFlag (codes "force") rows force)
 Alters name rows (Put stamp) = (name ≡ codes "put") × IsWord (codes "expect-stamp") rows stamp

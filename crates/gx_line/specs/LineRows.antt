@@ -22,6 +22,7 @@ line_rows =
     ∷ record { words = codes "verify" ∷ codes "a.gx" ∷ []; taken = true }
     ∷ record { words = codes "import" ∷ codes "--report" ∷ codes "a.gx" ∷ []; taken = true }
     ∷ record { words = codes "import" ∷ codes "--push" ∷ codes "refs" ∷ codes "a.gx" ∷ []; taken = true }
+    ∷ record { words = codes "import" ∷ codes "--objects" ∷ codes "--force" ∷ codes "a.gx" ∷ []; taken = true }
     ∷ record { words = codes "gc" ∷ codes "--keep" ∷ codes "names" ∷ codes "a.gx" ∷ []; taken = true }
     ∷ record { words = codes "put" ∷ codes "--expect-stamp=new" ∷ codes "a.gx" ∷ []; taken = true }
     ∷ record { words = codes "bundle" ∷ codes "--head=main" ∷ codes "a.gx" ∷ []; taken = true }

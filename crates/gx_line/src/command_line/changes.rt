@@ -5,7 +5,8 @@ ghost use Rattle.clap.specs.Words.{found_of, rows_of};
 ghost use Rattle.gx_line.specs.CommandLine as say;
 
 use super::values::{
-    FORCED_PUSH, any_words_of, is_set, not_accepted, option_of, ref_change_of, word_of,
+    ENDED_OBJECTS, FORCED_PUSH, PUSHED_OBJECTS, any_words_of, is_set, not_accepted, option_of,
+    ref_change_of, word_of,
 };
 use crate::LineFault;
 use clap::ArgMatches;
@@ -57,6 +58,9 @@ fn import_of<'a>(alloc: Global, matches: &ArgMatches<'a>) -> Result<Change<'a>, 
     ensures refused { IfErr result
         (say.IsRefused (codes "import") (rows_of (found_of matches.now))) }
 {
+    if is_set(matches, "objects") {
+        return objects_of(alloc, matches);
+    }
     let done = is_set(matches, "done");
     let force = is_set(matches, "force");
     let report = is_set(matches, "report");
@@ -75,5 +79,26 @@ fn import_of<'a>(alloc: Global, matches: &ArgMatches<'a>) -> Result<Change<'a>, 
             report,
             explain,
         }),
+    }
+}
+
+/// An import of refs and objects. These have no command `done`, and say themselves what refs become.
+#[tactic(auto, unfolding(crate::specs::CommandLine::Says, crate::specs::CommandLine::Asks, crate::specs::CommandLine::Alters, crate::specs::CommandLine::Tries))]
+fn objects_of<'a>(alloc: Global, matches: &ArgMatches<'a>) -> Result<Change<'a>, LineFault>
+    requires objects { say.IsFlag (codes "objects") (rows_of (found_of matches.now)) true }
+    ensures change { IfOk result (say.Alters (codes "import") (rows_of (found_of matches.now))) }
+    ensures refused { IfErr result
+        (say.IsRefused (codes "import") (rows_of (found_of matches.now))) }
+{
+    if is_set(matches, "done") {
+        return Err(not_accepted(alloc, ENDED_OBJECTS));
+    }
+    match option_of(matches, "push") {
+        None => Ok(Change::Objects {
+            force: is_set(matches, "force"),
+            report: is_set(matches, "report"),
+            explain: is_set(matches, "explain"),
+        }),
+        Some(_) => Err(not_accepted(alloc, PUSHED_OBJECTS)),
     }
 }

@@ -246,8 +246,14 @@ fn import_command<'a>(alloc: Global) -> Result<Command<'a>, AllocError>
         "Wants the refs to be as the lines of F have them, and changes\n\
          no others",
     );
+    let objects = flag(
+        alloc,
+        "objects",
+        "Imports refs and objects as git prints them, in place of a\n\
+         stream",
+    );
     let import = with_argument(telling_import(alloc), push);
-    with_wait(alloc, import)
+    with_wait(alloc, with_argument(import, objects))
 }
 
 /// An import with what it can be asked to tell.

@@ -67,6 +67,7 @@ Exit status:
 
 Refusals:
   gx: command N: KIND   the Nth command of the stream, from 1
+  gx: object N: KIND    the Nth ref or object, as gx import --help has it
   gx: push N: KIND      the Nth line of F, as gx import --help has it
   gx: ref N: KIND       the Nth change of a ref, as gx set-ref --help has it
   gx: keep N: BadLine   the Nth line of F is no 40 digits

@@ -25,6 +25,20 @@ error: the argument '--push <F>' cannot be used with '--force'
 For more information, try '--help'.
 ";
 
+/// What is said of --objects beside --done, in the manner of clap.
+pub(super) const ENDED_OBJECTS: &str = "\
+error: the argument '--objects' cannot be used with '--done'
+
+For more information, try '--help'.
+";
+
+/// What is said of --objects beside --push, in the manner of clap.
+pub(super) const PUSHED_OBJECTS: &str = "\
+error: the argument '--objects' cannot be used with '--push <F>'
+
+For more information, try '--help'.
+";
+
 /// What is said of --is-ancestor with several other revisions, in the manner of clap.
 pub(super) const ONE_DESCENDANT: &str = "\
 error: the argument '--is-ancestor' takes one OTHER

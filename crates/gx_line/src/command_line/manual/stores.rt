@@ -94,7 +94,15 @@ the stream is read, and what may become of it:
             is no such ref. It only moves forward
   +OLD REF  the same, but it may lose commits
   -OLD REF  the ref is removed once the stream is read
-No other ref changes, and nothing is published before all of the stream is read.",
+No other ref changes, and nothing is published before all of the stream is read.
+
+With --objects standard input has refs and objects in place of a stream, in any
+order, as these commands print them:
+  git for-each-ref --format='%(objectname) %(refname)'
+  git cat-file --batch
+An object keeps the name that stands there, which has to be that of its bytes.
+What objects and refs name is there, too, or in FILE already. A ref of forty
+zeros is dropped. All comes in, or nothing. --done and --push are for streams.",
     details: "\
 Output:
   The lines of the stream's progress commands, as they come. What was printed
@@ -134,6 +142,10 @@ Refusals, each of which leaves FILE as it was but for those checkpoints:
                         RootNotTree, FromItself, EmptyBranch, Unsupported,
                         LateOption, MissingDone, NotFastForward, NameHeld,
                         BadRevision, UnknownRef, Ambiguous or NoParent
+  gx: object N: KIND    the Nth of what --objects brings. KIND is TruncatedData,
+                        BadLine, BadNumber, Missing, BadRefName, NameMismatch,
+                        BadObject, NameHeld, Dangling, WrongKind or
+                        NotFastForward
   gx: push N: KIND      the Nth line of F. KIND is RefMoved where FILE has
                         another OLD, NotFastForward where the ref would lose
                         commits, or BadLine where it isn't such a line or its

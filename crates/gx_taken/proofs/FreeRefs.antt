@@ -14,7 +14,7 @@ use Rattle.gx_model.specs.Stores.StoreReading.{is_target, is_target_of_kind}
 use Rattle.gx_repo.specs.Dropping.{is_among}
 use Rattle.gx_wide.specs.Placing.{Dangling, TakeFault, WrongKind, is_dropped}
 use Rattle.gx_taken.specs.Setting.{HaveRefNames}
-use Rattle.gx_taken.specs.Taking.{first_refused, move_fault, ref_fault, set_fault, untaken}
+use Rattle.gx_taken.specs.Taking.{Refusal, first_refused, move_fault, ref_fault, set_fault, untaken}
 use Rattle.gx_taken.proofs.ToldRefs.{turn, turned}
 
 module _ (force : Bool) (r : Records) where
@@ -26,13 +26,20 @@ module _ (force : Bool) (r : Records) where
   abbrev model_fault : Ref → Option Record → Option Fault
   model_fault ref o = if not (is_some o) then Some model.UnknownObject else (if not (is_target ref.0 o) then Some model.WrongKind else None)
 
+  -- what is against it, by what is held of it
+  abbrev object_fault : Ref → Option Record → Option TakeFault
+  object_fault ref o = elim o [
+    | None ↦ Some (Dangling ref.0 ref.1)
+    | Some held ↦ if not (is_target_of_kind ref.0 held.kind held.body) then Some (WrongKind ref.0) else moved ref
+  ]
+
   set_free : (ref : Ref) → IsTrue (is_ref_name ref.0) → set_fault force r ref ≡ None → change_fault r.records ref ≡ None
   set_free ref name free = ap (λ b. if not b then Some model.BadRefName else model_fault ref (record_named r.records ref.1)) name ∙ by (record_named r.records ref.1) free where
     may : (b : Bool) → (if not b then Some (WrongKind ref.0) else moved ref) ≡ None → (if not b then Some model.WrongKind else None) ≡ None
     may true e = refl
     may false e = absurd (cc e)
 
-    by : (o : Option Record) → elim o [ None ↦ Some (Dangling ref.0 ref.1) | Some held ↦ if not (is_target_of_kind ref.0 held.kind held.body) then Some (WrongKind ref.0) else moved ref ] ≡ None → model_fault ref o ≡ None
+    by : (o : Option Record) → object_fault ref o ≡ None → model_fault ref o ≡ None
     by None e = absurd (cc e)
     by (Some held) e = may (is_target_of_kind ref.0 held.kind held.body) e
 
@@ -48,9 +55,13 @@ module _ (force : Bool) (r : Records) where
     by false true one = others
     by false false one = ap (λ f. option_or f (changes_fault r.records later.1)) (one refl) ∙ others
 
+  -- what is against one, or the others
+  abbrev or_others : ℕ × Ref → List (ℕ × Ref) → Option TakeFault → Option (ℕ × Refusal)
+  or_others told others f = elim f [ None ↦ first_refused force r others | Some fault ↦ Some (told.0, untaken fault) ]
+
   first_free : (told : ℕ × Ref) (others : List (ℕ × Ref)) → first_refused force r (told ∷ others) ≡ None → (ref_fault force r told.1 ≡ None) × (first_refused force r others ≡ None)
   first_free told others e = by (ref_fault force r told.1) e where
-    by : (f : Option TakeFault) → elim f [ None ↦ first_refused force r others | Some fault ↦ Some (told.0, untaken fault) ] ≡ None → (f ≡ None) × (first_refused force r others ≡ None)
+    by : (f : Option TakeFault) → or_others told others f ≡ None → (f ≡ None) × (first_refused force r others ≡ None)
     by None e = (refl, e)
     by (Some fault) e = absurd (cc e)
 

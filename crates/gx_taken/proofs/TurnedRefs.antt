@@ -1,10 +1,10 @@
 -- What comes of refs that are looked at from the last one on.
 use Rattle.std.proofs.Common.{◌≡◌, ℕ, ◌+◌, ◌<◌, ◌≤◌, Bool, true, false, cond, List, [], ◌∷◌, ◌++◌, append-nil, append_assoc, length, map, drop, get_or, Option, Some, None, refl, sym, ap, subst, ◌∙◌, drop_of_length-le}
-use Rattle.std.specs.Prelude.{T, not, is_some, ◌&&◌, ◌||◌, if◌then◌else◌}
+use Rattle.std.specs.Prelude.{T, not, is_some, ◌&&◌, ◌||◌, if◌then◌else◌, reverse}
 use Rattle.std.specs.Borrow.{Bor}
 use Rattle.std.specs.BTreeMap.{is_at}
 use Rattle.std.specs.BTreeSet.{BTreeSet}
-use Rattle.std.specs.List.{list_any, reverse}
+use Rattle.std.specs.List.{list_any}
 use Rattle.std.specs.Map.{lookup}
 use Rattle.std.specs.Bool.{passes}
 use Rattle.std.specs.FinMap.Entries.{find, is_sorted, same_entries}
@@ -29,6 +29,13 @@ use Rattle.gx_taken.proofs.ToldRefs.{all_turned, found_left, sorted_left, turn, 
 pub found : (n : Bytes) (refs : List Ref) → find byte_cmp n refs ≡ lookup (same_bytes n) refs
 found n [] = refl
 found n (r ∷ rs) = λ i. cond (is_eq-slice_cmp n r.0 i) (Some r.1) (found n rs i)
+
+abbrev no_object : Option Bytes
+no_object = None
+
+either : (b : Bool) → cond b no_object no_object ≡ no_object
+either true = refl
+either false = refl
 
 -- ---- names that can be dropped
 
@@ -87,10 +94,7 @@ module _ (refs : List Ref) where
       (λ q. found_left names q refs ∙ by q (is_among names q) (is_among others q) (find byte_cmp q refs) (h.named q ∙ ap (λ o. is_among others q && is_some o) (sym (found q refs))) ∙ sym (found_left others q refs))
     where
       by : (q : Bytes) (a b : Bool) (o : Option Bytes) → a ≡ (b && is_some o) → cond (not a) o None ≡ cond (not b) o None
-      by q a b None e = none (not a) ∙ sym (none (not b)) where
-        none : (b : Bool) → cond b None None ≡ None
-        none true = refl
-        none false = refl
+      by q a b None e = either (not a) ∙ sym (either (not b))
       by q a true (Some x) e = ap (λ b. cond (not b) (Some x) None) e
       by q a false (Some x) e = ap (λ b. cond (not b) (Some x) None) e
 

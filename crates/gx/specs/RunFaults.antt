@@ -1,5 +1,6 @@
 -- What a refused run prints on standard error. Source: this project's own.
 use Rattle.std.specs.Prelude.{ℕ, List, ◌++◌, codes}
+use Rattle.std.specs.Fmt.{decimal}
 use Rattle.gx_changes.specs.declared.fault.ChangesFault.{ChangesFault}
 use Rattle.gx_changes.specs.declared.fault.ChangesFault.TheVariants as changes
 use Rattle.gx_cli.specs.FaultLines as command
@@ -16,7 +17,6 @@ use Rattle.gx_questions.specs.declared.fault.AskFault.TheVariants as ask
 use Rattle.gx_ranges.specs.declared.fault.RangeFault.{RangeFault}
 use Rattle.gx_told.specs.declared.fault.ToldFault.{ToldFault}
 use Rattle.gx_told.specs.declared.fault.ToldFault.TheVariants as told
-use Rattle.gx_model.specs.Texts.Numbers.{number_text}
 use Rattle.gx.specs.declared.fault.RunFault.{RunFault}
 use Rattle.gx.specs.declared.fault.RunFault.TheVariants.{Command, LockFailed, LongName, StoreChanged, BadStamp, RandomFailed, Damaged, NotSmall, ManyObjects, EmptyBundle, Item}
 
@@ -32,7 +32,7 @@ line_of Damaged = codes "gx: store: Damaged"
 line_of NotSmall = codes "gx: no small repository"
 line_of ManyObjects = codes "gx: bundle: Unsupported"
 line_of EmptyBundle = codes "gx: bundle: Empty"
-line_of (Item number word) = codes "gx: object " ++ number_text number ++ codes ": " ++ word.now
+line_of (Item number word) = codes "gx: object " ++ decimal number ++ codes ": " ++ word.now
 
 -- why a run is refused that can't look into its store
 abbrev pub of_look : LookFault → RunFault

@@ -1,5 +1,5 @@
 -- Nothing is against the changes of refs that aren't refused.
-use Rattle.std.proofs.Common.{◌≡◌, ℕ, Bool, true, false, List, [], ◌∷◌, map, Option, Some, None, refl, sym, ap, subst, ◌∙◌}
+use Rattle.std.proofs.Common.{◌≡◌, ℕ, Bool, true, false, List, [], ◌∷◌, map, Option, Some, None, Ok, Err, refl, sym, ap, subst, ◌∙◌}
 use Rattle.std.specs.Prelude.{IsTrue, not, is_some, if◌then◌else◌}
 use Rattle.std.specs.Map.{lookup}
 use Rattle.std.specs.Option.{option_or}
@@ -7,11 +7,14 @@ use Rattle.gx_model.specs.declared.faults.Fault.{Fault}
 use Rattle.gx_model.specs.declared.faults.Fault.TheVariants as model
 use Rattle.gx_model.specs.Texts.{Bytes, same_bytes}
 use Rattle.gx_model.specs.Texts.RefNames.{is_ref_name}
+use Rattle.gx_model.specs.Faults.{unless}
 use Rattle.gx_model.specs.Histories.{Record, Records}
+use Rattle.gx_model.specs.Laws.RepositoryLaws.{with_refs}
 use Rattle.gx_model.specs.Records.Growth.{record_named}
-use Rattle.gx_model.specs.Records.Publishing.{Change, Ref, change_fault, changes_fault}
+use Rattle.gx_model.specs.Records.Publishing.{Change, Ref, change_fault, changes_fault, published, with_changes}
 use Rattle.gx_model.specs.Stores.StoreReading.{is_target, is_target_of_kind}
-use Rattle.gx_repo.specs.Dropping.{is_among}
+use Rattle.gx_repo.proofs.DroppedRefs.{are_left, none_unknown}
+use Rattle.gx_repo.specs.Dropping.{dropped, is_among, unknown_behind, without}
 use Rattle.gx_wide.specs.Placing.{Dangling, TakeFault, WrongKind, is_dropped}
 use Rattle.gx_taken.specs.Setting.{HaveRefNames}
 use Rattle.gx_taken.specs.Taking.{Refusal, first_refused, move_fault, ref_fault, set_fault, untaken}
@@ -71,3 +74,29 @@ module _ (force : Bool) (r : Records) where
   all_free (t ∷ ts) names e =
       let both = first_free t ts e in
       turn_free t.1 (turned (map (λ it. it.1) ts)) (one_free t.1 names.0 both.0) (all_free ts names.1 both.1)
+
+-- ---- what comes of them
+
+-- names that are known are dropped
+pub left_by_drop : (old new : Records) (names : List Bytes) → new.records ≡ old.records → dropped names old.refs ≡ Ok new.refs → new ≡ with_refs old (without names old.refs)
+left_by_drop old new names records left =
+    let same : new ≡ with_refs old new.refs = rw (sym records) refl in
+    same ∙ ap (with_refs old) (are_left names old.refs new.refs left)
+
+pub never_unknown : (refs : List Ref) (names : List Bytes) (number : ℕ) → unknown_behind refs [] names ≡ None → dropped names refs ≡ Err number → ⊥
+never_unknown refs names number known h = let bad = sym (none_unknown names refs known) ∙ h in cc bad
+
+-- changes against which there is nothing are made
+all_made : (r : Records) (changes : List Change) → changes_fault r.records changes ≡ None → published r changes ≡ Ok (with_changes r.refs changes)
+unfolding published
+all_made r changes e = ap (λ f. unless f (with_changes r.refs changes)) e
+
+pub never_refused : (r : Records) (changes : List Change) (fault : Fault) → changes_fault r.records changes ≡ None → published r changes ≡ Err fault → ⊥
+never_refused r changes fault e h = let bad = sym (all_made r changes e) ∙ h in cc bad
+
+pub left_by_changes : (old new : Records) (changes : List Change) → changes_fault old.records changes ≡ None → new.records ≡ old.records → published old changes ≡ Ok new.refs → new ≡ with_refs old (with_changes old.refs changes)
+left_by_changes old new changes e records h =
+    let same : new ≡ with_refs old new.refs = rw (sym records) refl in
+    let both = sym (all_made old changes e) ∙ h in
+    let refs : with_changes old.refs changes ≡ new.refs = cc both in
+    same ∙ ap (with_refs old) (sym refs)

@@ -1,3 +1,9 @@
 mod ToldRefs
 mod FreeRefs
 mod TurnedRefs
+mod GoodItems
+mod CheckedRefs
+mod Splits
+mod SplitOffers
+mod NumberedLabels
+mod Takings

@@ -1,5 +1,5 @@
 -- What comes of refs that are looked at from the last one on.
-use Rattle.std.proofs.Common.{◌≡◌, ℕ, ◌+◌, ◌<◌, ◌≤◌, Bool, true, false, cond, List, [], ◌∷◌, ◌++◌, append-nil, append_assoc, length, map, drop, get_or, Option, Some, None, refl, sym, ap, subst, ◌∙◌, drop_of_length-le}
+use Rattle.std.proofs.Common.{◌≡◌, ℕ, ◌+◌, ◌-◌, ◌<◌, ◌≤◌, Bool, true, false, cond, List, [], ◌∷◌, ◌++◌, append-nil, append_assoc, length, map, drop, get_or, Option, Some, None, refl, sym, ap, subst, ◌∙◌, arith, drop_of_length-le}
 use Rattle.std.specs.Prelude.{T, not, is_some, ◌&&◌, ◌||◌, if◌then◌else◌, reverse}
 use Rattle.std.specs.Borrow.{Bor}
 use Rattle.std.specs.BTreeMap.{is_at}
@@ -130,17 +130,14 @@ module _ {A : Type 0} (refs : List Ref) (items : List (RefItem A)) where
         changes_are = c ∙ ap (λ (l : List Bytes × List Change). l.1) (sym none);
       }
 
-  module _ (place : ℕ) (seen : BTreeSet (Bor Bytes)) (names : List Bytes) (changes : List Change) (d : RefItem A) (lt : place < length items) (h : AreLooked (place + 1) seen names changes) where
-    abbrev told : Ref
-    told = ref_offered (get_or items place d).offered
-
+  module _ (place : ℕ) (seen : BTreeSet (Bor Bytes)) (names : List Bytes) (changes : List Change) (d : RefItem A) (told : Ref) (lt : place < length items) (told_is : told ≡ ref_offered (get_or items place d).offered) (h : AreLooked (place + 1) seen names changes) where
     abbrev behind : List Bytes × List Change
     behind = later items (place + 1)
 
     -- what comes of the next one
     by_turn : (a b : Bool) → is_among behind.0 told.0 ≡ a → is_dropped told.1 ≡ b → later items place ≡ (if a then behind else (if b then (told.0 ∷ behind.0, behind.1) else (behind.0, told ∷ behind.1)))
     by_turn a b e f =
-        at_next items place d lt ∙ ap (λ t. if t then behind else (if is_dropped told.1 then (told.0 ∷ behind.0, behind.1) else (behind.0, told ∷ behind.1))) e
+        at_next items place d lt ∙ ap (λ t. turn t behind) (sym told_is) ∙ ap (λ t. if t then behind else (if is_dropped told.1 then (told.0 ∷ behind.0, behind.1) else (behind.0, told ∷ behind.1))) e
         ∙ ap (λ t. if a then behind else (if t then (told.0 ∷ behind.0, behind.1) else (behind.0, told ∷ behind.1))) f
 
     same : (now : List Bytes × List Change) → later items place ≡ now → AreIn seen now.0 → AreDroppable refs names now.0 → changes ≡ now.1 → AreLooked place seen names changes
@@ -209,3 +206,8 @@ all_looked r items seen names changes s free h =
 -- a list that is made from its end on
 pub reversed_more : {V X : Type 0} (see : V → X) (vs now : List V) (v : V) → now ≡ vs ++ v ∷ [] → map see (reverse now) ≡ see v ∷ map see (reverse vs)
 reversed_more see vs now v e = ap (λ xs. map see (reverse xs)) e ∙ ap (map see) (reverse-append vs (v ∷ []))
+
+-- the place before one that isn't the first
+pub before : {A : Type 0} (refs : List Ref) (items : List (RefItem A)) (place : ℕ) (seen : BTreeSet (Bor Bytes)) (names : List Bytes) (changes : List Change) → 0 < place → AreLooked refs items place seen names changes
+    → AreLooked refs items (place - 1 + 1) seen names changes
+before refs items place seen names changes lt h = let same : place ≡ place - 1 + 1 = omega arith in subst (λ n. AreLooked refs items n seen names changes) same h

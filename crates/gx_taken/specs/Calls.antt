@@ -1,6 +1,6 @@
 -- What the calls answer that take what is offered.
-use Rattle.std.specs.Prelude.{◌≡◌, ℕ, true, false, List, Option, None, Some, Result, Ok, Err, IfOk, IsTrue, ⊤}
-use Rattle.std.specs.List.{AllByRecursion}
+use Rattle.std.specs.Prelude.{◌≡◌, ℕ, Bool, true, false, List, Option, None, Some, Result, Ok, Err, IfOk, IsTrue, ⊤}
+use Rattle.std.specs.List.{AllByRecursion, slice_get}
 use Rattle.std.specs.Option.{option_map}
 use Rattle.gx_model.specs.declared.objects.Kind.{Kind}
 use Rattle.gx_model.specs.Texts.{Bytes}
@@ -10,12 +10,18 @@ use Rattle.gx_text.specs.Devices.{Coming}
 use Rattle.gx_stream.specs.Heard.{heard}
 use Rattle.gx_wide.specs.ObjectsTexts.{Item, object_item, ref_item}
 use Rattle.gx_repo.specs.Repositories.{Repository}
+use Rattle.gx_object.specs.declared.name.Name.{Name}
+use Rattle.gx_placed.specs.declared.fault.ObjectFault.{ObjectFault}
+use Rattle.gx_placed.specs.declared.fault.ObjectFault.TheVariants as object
+use Rattle.gx_taken.specs.Parts.{shown_labels}
 use Rattle.gx_taken.specs.Refusals.{shown_refused}
 use Rattle.gx_wide.specs.Placing as placing
-use Rattle.gx_taken.specs.Taking.{Refusal, text_taken, untaken}
+use Rattle.gx_taken.specs.Taking.{Refusal, number_named, taken, text_taken, untaken}
 use Rattle.gx_taken.specs.declared.fault.Refused.{Refused}
+use Rattle.gx_taken.specs.declared.fault.Refused.TheVariants as refused
 use Rattle.gx_taken.specs.declared.fault.TakeFault.{TakeFault}
 use Rattle.gx_taken.specs.declared.fault.TakeFault.TheVariants as fault
+use Rattle.gx_taken.specs.declared.parts.Label.{Label}
 
 -- the name of a ref is one, and an object has its own
 abbrev pub IsGoodItem : (Kind → Bytes → Bytes) → Item → Type 0
@@ -56,3 +62,14 @@ ChecksRefs given (Err (fault.Item number kind)) = given ≡ Some (number, shown_
 -- this is against a ref, or nothing
 abbrev pub TellsAgainst : {A E : Type 0} → Option placing.TakeFault → Result (Option (Refused A)) E → Type 0
 TellsAgainst given result = IfOk result (λ against. option_map shown_refused against ≡ option_map untaken given)
+
+-- the refusal of an object of this name
+abbrev pub object_refused : {A : Type 0} → Name → ObjectFault → Refused A
+object_refused name object.BadObject = refused.BadObject name
+object_refused name object.NameHeld = refused.NameHeld name
+object_refused name (object.Dangling link) = refused.Dangling name link
+
+-- the same of the object at a place, with the number of the first item that gives it
+abbrev pub IsUnplaced : {A : Type 0} → List Label → ℕ → ObjectFault → TakeFault A → Type 0
+IsUnplaced labels at against told =
+    (label : Label) → slice_get labels at ≡ Some label → told ≡ fault.Item (number_named (shown_labels labels) label.name.bytes) (object_refused label.name against)

@@ -3,24 +3,16 @@ use Rattle.std.specs.Prelude.{◌≡◌, ℕ, Bool, List, map}
 use Rattle.std.specs.List.{list_any}
 use Rattle.std.specs.declared.vec.Vec.{Vec}
 use Rattle.gx_model.specs.Texts.{Bytes, same_bytes}
-use Rattle.gx_model.specs.Histories.{Record}
 use Rattle.gx_model.specs.Records.Publishing.{Ref}
 use Rattle.gx_store.specs.Bodies.{bytes_of}
 use Rattle.gx_wide.specs.ObjectsTexts.{Item}
 use Rattle.gx_wide.specs.Placing.{given_in}
-use Rattle.gx_offered.specs.declared.offered.OfferedObject.{OfferedObject}
+use Rattle.gx_placed.specs.Places.{shown_given}
 use Rattle.gx_offered.specs.declared.offered.OfferedRef.{OfferedRef}
 use Rattle.gx_taken.specs.Taking.{names_told, refs_told}
 use Rattle.gx_taken.specs.declared.parts.Label.{Label}
 use Rattle.gx_taken.specs.declared.parts.Parts.{Parts}
 use Rattle.gx_taken.specs.declared.parts.RefItem.{RefItem}
-
--- an object as it is given
-abbrev pub given_record : {A : Type 0} → OfferedObject A → Record
-given_record given = record { name = given.name.bytes; kind = given.kind; body = bytes_of given.body }
-
-abbrev pub given_records : {A : Type 0} → List (OfferedObject A) → List Record
-given_records = map given_record
 
 -- a ref as it is offered
 abbrev pub ref_offered : {A : Type 0} → OfferedRef A → Ref
@@ -40,7 +32,7 @@ shown_labels = map shown_label
 
 -- the parts of these items
 pub record ArePartsOf {A : Type 0} (items : List Item) (parts : Parts A) : Type 0 where
-  pub objects : given_records parts.objects.items ≡ given_in items
+  pub objects : shown_given parts.objects ≡ given_in items
   pub labels : shown_labels parts.labels.items ≡ names_told 1 items
   pub refs : shown_ref_items parts.refs.items ≡ refs_told 1 items
 

@@ -3,7 +3,7 @@
 ghost use Rattle.std.specs.Prelude.{◌≡◌, ◌<◌, IfOk, length};
 ghost use Rattle.gx_model.specs.Records.Sound.{IsSound};
 ghost use Rattle.gx_offered.specs.Items.{shown_offer};
-ghost use Rattle.gx_taken.specs.Calls.{AreGoodItems, IsTaken, TakesText, is_unplaced};
+ghost use Rattle.gx_taken.specs.Calls.{AreGoodItems, IsTaken, IsUnplaced, TakesText};
 ghost use Rattle.gx_taken.specs.Taking.{taken};
 
 use crate::checking::check_refs;
@@ -81,7 +81,7 @@ pub fn take<N: Namer + Drop, A: Allocator + Copy>(
 /// The refusal of the object at this place of those that are given.
 fn unplaced<A: Allocator>(labels: &[Label], at: usize, fault: ObjectFault) -> TakeFault<A>
     requires { at < length labels.now }
-    ensures { result ≡ TODO }
+    ensures { IsUnplaced labels.now at fault result }
 {
     let name = labels[at].name;
     let kind = match fault {

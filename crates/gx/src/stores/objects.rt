@@ -38,7 +38,7 @@ pub(crate) fn import_objects(
     if report {
         tell_changes(run, &changes);
     }
-    let objects = repo.store().len() - held;
+    let objects = repo.store().len().saturating_sub(held);
     let refs = changes.iter().filter(|byte| **byte == b'\n').count();
     tell_taken(run, objects, refs, report);
     if form == StoreForm::Plain {

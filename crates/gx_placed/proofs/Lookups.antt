@@ -18,20 +18,20 @@ use Rattle.gx_placed.specs.Machine.{place_in, slot_at, waits}
 -- two names are one, or the test tells them apart
 pub one_or_two : (x y : Bytes) → (x ≡ y) ⊎ (same_bytes x y ≡ false)
 one_or_two x y = elim (same_bytes x y) as (λ b. same_bytes x y ≡ b → (x ≡ y) ⊎ (same_bytes x y ≡ false)) [
-    | true ↦ λ e. inl (same_is x y (passes _ e))
-    | false ↦ λ e. inr e
-  ] refl
+  | true ↦ λ e. inl (same_is x y (passes _ e))
+  | false ↦ λ e. inr e
+] refl
 
 -- names that the test tells apart are told apart the other way round
 pub apart_too : (x y : Bytes) → same_bytes x y ≡ false → same_bytes y x ≡ false
 apart_too x y e = elim (one_or_two y x) [
-    | inl same ↦ absurd (other x y e (sym same))
-    | inr apart ↦ apart
-  ]
+  | inl same ↦ absurd (other x y e (sym same))
+  | inr apart ↦ apart
+]
 
 -- what isn't one is two
 pub two : (x y : Bytes) → (x ≡ y → ⊥) → same_bytes x y ≡ false
-two x y n = elim (one_or_two x y) [ | inl same ↦ absurd (n same) | inr apart ↦ apart ]
+two x y n = elim (one_or_two x y) [ inl same ↦ absurd (n same) | inr apart ↦ apart ]
 
 -- ---- records
 
@@ -47,17 +47,17 @@ behind_front rs r n e = ap (λ b. cond b (Some r) (record_named rs n)) e
 pub found_still : (rs more : List Record) (n : Bytes) (r : Record) → record_named rs n ≡ Some r → record_named (rs ++ more) n ≡ Some r
 found_still [] more n r e = absurd (cc)
 found_still (s ∷ rs) more n r e = elim (one_or_two n s.name) [
-    | inl same ↦ at_front (rs ++ more) s n same ∙ sym (at_front rs s n same) ∙ e
-    | inr apart ↦ behind_front (rs ++ more) s n apart ∙ found_still rs more n r (sym (behind_front rs s n apart) ∙ e)
-  ]
+  | inl same ↦ at_front (rs ++ more) s n same ∙ sym (at_front rs s n same) ∙ e
+  | inr apart ↦ behind_front (rs ++ more) s n apart ∙ found_still rs more n r (sym (behind_front rs s n apart) ∙ e)
+]
 
 -- a name that isn't found is looked for behind
 pub found_behind : (rs more : List Record) (n : Bytes) → record_named rs n ≡ None → record_named (rs ++ more) n ≡ record_named more n
 found_behind [] more n e = refl
 found_behind (s ∷ rs) more n e = elim (one_or_two n s.name) [
-    | inl same ↦ (let k : Some s ≡ None = sym (at_front rs s n same) ∙ e in absurd (cc))
-    | inr apart ↦ behind_front (rs ++ more) s n apart ∙ found_behind rs more n (sym (behind_front rs s n apart) ∙ e)
-  ]
+  | inl same ↦ (let k : Some s ≡ None = sym (at_front rs s n same) ∙ e in absurd (cc))
+  | inr apart ↦ behind_front (rs ++ more) s n apart ∙ found_behind rs more n (sym (behind_front rs s n apart) ∙ e)
+]
 
 -- a name that isn't found behind one more isn't found without it
 pub free_before : (rs more : List Record) (n : Bytes) → record_named (rs ++ more) n ≡ None → record_named rs n ≡ None
@@ -108,16 +108,16 @@ none_found a (r ∷ rs) =
 -- what is found among them is found among all
 pub found_among_all : (a n : Bytes) (rs : List Record) (r : Record) → record_named (others a rs) n ≡ Some r → (same_bytes a n ≡ false) × (record_named rs n ≡ Some r)
 found_among_all a n rs r e = elim (one_or_two a n) [
-    | inl same ↦ (let k : None ≡ Some r = sym (subst (λ x. record_named (others a rs) x ≡ None) same (none_found a rs)) ∙ e in absurd (cc))
-    | inr apart ↦ (apart, sym (other_found a n rs apart) ∙ e)
-  ]
+  | inl same ↦ (let k : None ≡ Some r = sym (subst (λ x. record_named (others a rs) x ≡ None) same (none_found a rs)) ∙ e in absurd (cc))
+  | inr apart ↦ (apart, sym (other_found a n rs apart) ∙ e)
+]
 
 -- what isn't found isn't found among them
 pub free_among : (a n : Bytes) (rs : List Record) → record_named rs n ≡ None → record_named (others a rs) n ≡ None
 free_among a n rs e = elim (one_or_two a n) [
-    | inl same ↦ subst (λ x. record_named (others a rs) x ≡ None) same (none_found a rs)
-    | inr apart ↦ other_found a n rs apart ∙ e
-  ]
+  | inl same ↦ subst (λ x. record_named (others a rs) x ≡ None) same (none_found a rs)
+  | inr apart ↦ other_found a n rs apart ∙ e
+]
 
 -- ---- those that wait
 
@@ -154,7 +154,7 @@ none_waits (r ∷ given) (slot ∷ slots) n p e =
     by it (Some q) f k g =
         let z : suc q ≡ p = cc g in
         subst (λ j. waits (r ∷ given) (set (slot ∷ slots) j None) n ≡ None) z
-          (ap (λ b. cond b slot (waits given (set slots q None) n)) k ∙ it q f)
+        (ap (λ b. cond b slot (waits given (set slots q None) n)) k ∙ it q f)
 
 -- another name finds what waited under it
 pub waits_still : (given : List Record) (slots : List (Option Record)) (r : Record) (n : Bytes) (p : ℕ) → slice_get given p ≡ Some r → same_bytes n r.name ≡ false → waits given (set slots p None) n ≡ waits given slots n
@@ -178,7 +178,7 @@ first_there P [] r p e a f = absurd (cc)
 first_there P (s ∷ given) r zero e a f =
     let z : s ≡ r = cc e in
     subst (λ (x : Record). (place_in (x ∷ given) r.name ≡ Some zero) × (record_named (x ∷ given) r.name ≡ Some r)) (sym z)
-      (ap (λ b. cond b (Some zero) (option_map suc (place_in given r.name))) (same_itself r.name), at_front given r r.name refl)
+    (ap (λ b. cond b (Some zero) (option_map suc (place_in given r.name))) (same_itself r.name), at_front given r r.name refl)
 first_there P (s ∷ given) r (suc p) e a f =
     let k = f s a.0 in
     let h = first_there P given r p e a.1 f in
@@ -191,8 +191,8 @@ place_named_so (r ∷ given) n p e =
     elim (one_or_two n r.name) [
       | inl same ↦
           (let f : Some zero ≡ Some p = sym (ap (λ b. cond b (Some zero) (option_map suc (place_in given n))) (subst (λ x. same_bytes n x ≡ true) same (same_itself n))) ∙ e in
-           let z : zero ≡ p = cc f in
-           (r, subst (λ q. slice_get (r ∷ given) q ≡ Some r) z refl, sym same))
+          let z : zero ≡ p = cc f in
+          (r, subst (λ q. slice_get (r ∷ given) q ≡ Some r) z refl, sym same))
       | inr apart ↦ by (λ q. place_named_so given n q) (place_in given n) refl (sym (ap (λ b. cond b (Some zero) (option_map suc (place_in given n))) apart) ∙ e)
     ]
   where

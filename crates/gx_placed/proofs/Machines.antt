@@ -12,9 +12,9 @@ use Rattle.gx_model.proofs.Records.GrownRecords.{kind_is}
 use Rattle.gx_model.proofs.Records.HeldValues.{kinds_same}
 use Rattle.gx_wide.specs.Placing.{wide_links}
 use Rattle.gx_placed.specs.Placed.{others}
-use Rattle.gx_placed.specs.Machine.{AreBegun, AreSlots, Begun, IsAmong, IsBegun, IsCovered, IsLooked, IsMachine, IsUnderWay, beside, count, place_in, slot_at, waits, weight, weight_of}
+use Rattle.gx_placed.specs.Machine.{AreBegun, AreSlots, Begun, IsAmong, IsBegun, IsCovered, IsLooked, IsMachine, IsUnderWay, beside, count, looked_at, place_in, slot_at, waits, weight, weight_of}
 use Rattle.gx_placed.proofs.Lookups.{all_wait, apart_too, first_there, found_among_all, found_last, found_still, free_among, free_before, free_still, none_found, none_waits, one_or_two, other_found, place_named_so, two, waits_at, waits_still}
-use Rattle.gx_placed.proofs.Resumes.{beside_last, looked_at}
+use Rattle.gx_placed.proofs.Resumes.{beside_last}
 
 -- ---- lists
 
@@ -35,7 +35,7 @@ all_at P (y ∷ xs) (suc k) x a e = all_at P xs k x a.1 e
 
 pub among_front : (below more : List Begun) (r : Record) → IsAmong below r → IsAmong (below ++ more) r
 among_front [] more r h = absurd h
-among_front (b ∷ below) more r h = elim h [ | inl e ↦ inl e | inr h ↦ inr (among_front below more r h) ]
+among_front (b ∷ below) more r h = elim h [ inl e ↦ inl e | inr h ↦ inr (among_front below more r h) ]
 
 pub among_back : (below more : List Begun) (r : Record) → IsAmong more r → IsAmong (below ++ more) r
 among_back [] more r h = h
@@ -44,13 +44,13 @@ among_back (b ∷ below) more r h = inr (among_back below more r h)
 pub among_either : (below more : List Begun) (r : Record) → IsAmong (below ++ more) r → IsAmong below r ⊎ IsAmong more r
 among_either [] more r h = inr h
 among_either (b ∷ below) more r h = elim h [
-    | inl e ↦ inl (inl e)
-    | inr h ↦ elim (among_either below more r h) [ | inl k ↦ inl (inr k) | inr k ↦ inr k ]
-  ]
+  | inl e ↦ inl (inl e)
+  | inr h ↦ elim (among_either below more r h) [ inl k ↦ inl (inr k) | inr k ↦ inr k ]
+]
 
 under_front : (below more : List Begun) (l : Kind × Bytes) → IsUnderWay below l → IsUnderWay (below ++ more) l
 under_front [] more l h = absurd h
-under_front (b ∷ below) more l h = elim h [ | inl e ↦ inl e | inr h ↦ inr (under_front below more l h) ]
+under_front (b ∷ below) more l h = elim h [ inl e ↦ inl e | inr h ↦ inr (under_front below more l h) ]
 
 under_back : (below more : List Begun) (l : Kind × Bytes) → IsUnderWay more l → IsUnderWay (below ++ more) l
 under_back [] more l h = h
@@ -59,9 +59,9 @@ under_back (b ∷ below) more l h = inr (under_back below more l h)
 under_either : (below more : List Begun) (l : Kind × Bytes) → IsUnderWay (below ++ more) l → IsUnderWay below l ⊎ IsUnderWay more l
 under_either [] more l h = inr h
 under_either (b ∷ below) more l h = elim h [
-    | inl e ↦ inl (inl e)
-    | inr h ↦ elim (under_either below more l h) [ | inl k ↦ inl (inr k) | inr k ↦ inr k ]
-  ]
+  | inl e ↦ inl (inl e)
+  | inr h ↦ elim (under_either below more l h) [ inl k ↦ inl (inr k) | inr k ↦ inr k ]
+]
 
 -- what isn't given isn't beside
 free_beside : (given : List Record) (below : List Begun) (n : Bytes) → record_named given n ≡ None → record_named (beside given below) n ≡ None
@@ -99,17 +99,17 @@ module _ (names : Kind → Bytes → Bytes) (all : List Record) where
       links = h.0.links;
       looked = all_then (λ l k. seen l k) b.done h.0.looked;
     },
-    replaced (others b.new.name given) held now below one more h.1 t free keep link
+    replaced (others b.new.name given) held now below one more h.1 t free keep link,
   )
     where
       seen : (l : Kind × Bytes) → IsLooked held (below ++ one ∷ []) l → IsLooked now (below ++ more) l
       seen l k = elim k [
-          | inl e ↦ inl (keep l e)
-          | inr u ↦ elim (under_either below (one ∷ []) l u) [
-            | inl v ↦ inr (under_front below more l v)
-            | inr v ↦ elim (link l v) [ | inl e ↦ inl e | inr w ↦ inr (under_back below more l w) ]
-          ]
+        | inl e ↦ inl (keep l e)
+        | inr u ↦ elim (under_either below (one ∷ []) l u) [
+          | inl v ↦ inr (under_front below more l v)
+          | inr v ↦ elim (link l v) [ inl e ↦ inl e | inr w ↦ inr (under_back below more l w) ]
         ]
+      ]
 
 -- ---- those that wait
 
@@ -175,7 +175,7 @@ module _ (names : Kind → Bytes → Bytes) (all : List Record) where
   at_first held n = record {
     named = n;
     waiting = λ called e. all_wait all called;
-    covered = slots_then [] held [] [] (λ r c. elim c [ | inl e ↦ absurd (cc) | inr h ↦ absurd h ]) all (map Some all) (slots_all all);
+    covered = slots_then [] held [] [] (λ r c. elim c [ inl e ↦ absurd (cc) | inr h ↦ absurd h ]) all (map Some all) (slots_all all);
     room = (let k = count_all all in omega (arith, k));
     stack = tt;
   }
@@ -191,8 +191,8 @@ module _ (names : Kind → Bytes → Bytes) (all : List Record) where
           waiting = λ called f. m.waiting called f ∙ ap (λ rs. record_named rs called) (beside_last all below one ∙ sym (beside_last all below (looked_at one link left)));
           covered = slots_then held held (below ++ one ∷ []) (below ++ looked_at one link left ∷ []) (λ r c. still r c) all slots m.covered;
           room = (let a = length-append below (one ∷ []) in let b = length-append below (looked_at one link left ∷ []) in let r = m.room in omega (arith, a, b, r));
-          stack = replaced names all all held held below one (looked_at one link left ∷ []) m.stack
-            (record {
+          stack = replaced names all all held held below one (looked_at one link left ∷ []) m.stack (
+            record {
               stands = top.stands;
               found = top.found;
               free = top.free;
@@ -200,15 +200,17 @@ module _ (names : Kind → Bytes → Bytes) (all : List Record) where
               named = top.named;
               links = append_assoc one.done (link ∷ []) left ∙ ap (λ ls. one.done ++ ls) (sym l) ∙ top.links;
               looked = all_snoc (IsLooked held []) one.done link top.looked (inl e);
-            }, tt)
-            (λ n f g. f) (λ l f. f) (λ l u. inr u);
+            },
+            tt,
+          )
+              (λ n f g. f) (λ l f. f) (λ l u. inr u);
         }
       where
         still : (r : Record) → IsCovered held (below ++ one ∷ []) r → IsCovered held (below ++ looked_at one link left ∷ []) r
         still r c = elim c [
-            | inl f ↦ inl f
-            | inr a ↦ inr (elim (among_either below (one ∷ []) r a) [ | inl b ↦ among_front below (looked_at one link left ∷ []) r b | inr b ↦ among_back below (looked_at one link left ∷ []) r b ])
-          ]
+          | inl f ↦ inl f
+          | inr a ↦ inr (elim (among_either below (one ∷ []) r a) [ inl b ↦ among_front below (looked_at one link left ∷ []) r b | inr b ↦ among_back below (looked_at one link left ∷ []) r b ])
+        ]
 
     -- what a link names that isn't held, where it waits
     pub needed : (link : Kind × Bytes) (p : ℕ) (r : Record) → IsMachine names all slots held (below ++ one ∷ []) → record_named held link.1 ≡ None → place_in all link.1 ≡ Some p → slot_at slots p ≡ Some r
@@ -236,51 +238,56 @@ module _ (names : Kind → Bytes → Bytes) (all : List Record) where
         let first : place_in all new.new.name ≡ Some new.place = ap (place_in all) need.1 ∙ f in
         let flat = append_assoc below (looked_at one link left ∷ []) (new ∷ []) in
         let beside_new : beside all (below ++ looked_at one link left ∷ new ∷ []) ≡ others new.new.name (beside all (below ++ one ∷ [])) =
-          ap (beside all) (sym flat) ∙ beside_last all (below ++ looked_at one link left ∷ []) new ∙ ap (others new.new.name) (beside_last all below (looked_at one link left) ∙ sym (beside_last all below one)) in
+        ap (beside all) (sym flat) ∙ beside_last all (below ++ looked_at one link left ∷ []) new ∙ ap (others new.new.name) (beside_last all below (looked_at one link left) ∙ sym (beside_last all below one)) in
         record {
           named = m.named;
           waiting = λ called free_name. waits_so called free_name need.0 first beside_new (λ a. m.waiting called free_name);
           covered = slots_emptied held (below ++ looked_at one link left ∷ new ∷ []) all slots new.place new.new need.0 (inr (among_back below (looked_at one link left ∷ new ∷ []) new.new (inr (inl refl))))
-            (slots_then held held (below ++ one ∷ []) (below ++ looked_at one link left ∷ new ∷ []) (λ r c. still r c) all slots m.covered);
+              (slots_then held held (below ++ one ∷ []) (below ++ looked_at one link left ∷ new ∷ []) (λ r c. still r c) all slots m.covered);
           room = (let a = length-append below (one ∷ []) in let b = length-append below (looked_at one link left ∷ new ∷ []) in let r = m.room in let q = weight_emptied (λ _. 1) slots new.place new.new g in omega (arith, a, b, r, q));
-          stack = replaced names all all held held below one (looked_at one link left ∷ new ∷ []) m.stack
-            (record {
+          stack = replaced names all all held held below one (looked_at one link left ∷ new ∷ []) m.stack (
+            record {
               stands = top.stands;
               found = top.found;
               free = top.free;
               is_one = top.is_one;
               named = top.named;
               links = append_assoc one.done (link ∷ []) left ∙ ap (λ ls. one.done ++ ls) (sym l) ∙ top.links;
-              looked = all_snoc (IsLooked held (new ∷ [])) one.done link (all_then (λ x h. elim h [ | inl h ↦ inl h | inr u ↦ absurd u ]) one.done top.looked) (inr (inl (kind_is new.new.kind link.0 (passes _ k), need.1)));
-            }, (record {
-              stands = need.0;
-              found = found;
-              free = free;
-              is_one = b;
-              named = all_at (λ (one : Record). one.name ≡ names one.kind one.body) all new.place new.new m.named need.0;
-              links = ap (λ ls. ls ++ new.left) d ∙ w;
-              looked = subst (AllByRecursion (IsLooked held [])) (sym d) tt;
-            }, tt))
-            (λ n f g. f) (λ l f. f) (λ l u. elim u [ | inl v ↦ inr (inl v) | inr v ↦ absurd v ]);
+              looked = all_snoc (IsLooked held (new ∷ [])) one.done link (all_then (λ x h. elim h [ inl h ↦ inl h | inr u ↦ absurd u ]) one.done top.looked) (inr (inl (kind_is new.new.kind link.0 (passes _ k), need.1)));
+            },
+            (
+              record {
+                stands = need.0;
+                found = found;
+                free = free;
+                is_one = b;
+                named = all_at (λ (one : Record). one.name ≡ names one.kind one.body) all new.place new.new m.named need.0;
+                links = ap (λ ls. ls ++ new.left) d ∙ w;
+                looked = subst (AllByRecursion (IsLooked held [])) (sym d) tt;
+              },
+              tt,
+            ),
+          )
+              (λ n f g. f) (λ l f. f) (λ l u. elim u [ inl v ↦ inr (inl v) | inr v ↦ absurd v ]);
         }
       where
         still : (r : Record) → IsCovered held (below ++ one ∷ []) r → IsCovered held (below ++ looked_at one link left ∷ new ∷ []) r
         still r c = elim c [
-            | inl f ↦ inl f
-            | inr a ↦ inr (elim (among_either below (one ∷ []) r a) [
-              | inl b ↦ among_front below (looked_at one link left ∷ new ∷ []) r b
-              | inr b ↦ among_back below (looked_at one link left ∷ new ∷ []) r (elim b [ | inl x ↦ inl x | inr x ↦ absurd x ])
-            ])
-          ]
+          | inl f ↦ inl f
+          | inr a ↦ inr (elim (among_either below (one ∷ []) r a) [
+            | inl b ↦ among_front below (looked_at one link left ∷ new ∷ []) r b
+            | inr b ↦ among_back below (looked_at one link left ∷ new ∷ []) r (elim b [ inl x ↦ inl x | inr x ↦ absurd x ])
+          ])
+        ]
 
         waits_so : (called : Bytes) → record_named held called ≡ None → slice_get all new.place ≡ Some new.new → place_in all new.new.name ≡ Some new.place
             → beside all (below ++ looked_at one link left ∷ new ∷ []) ≡ others new.new.name (beside all (below ++ one ∷ [])) → (⊤ → waits all slots called ≡ record_named (beside all (below ++ one ∷ [])) called)
             → waits all (set slots new.place None) called ≡ record_named (beside all (below ++ looked_at one link left ∷ new ∷ [])) called
         waits_so called e there first besides waited = elim (one_or_two called new.new.name) [
-            | inl same ↦ subst (λ n. waits all (set slots new.place None) n ≡ record_named (beside all (below ++ looked_at one link left ∷ new ∷ [])) n) (sym same)
+          | inl same ↦ subst (λ n. waits all (set slots new.place None) n ≡ record_named (beside all (below ++ looked_at one link left ∷ new ∷ [])) n) (sym same)
               (none_waits all slots new.new.name new.place first ∙ sym (none_found new.new.name (beside all (below ++ one ∷ []))) ∙ ap (λ rs. record_named rs new.new.name) (sym besides))
-            | inr h ↦ waits_still all slots new.new called new.place there h ∙ waited tt ∙ sym (other_found new.new.name called (beside all (below ++ one ∷ [])) (apart_too called new.new.name h)) ∙ ap (λ rs. record_named rs called) (sym besides)
-          ]
+          | inr h ↦ waits_still all slots new.new called new.place there h ∙ waited tt ∙ sym (other_found new.new.name called (beside all (below ++ one ∷ [])) (apart_too called new.new.name h)) ∙ ap (λ rs. record_named rs called) (sym besides)
+        ]
 
     -- with the last one held
     pub ended : IsMachine names all slots held (below ++ one ∷ []) → one.left ≡ [] → IsMachine names all slots (held ++ one.new ∷ []) below
@@ -289,25 +296,25 @@ module _ (names : Kind → Bytes → Bytes) (all : List Record) where
         record {
           named = m.named;
           waiting = λ called f.
-            (let apart = two called one.new.name (λ same. let k : Some one.new ≡ None = sym (found_last held one.new top.free) ∙ ap (record_named (held ++ one.new ∷ [])) (sym same) ∙ f in cc) in
-             m.waiting called (free_before held (one.new ∷ []) called f) ∙ ap (λ rs. record_named rs called) (beside_last all below one) ∙ other_found one.new.name called (beside all below) (apart_too called one.new.name apart));
+              (let apart = two called one.new.name (λ same. let k : Some one.new ≡ None = sym (found_last held one.new top.free) ∙ ap (record_named (held ++ one.new ∷ [])) (sym same) ∙ f in cc) in
+              m.waiting called (free_before held (one.new ∷ []) called f) ∙ ap (λ rs. record_named rs called) (beside_last all below one) ∙ other_found one.new.name called (beside all below) (apart_too called one.new.name apart));
           covered = slots_then held (held ++ one.new ∷ []) (below ++ one ∷ []) below (λ r c. still r c top.free) all slots m.covered;
           room = (let a = length-append below (one ∷ []) in let r = m.room in omega (arith, a, r));
           stack = subst (AreBegun names all all (held ++ one.new ∷ [])) (append-nil below)
-            (replaced names all all held (held ++ one.new ∷ []) below one [] m.stack tt
+              (replaced names all all held (held ++ one.new ∷ []) below one [] m.stack tt
               (λ n f g. free_still held one.new n f (two n one.new.name (λ same. let k : Some one.new ≡ None = sym top.found ∙ ap (record_named (beside all below)) (sym same) ∙ g in cc)))
               (λ l f. held_still held (one.new ∷ []) l.0 l.1 f)
-              (λ l u. elim u [ | inl v ↦ inl (is_now l v.0 v.1 top.free) | inr v ↦ absurd v ]));
+              (λ l u. elim u [ inl v ↦ inl (is_now l v.0 v.1 top.free) | inr v ↦ absurd v ]));
         }
       where
         still : (r : Record) → IsCovered held (below ++ one ∷ []) r → record_named held one.new.name ≡ None → IsCovered (held ++ one.new ∷ []) below r
         still r c free = elim c [
-            | inl f ↦ inl (found_still held (one.new ∷ []) r.name r f)
-            | inr a ↦ elim (among_either below (one ∷ []) r a) [
-              | inl b ↦ inr b
-              | inr b ↦ elim b [ | inl same ↦ inl (subst (λ (x : Record). record_named (held ++ one.new ∷ []) x.name ≡ Some x) same (found_last held one.new free)) | inr x ↦ absurd x ]
-            ]
+          | inl f ↦ inl (found_still held (one.new ∷ []) r.name r f)
+          | inr a ↦ elim (among_either below (one ∷ []) r a) [
+            | inl b ↦ inr b
+            | inr b ↦ elim b [ inl same ↦ inl (subst (λ (x : Record). record_named (held ++ one.new ∷ []) x.name ≡ Some x) same (found_last held one.new free)) | inr x ↦ absurd x ]
           ]
+        ]
 
         is_now : (l : Kind × Bytes) → one.new.kind ≡ l.0 → one.new.name ≡ l.1 → record_named held one.new.name ≡ None → is_held (held ++ one.new ∷ []) l.0 l.1 ≡ true
         is_now l k n free = ap (λ x. is_held (held ++ one.new ∷ []) l.0 x) (sym n) ∙ ap (is_of_kind l.0) (found_last held one.new free) ∙ kinds_same one.new.kind l.0 k
@@ -317,14 +324,14 @@ module _ (names : Kind → Bytes → Bytes) (all : List Record) where
     links_held m l =
         let top = top_begun names all all held below one m.stack in
         subst (AllByRecursion (λ (l : Kind × Bytes). is_held held l.0 l.1 ≡ true)) (sym (append-nil one.done) ∙ ap (λ ls. one.done ++ ls) (sym l) ∙ top.links)
-          (all_then (λ l h. elim h [ | inl e ↦ e | inr u ↦ absurd u ]) one.done top.looked)
+        (all_then (λ l h. elim h [ inl e ↦ e | inr u ↦ absurd u ]) one.done top.looked)
 
   -- an object that is held is left out
   pub left_out : (slots : List (Option Record)) (held : List Record) (p : ℕ) (r : Record) → IsMachine names all slots held [] → slice_get all p ≡ Some r → record_named held r.name ≡ Some r → IsMachine names all (set slots p None) held []
   left_out slots held p r m e f = record {
     named = m.named;
     waiting = λ called g.
-      waits_still all slots r called p e (two called r.name (λ same. let k : Some r ≡ None = sym f ∙ ap (record_named held) (sym same) ∙ g in cc)) ∙ m.waiting called g;
+        waits_still all slots r called p e (two called r.name (λ same. let k : Some r ≡ None = sym f ∙ ap (record_named held) (sym same) ∙ g in cc)) ∙ m.waiting called g;
     covered = slots_emptied held [] all slots p r e (inl f) m.covered;
     room = (let r = m.room in let q = weighs_no_more (λ _. 1) slots p in omega (arith, r, q));
     stack = tt;
@@ -337,22 +344,25 @@ module _ (names : Kind → Bytes → Bytes) (all : List Record) where
   begins slots held new m g e a b d w =
       let there : slice_get all new.place ≡ Some new.new = slot_is held [] all slots new.place new.new m.covered g in
       let first = first_there (λ (r : Record). record_named held r.name ≡ Some r) all new.new new.place there a
-        (λ s f. two new.new.name s.name (λ same. let k : None ≡ Some s = sym e ∙ ap (record_named held) same ∙ f in cc)) in
+      (λ s f. two new.new.name s.name (λ same. let k : None ≡ Some s = sym e ∙ ap (record_named held) same ∙ f in cc)) in
       record {
         named = m.named;
         waiting = λ called f. (elim (one_or_two called new.new.name) as (λ _. waits all (set slots new.place None) called ≡ record_named (others new.new.name all) called) [
           | inl same ↦ subst (λ n. waits all (set slots new.place None) n ≡ record_named (others new.new.name all) n) (sym same) (none_waits all slots new.new.name new.place first.0 ∙ sym (none_found new.new.name all))
           | inr h ↦ waits_still all slots new.new called new.place there h ∙ m.waiting called f ∙ sym (other_found new.new.name called all (apart_too called new.new.name h))
         ]);
-        covered = slots_emptied held (new ∷ []) all slots new.place new.new there (inr (inl refl)) (slots_then held held [] (new ∷ []) (λ r c. elim c [ | inl f ↦ inl f | inr x ↦ absurd x ]) all slots m.covered);
+        covered = slots_emptied held (new ∷ []) all slots new.place new.new there (inr (inl refl)) (slots_then held held [] (new ∷ []) (λ r c. elim c [ inl f ↦ inl f | inr x ↦ absurd x ]) all slots m.covered);
         room = (let r = m.room in let q = weight_emptied (λ _. 1) slots new.place new.new g in omega (arith, r, q));
-        stack = (record {
-          stands = there;
-          found = first.1;
-          free = e;
-          is_one = b;
-          named = all_at (λ (one : Record). one.name ≡ names one.kind one.body) all new.place new.new m.named there;
-          links = ap (λ ls. ls ++ new.left) d ∙ w;
-          looked = subst (AllByRecursion (IsLooked held [])) (sym d) tt;
-        }, tt);
+        stack = (
+          record {
+            stands = there;
+            found = first.1;
+            free = e;
+            is_one = b;
+            named = all_at (λ (one : Record). one.name ≡ names one.kind one.body) all new.place new.new m.named there;
+            links = ap (λ ls. ls ++ new.left) d ∙ w;
+            looked = subst (AllByRecursion (IsLooked held [])) (sym d) tt;
+          },
+          tt,
+        );
       }

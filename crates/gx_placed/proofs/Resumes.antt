@@ -10,7 +10,7 @@ use Rattle.gx_model.specs.Records.RecordFaults.{is_bad_below, is_body, is_held, 
 use Rattle.gx_model.proofs.Records.HeldObjects.{named_so}
 use Rattle.gx_wide.specs.Placing.{BadObject, Dangling, NameHeld, Placed, TakeFault, link_placed, links_placed, put_last, wide_links}
 use Rattle.gx_placed.specs.Placed.{others, placed_within}
-use Rattle.gx_placed.specs.Machine.{Begun, beside, finished, resumed}
+use Rattle.gx_placed.specs.Machine.{Begun, beside, finished, looked_at, resumed}
 
 -- ---- steps
 
@@ -51,16 +51,12 @@ beside_last given (b ∷ below) one = beside_last (others b.new.name given) belo
 
 -- ---- a link
 
--- with a link looked at
-abbrev pub looked_at : Begun → Kind × Bytes → List (Kind × Bytes) → Begun
-looked_at one link left = record { place = one.place; new = one.new; done = one.done ++ link ∷ []; left = left }
-
 module _ (step : List Record → Record → Placed) (given : List Record) (from : Bytes) (link : Kind × Bytes) (held : List Record) where
   -- by what is given, and by what is held
-  abbrev through_given : Option Record → Placed
+  abbrev pub through_given : Option Record → Placed
   through_given found = elim found [ None ↦ Err (Dangling from link.1) | Some new ↦ if same_kind new.kind link.0 then step held new else Err (Dangling from link.1) ]
 
-  abbrev through : Option Record → Placed
+  abbrev pub through : Option Record → Placed
   through found = elim found [ None ↦ through_given (record_named given link.1) | Some known ↦ if same_kind known.kind link.0 then Ok held else Err (Dangling from link.1) ]
 
   -- a link that is held
@@ -85,35 +81,32 @@ module _ (step : List Record → Record → Placed) (given : List Record) (from 
 
 -- ---- an object
 
--- an object that isn't held, and whose body is one of its kind
-pub begins_well : (n : ℕ) (given held : List Record) (new : Record) → record_named held new.name ≡ None → is_body new.kind new.body ≡ true
-    → placed_within (suc n) given held new ≡ (links_placed (placed_within n (others new.name given)) (others new.name given) new.name (wide_links new.kind new.body) held >>= put_last new)
-unfolding placed_within
-begins_well n given held new e b =
-    ap (λ (o : Option Record). elim o [
-      | None ↦ if is_body new.kind new.body then (links_placed (placed_within n (others new.name given)) (others new.name given) new.name (wide_links new.kind new.body) held >>= put_last new) else Err (BadObject new.name)
-      | Some known ↦ if same_object known new then Ok held else Err (NameHeld new.name)
-    ]) e
-    ∙ ap (λ t. cond t (links_placed (placed_within n (others new.name given)) (others new.name given) new.name (wide_links new.kind new.body) held >>= put_last new) (Err (BadObject new.name))) b
+module _ (n : ℕ) (given held : List Record) (new : Record) where
+  -- by what is held under its name
+  abbrev pub after_links : Placed
+  after_links = links_placed (placed_within n (others new.name given)) (others new.name given) new.name (wide_links new.kind new.body) held >>= put_last new
 
--- ... or isn't
-pub begins_badly : (n : ℕ) (given held : List Record) (new : Record) → record_named held new.name ≡ None → is_body new.kind new.body ≡ false → placed_within (suc n) given held new ≡ Err (BadObject new.name)
-unfolding placed_within
-begins_badly n given held new e b =
-    ap (λ (o : Option Record). elim o [
-      | None ↦ if is_body new.kind new.body then (links_placed (placed_within n (others new.name given)) (others new.name given) new.name (wide_links new.kind new.body) held >>= put_last new) else Err (BadObject new.name)
-      | Some known ↦ if same_object known new then Ok held else Err (NameHeld new.name)
-    ]) e
-    ∙ ap (λ t. cond t (links_placed (placed_within n (others new.name given)) (others new.name given) new.name (wide_links new.kind new.body) held >>= put_last new) (Err (BadObject new.name))) b
+  abbrev pub by_name : Option Record → Placed
+  by_name found = elim found [
+    | None ↦ if is_body new.kind new.body then after_links else Err (BadObject new.name)
+    | Some known ↦ if same_object known new then Ok held else Err (NameHeld new.name)
+  ]
 
--- an object whose name is held
-pub name_taken : (n : ℕ) (given held : List Record) (new known : Record) → record_named held new.name ≡ Some known → placed_within (suc n) given held new ≡ (if same_object known new then Ok held else Err (NameHeld new.name))
-unfolding placed_within
-name_taken n given held new known e =
-    ap (λ (o : Option Record). elim o [
-      | None ↦ if is_body new.kind new.body then (links_placed (placed_within n (others new.name given)) (others new.name given) new.name (wide_links new.kind new.body) held >>= put_last new) else Err (BadObject new.name)
-      | Some known ↦ if same_object known new then Ok held else Err (NameHeld new.name)
-    ]) e
+  pub unfolded : placed_within (suc n) given held new ≡ by_name (record_named held new.name)
+  unfolding placed_within
+  unfolded = refl
+
+  -- an object that isn't held, and whose body is one of its kind
+  pub begins_well : record_named held new.name ≡ None → is_body new.kind new.body ≡ true → placed_within (suc n) given held new ≡ after_links
+  begins_well e b = unfolded ∙ ap by_name e ∙ ap (λ t. cond t after_links (Err (BadObject new.name))) b
+
+  -- ... or isn't
+  pub begins_badly : record_named held new.name ≡ None → is_body new.kind new.body ≡ false → placed_within (suc n) given held new ≡ Err (BadObject new.name)
+  begins_badly e b = unfolded ∙ ap by_name e ∙ ap (λ t. cond t after_links (Err (BadObject new.name))) b
+
+  -- an object whose name is held
+  pub name_taken : (known : Record) → record_named held new.name ≡ Some known → placed_within (suc n) given held new ≡ (if same_object known new then Ok held else Err (NameHeld new.name))
+  name_taken known e = unfolded ∙ ap by_name e
 
 -- ---- the last object goes on
 
@@ -128,7 +121,7 @@ module _ (n : ℕ) (given held : List Record) where
       by (suc m) =
           ap (λ ls. links_placed (placed_within m (others one.new.name given)) (others one.new.name given) one.new.name ls held >>= put_last one.new) l
           ∙ ap (λ (r : Placed). r >>= (λ now. links_placed (placed_within m (others one.new.name given)) (others one.new.name given) one.new.name left now) >>= put_last one.new)
-            (held_link (placed_within m (others one.new.name given)) (others one.new.name given) one.new.name link held e)
+          (held_link (placed_within m (others one.new.name given)) (others one.new.name given) one.new.name link held e)
 
   -- by an object that it needs
   pub into_link : (one : Begun) (link : Kind × Bytes) (left : List (Kind × Bytes)) (new : Begun) → one.left ≡ link ∷ left → record_named held link.1 ≡ None → record_named (others one.new.name given) link.1 ≡ Some new.new
@@ -140,12 +133,12 @@ module _ (n : ℕ) (given held : List Record) where
       let free : record_named held new.new.name ≡ None = ap (record_named held) called ∙ e in
       ap (λ ls. links_placed (placed_within (suc n) rest) rest one.new.name ls held >>= put_last one.new) l
       ∙ ap (λ (r : Placed). r >>= (λ now. links_placed (placed_within (suc n) rest) rest one.new.name left now) >>= put_last one.new)
-        (given_link (placed_within (suc n) rest) rest one.new.name link held new.new e g
-         ∙ ap (λ t. cond t (placed_within (suc n) rest held new.new) (Err (Dangling one.new.name link.1))) k
-         ∙ begins_well n rest held new.new free b
-         ∙ ap (λ ls. links_placed (placed_within n (others new.new.name rest)) (others new.new.name rest) new.new.name ls held >>= put_last new.new) (sym w))
+      (given_link (placed_within (suc n) rest) rest one.new.name link held new.new e g
+      ∙ ap (λ t. cond t (placed_within (suc n) rest held new.new) (Err (Dangling one.new.name link.1))) k
+      ∙ begins_well n rest held new.new free b
+      ∙ ap (λ ls. links_placed (placed_within n (others new.new.name rest)) (others new.new.name rest) new.new.name ls held >>= put_last new.new) (sym w))
       ∙ in_turn (links_placed (placed_within n (others new.new.name rest)) (others new.new.name rest) new.new.name new.left held >>= put_last new.new)
-          (λ now. links_placed (placed_within (suc n) rest) rest one.new.name left now) (put_last one.new)
+      (λ now. links_placed (placed_within (suc n) rest) rest one.new.name left now) (put_last one.new)
 
   -- to its end
   pub to_end : (one : Begun) → one.left ≡ [] → is_bad_below held one.new.kind one.new.body ≡ false → resumed (suc n) given (one ∷ []) held ≡ Ok (held ++ one.new ∷ [])

@@ -52,6 +52,25 @@ pub record Begun : Type 0 where
   pub done : List (Kind × Bytes)
   pub left : List (Kind × Bytes)
 
+-- an object none of whose links was looked at
+abbrev pub begun_at : ℕ → Record → Begun
+begun_at place new = record { place = place; new = new; done = []; left = wide_links new.kind new.body }
+
+-- with a link looked at, and these left
+abbrev pub looked_at : Begun → Kind × Bytes → List (Kind × Bytes) → Begun
+looked_at one link left = record { place = one.place; new = one.new; done = one.done ++ link ∷ []; left = left }
+
+-- how much is to be done for objects that wait, and for those that were begun
+abbrev pub work : Record → ℕ
+work new = 1 + length (wide_links new.kind new.body)
+
+abbrev pub work_begun : List Begun → ℕ
+work_begun [] = 0
+work_begun (one ∷ begun) = 1 + length one.left + work_begun begun
+
+abbrev pub work_left : List (Option Record) → List Begun → ℕ
+work_left slots begun = weight work slots + work_begun begun
+
 -- the given objects beside those that were begun
 abbrev pub beside : List Record → List Begun → List Record
 beside given [] = given

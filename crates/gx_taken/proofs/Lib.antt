@@ -6,4 +6,7 @@ mod CheckedRefs
 mod Splits
 mod SplitOffers
 mod NumberedLabels
+mod HeldObjects
 mod Takings
+mod Unplaced
+mod TakenTexts

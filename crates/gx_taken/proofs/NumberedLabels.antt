@@ -1,13 +1,19 @@
 -- The number of the first label of a name.
-use Rattle.std.proofs.Common.{◌≡◌, ℕ, zero, suc, ◌+◌, ◌<◌, ◌≤◌, Bool, true, false, List, [], ◌∷◌, length, drop, get_or, refl, sym, ap, ◌∙◌, drop_of_length-le}
+use Rattle.std.proofs.Common.{◌≡◌, ℕ, zero, suc, ◌+◌, ◌<◌, ◌≤◌, Bool, true, false, List, [], ◌∷◌, length, drop, get_or, refl, sym, ap, subst, ◌∙◌, drop_of_length-le}
 use Rattle.std.specs.Prelude.{Option, Some, IsTrue, ◌||◌, if◌then◌else◌}
 use Rattle.std.specs.List.{slice_get}
 use Rattle.std.proofs.lemmas.Bool.{true≢false}
 use Rattle.std.proofs.lemmas.List.{drop_more}
+use Rattle.std.proofs.lemmas.Option.{slice_get-get_or}
 use Rattle.gx_model.specs.Texts.{Bytes, same_bytes}
 use Rattle.gx_model.proofs.Texts.PathTests.{is_same, is_true}
+use Rattle.gx_object.specs.declared.name.Name.{Name}
+use Rattle.gx_placed.specs.declared.fault.ObjectFault.{ObjectFault}
+use Rattle.gx_taken.specs.Calls.{IsUnplaced, object_refused}
 use Rattle.gx_taken.specs.Parts.{is_named, shown_labels}
 use Rattle.gx_taken.specs.Taking.{number_named}
+use Rattle.gx_taken.specs.declared.fault.Refused.{Refused}
+use Rattle.gx_taken.specs.declared.fault.TakeFault.TheVariants.{Item}
 use Rattle.gx_taken.specs.declared.parts.Label.{Label}
 
 module _ (labels : List Label) (called : Bytes) where
@@ -49,3 +55,14 @@ named_at (l ∷ ls) (suc at) label e = by (same_bytes l.name.bytes label.name.by
   by : (b : Bool) → IsTrue (is_named (shown_labels ls) label.name.bytes) → IsTrue (b || is_named (shown_labels ls) label.name.bytes)
   by true h = refl
   by false h = h
+
+-- what is answered of the object at a place
+pub unplaced_is : {A : Type 0} (labels : List Label) (at : ℕ) (d : Label) (name : Name) (against : ObjectFault) (number : ℕ) (kind : Refused A) → at < length labels → name ≡ (get_or labels at d).name
+    → number ≡ number_named (shown_labels labels) name.bytes → kind ≡ object_refused name against → IsUnplaced labels at against (Item number kind)
+unplaced_is {A} labels at d name against number kind lt is n k = λ label e.
+    let same : get_or labels at d ≡ label = let both = sym (slice_get-get_or labels at d lt) ∙ e in cc both in
+    let named : name ≡ label.name = is ∙ ap (λ (l : Label). l.name) same in
+    λ i. Item ((n ∙ ap (λ (m : Name). number_named (shown_labels labels) m.bytes) named) i) ((k ∙ ap (λ (m : Name). object_refused {A = A} m against) named) i)
+
+pub named_there : (labels : List Label) (at : ℕ) (d : Label) (name : Name) → at < length labels → name ≡ (get_or labels at d).name → IsTrue (is_named (shown_labels labels) name.bytes)
+named_there labels at d name lt is = subst (λ (m : Name). IsTrue (is_named (shown_labels labels) m.bytes)) (sym is) (named_at labels at (get_or labels at d) (slice_get-get_or labels at d lt))

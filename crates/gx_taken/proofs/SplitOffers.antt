@@ -1,5 +1,5 @@
 -- Items as the code has them, taken apart one after the other.
-use Rattle.std.proofs.Common.{◌≡◌, ℕ, ◌+◌, List, [], ◌∷◌, ◌++◌, append-nil, length, map, sym, ap, subst, ◌∙◌}
+use Rattle.std.proofs.Common.{◌≡◌, ℕ, ◌+◌, List, [], ◌∷◌, ◌++◌, append-nil, length, map, refl, sym, ap, subst, ◌∙◌, arith}
 use Rattle.std.specs.declared.vec.Vec.{Vec}
 use Rattle.std.proofs.lemmas.List.{length-map, map-append}
 use Rattle.gx_store.specs.Bodies.{bytes_of}
@@ -14,6 +14,11 @@ use Rattle.gx_taken.specs.declared.parts.Label.{Label}
 use Rattle.gx_taken.specs.declared.parts.Parts.{Parts}
 use Rattle.gx_taken.specs.declared.parts.RefItem.{RefItem}
 use Rattle.gx_taken.proofs.Splits.{AreSplit, none_split, object_split, ref_split}
+
+-- a list of no length
+pub empty : {X : Type 0} (xs : List X) → length xs ≡ 0 → xs ≡ []
+empty [] e = refl
+empty (x ∷ xs) e = absurd (omega (arith, e))
 
 module _ {A : Type 0} where
   abbrev pub AreSplitOff : List (Offered A) → List (Offered A) → List (OfferedObject A) → List Label → List (RefItem A) → Type 0

@@ -9,7 +9,7 @@ use Rattle.std.specs.Map.{lookup}
 use Rattle.std.specs.Bool.{passes}
 use Rattle.std.specs.FinMap.Entries.{find, is_sorted, same_entries}
 use Rattle.std.proofs.lemmas.Bool.{true≢false}
-use Rattle.std.proofs.lemmas.List.{drop_more, reverse-append}
+use Rattle.std.proofs.lemmas.List.{drop_more, map-append, reverse-append}
 use Rattle.std.proofs.lemmas.List.Folds.{list_any-append}
 use Rattle.std.proofs.lemmas.Map.Text.{is_eq-slice_cmp}
 use Rattle.gx_model.specs.Texts.{Bytes, byte_cmp, same_bytes}
@@ -18,7 +18,10 @@ use Rattle.gx_model.specs.Records.Publishing.{Change, Ref, changes_fault, with_c
 use Rattle.gx_model.proofs.Records.SortedRefs.{order, same_text}
 use Rattle.gx_model.proofs.Texts.PathTests.{same_is}
 use Rattle.gx_repo.specs.Dropping.{AreIn, is_among, is_entered, unknown_behind, without}
-use Rattle.gx_repo.specs.Refs.{is_ref_held}
+use Rattle.gx_object.specs.Parts.{bytes_if}
+use Rattle.gx_object.specs.declared.name.Name.{Name}
+use Rattle.gx_repo.specs.Refs.{is_ref_held, object_named}
+use Rattle.gx_text.specs.Lent.{lent_texts}
 use Rattle.gx_wide.specs.Placing.{is_dropped}
 use Rattle.gx_taken.specs.Parts.{ref_offered, shown_ref_items}
 use Rattle.gx_taken.specs.Setting.{IsTurned}
@@ -211,3 +214,14 @@ reversed_more see vs now v e = ap (λ xs. map see (reverse xs)) e ∙ ap (map se
 pub before : {A : Type 0} (refs : List Ref) (items : List (RefItem A)) (place : ℕ) (seen : BTreeSet (Bor Bytes)) (names : List Bytes) (changes : List Change) → 0 < place → AreLooked refs items place seen names changes
     → AreLooked refs items (place - 1 + 1) seen names changes
 before refs items place seen names changes lt h = let same : place ≡ place - 1 + 1 = omega arith in subst (λ n. AreLooked refs items n seen names changes) same h
+
+-- what was found at a name tells whether such a ref is held
+pub near : (refs : List Ref) (name : Bytes) (o : Option Name) (b : Bool) → bytes_if o ≡ object_named refs name → is_some o ≡ b → is_ref_held refs name ≡ b
+near refs name o b e f = sym (ap is_some e) ∙ by o ∙ f where
+  by : (o : Option Name) → is_some (bytes_if o) ≡ is_some o
+  by None = refl
+  by (Some x) = refl
+
+-- one name more
+pub lent_more : (names now : List (Bor Bytes)) (name : Bor Bytes) → now ≡ names ++ name ∷ [] → lent_texts now ≡ lent_texts names ++ name.now ∷ []
+lent_more names now name e = ap lent_texts e ∙ map-append (λ n. n.now) names (name ∷ [])

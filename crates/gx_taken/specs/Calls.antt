@@ -73,3 +73,7 @@ object_refused name (object.Dangling link) = refused.Dangling name link
 abbrev pub IsUnplaced : {A : Type 0} → List Label → ℕ → ObjectFault → TakeFault A → Type 0
 IsUnplaced labels at against told =
     (label : Label) → slice_get labels at ≡ Some label → told ≡ fault.Item (number_named (shown_labels labels) label.name.bytes) (object_refused label.name against)
+
+-- two commits by their names
+abbrev pub shown_commits : Name × Name → Bytes × Bytes
+shown_commits commits = (commits.0.bytes, commits.1.bytes)

@@ -3,6 +3,7 @@
 use Rattle.std.specs.Prelude.{ℕ, ◌+◌, Bool, true, false, not, if◌then◌else◌, List, [], ◌∷◌, map, replicate, Option, None, Some, Result, Ok, Err}
 use Rattle.std.specs.List.{fold}
 use Rattle.std.specs.Map.{lookup}
+use Rattle.std.specs.Option.{option_map}
 use Rattle.gx_model.specs.declared.objects.Kind.{Kind}
 use Rattle.gx_model.specs.Texts.{Bytes, same_bytes}
 use Rattle.gx_model.specs.Histories.{Records}
@@ -48,16 +49,20 @@ number_named (told ∷ others) called = if same_bytes told.1 called then told.0 
 abbrev pub has_commit : Records → Bytes → Bytes → Bool
 has_commit r new old = reaches (commit_of_value (value_of_name r.records new)) (commit_of_value (value_of_name r.records old))
 
--- what is against the move of a ref from the one commit to the other
-abbrev pub loss : Records → Bytes → Option Bytes → Option Bytes → Option TakeFault
-loss r ref None new = None
-loss r ref (Some old) None = None
-loss r ref (Some old) (Some new) = if has_commit r new old then None else Some (NotFastForward ref old new)
+-- two commits, of which the second doesn't reach the first
+abbrev pub lost_commit : Records → Option Bytes → Option Bytes → Option (Bytes × Bytes)
+lost_commit r None new = None
+lost_commit r (Some old) None = None
+lost_commit r (Some old) (Some new) = if has_commit r new old then None else Some (old, new)
+
+-- the same of what commits and tags name
+abbrev pub lost_by : Records → Bytes → Bytes → Option (Bytes × Bytes)
+lost_by r was next = lost_commit r (commit_named r.records was) (commit_named r.records next)
 
 -- what is against the move of a ref that holds one object, or isn't there, to another
 abbrev pub move_fault : Records → Ref → Option Bytes → Option TakeFault
 move_fault r ref None = None
-move_fault r ref (Some was) = loss r ref.0 (commit_named r.records was) (commit_named r.records ref.1)
+move_fault r ref (Some was) = option_map (λ lost. NotFastForward ref.0 lost.0 lost.1) (lost_by r was ref.1)
 
 -- what is against an object in a ref, or against the ref's move to it: the object has to be there, and one that the ref may hold
 abbrev pub set_fault : Bool → Records → Ref → Option TakeFault

@@ -8,9 +8,9 @@ ghost use Rattle.gx_model.specs.Stores.StoreReading.{is_target_of_kind};
 ghost use Rattle.gx_model.specs.Texts.{same_bytes};
 ghost use Rattle.gx_rev.specs.Parents.{HoldsParents};
 ghost use Rattle.gx_wide.specs.Placing.{is_dropped};
-ghost use Rattle.gx_taken.specs.Calls.{ChecksRefs, TellsAgainst};
+ghost use Rattle.gx_taken.specs.Calls.{ChecksRefs, TellsAgainst, shown_commits};
 ghost use Rattle.gx_taken.specs.Parts.{ref_offered, shown_ref_items};
-ghost use Rattle.gx_taken.specs.Taking.{first_refused, move_fault, ref_fault};
+ghost use Rattle.gx_taken.specs.Taking.{first_refused, lost_by, move_fault, ref_fault};
 
 use crate::fault::{Refused, TakeFault};
 use crate::parts::RefItem;
@@ -103,15 +103,37 @@ fn against_move<N: Namer, A: Allocator + Copy>(
     let (_, Some(held)) = repo.ref_near(0, name) else {
         return Ok(None);
     };
-    let Some(old) = repo.peel(&held) else {
+    match lost_by(alloc, repo, parents, &held, object)? {
+        None => Ok(None),
+        Some((old, new)) => {
+            let name = Vec::from_slice(alloc, name)?;
+            Ok(Some(Refused::NotFastForward(name, old, new)))
+        }
+    }
+}
+
+/// The commits of two objects, where the second one isn't the first and doesn't reach it.
+fn lost_by<N: Namer, A: Allocator + Copy>(
+    alloc: A,
+    repo: &Repo<N, A>,
+    parents: &mut Parents<A>,
+    was: &Name,
+    next: &Name,
+) -> Result<Option<(Name, Name)>, AllocError>
+    requires holds { HoldsParents repo.now.1 parents.old }
+    ensures holds { HoldsParents repo.now.1 parents.new }
+    ensures lost { IfOk result (λ lost. option_map shown_commits lost
+        ≡ lost_by repo.now.1 was.now.bytes next.now.bytes) }
+{
+    let Some(old) = repo.peel(was) else {
         return Ok(None);
     };
-    let Some(new) = repo.peel(object) else {
+    let Some(new) = repo.peel(next) else {
         return Ok(None);
     };
     if is_ancestor(alloc, repo, parents, &old, &new)? {
-        return Ok(None);
+        Ok(None)
+    } else {
+        Ok(Some((old, new)))
     }
-    let name = Vec::from_slice(alloc, name)?;
-    Ok(Some(Refused::NotFastForward(name, old, new)))
 }

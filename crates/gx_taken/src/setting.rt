@@ -54,6 +54,7 @@ fn turns_of<'a, N: Namer, A: Allocator + Copy>(
     ensures { IfOk result (λ turns. IsTurned repo.now.1 (shown_ref_items refs.now)
         (lent_texts turns.dropped.items) (map shown_update turns.changes.items)) }
 {
+    repo.sound();
     let mut seen = BTreeSet::new(alloc);
     let mut dropped = Vec::new(alloc);
     let mut changes = Vec::new(alloc);

@@ -3,14 +3,14 @@
 ghost use Rattle.std.specs.Prelude.{◌≡◌, ◌<◌, IfOk, length};
 ghost use Rattle.gx_model.specs.Records.Sound.{IsSound};
 ghost use Rattle.gx_offered.specs.Items.{shown_offer};
-ghost use Rattle.gx_taken.specs.Calls.{AreGoodItems, IsTaken, IsUnplaced, TakesText};
+ghost use Rattle.gx_taken.specs.Calls.{AreGoodItems, IsTaken, IsUnplaced, TakesText, object_refused};
 ghost use Rattle.gx_taken.specs.Taking.{taken};
 
 use crate::checking::check_refs;
 use crate::fault::{Refused, TakeFault};
 use crate::parts::{Label, Parts, number_of, parts_of};
 use crate::setting::set_refs;
-use gx_object::Namer;
+use gx_object::{Name, Namer};
 use gx_offered::{Offered, read_offer};
 use gx_placed::{ObjectFault, PlaceFault, place};
 use gx_repo::Repo;
@@ -84,13 +84,19 @@ fn unplaced<A: Allocator>(labels: &[Label], at: usize, fault: ObjectFault) -> Ta
     ensures { IsUnplaced labels.now at fault result }
 {
     let name = labels[at].name;
-    let kind = match fault {
+    TakeFault::Item {
+        number: number_of(labels, &name),
+        kind: refused(name, fault),
+    }
+}
+
+/// The refusal of the object of this name.
+fn refused<A: Allocator>(name: Name, fault: ObjectFault) -> Refused<A>
+    ensures { result ≡ object_refused name fault }
+{
+    match fault {
         ObjectFault::BadObject => Refused::BadObject(name),
         ObjectFault::NameHeld => Refused::NameHeld(name),
         ObjectFault::Dangling(link) => Refused::Dangling(name, link),
-    };
-    TakeFault::Item {
-        number: number_of(labels, &name),
-        kind,
     }
 }

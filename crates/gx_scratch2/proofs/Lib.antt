@@ -1,9 +1,0 @@
-mod ToldRefs
-mod FreeRefs
-mod TurnedRefs
-mod GoodItems
-mod CheckedRefs
-mod Splits
-mod SplitOffers
-mod NumberedLabels
-mod Takings

@@ -25,10 +25,10 @@ GX = os.environ.get("GX", str(Path(__file__).resolve().parent.parent / "crates/g
 # what changes nothing of an import's refs and names, or is told by marks
 IDLE = ["quiet", "stats", "depth", "active-branches", "max-pack-size", "big-file-threshold", "cat-blob-fd"]
 IDLE += ["export-pack-edges", "allow-unsafe-features", "relative-marks", "no-relative-marks", "export-marks"]
-MARKS = "marks of an earlier run (`--import-marks`)"
-BACK = "`cat-blob`, `ls` and `get-mark`, a channel back"
+MARKS = "marks from before"
+BACK = "answers to `cat-blob` or `ls`"
 DATES = "dates in another form (`--date-format`)"
-SUBMODULES = "names of submodules that are written anew (`--rewrite-submodules-from`)"
+SUBMODULES = "other names for submodules' commits (`--rewrite-submodules-from`)"
 OPTIONS = {
     "import-marks": MARKS,
     "import-marks-if-exists": MARKS,
@@ -40,11 +40,11 @@ OPTIONS = {
 NEEDS = [
     (r"feature (import|export|relative|no-relative)-marks.*|\w+: feature relative-marks", MARKS),
     (r"(feature )?(cat-blob|ls|get-mark)\b", BACK),
-    (r"tag ", "tags of blobs, trees and tags"),
+    (r"tag ", "tags of blobs and tags"),
     (r"feature date-format|option git date-format", DATES),
     (r"(feature notes|N )", "notes (`N`)"),
     (r"M 0?40000 ", "trees by their names (`M 040000`)"),
-    (r"M 160000 :", "a commit of a submodule by its mark (`M 160000 :N`)"),
+    (r"M 160000 :", "a submodule's commit by its mark (`M 160000 :N`)"),
     (r"from 0{40}$", "a ref that is deleted (`from` forty zeros)"),
 ]
 

@@ -25,7 +25,7 @@ GX = os.environ.get("GX", str(Path(__file__).resolve().parent.parent / "crates/g
 # what changes nothing of an import's refs and names, or is told by marks
 IDLE = ["quiet", "stats", "depth", "active-branches", "max-pack-size", "big-file-threshold", "cat-blob-fd"]
 IDLE += ["export-pack-edges", "allow-unsafe-features", "relative-marks", "no-relative-marks", "export-marks"]
-MARKS = "marks from before"
+MARKS = "earlier runs' marks"
 BACK = "answers to `cat-blob` or `ls`"
 DATES = "dates in another form (`--date-format`)"
 SUBMODULES = "other names for submodules' commits (`--rewrite-submodules-from`)"

@@ -2,7 +2,8 @@
 
 ghost use Rattle.std.specs.Prelude.{◌≡◌, ◌++◌, OnOk};
 ghost use Rattle.gx_model.specs.Texts.{Bytes};
-ghost use Rattle.gx_hunks.specs.Hunks.{Tells};
+ghost use Rattle.gx_text.specs.Lent.{lent_texts};
+ghost use Rattle.gx_hunks.specs.Telling.{Tells};
 ghost use Rattle.gx_hunks.specs.Lines.{has_nul, is_binary, text_lines};
 
 use crate::finding::changes;
@@ -28,10 +29,23 @@ pub fn put_differences<A: Allocator + Copy>(
     ensures { OnOk result ((told : Bytes) × (text.new.items ≡ text.old.items ++ told)
         × Tells (text_lines old.now) (text_lines new.now) told) }
 {
-    let old = lines_of(alloc, old)?;
-    let new = lines_of(alloc, new)?;
-    let found = changes(alloc, &old, &new)?;
-    put_hunks(text, CONTEXT, &old, &new, &found)
+    let old_lines = lines_of(alloc, old)?;
+    let new_lines = lines_of(alloc, new)?;
+    put_changes(alloc, text, old_lines.as_slice(), new_lines.as_slice())
+}
+
+/// Appends the hunks that make new lines of old ones.
+fn put_changes<A: Allocator + Copy>(
+    alloc: A,
+    text: &mut Vec<u8, A>,
+    old: &[&[u8]],
+    new: &[&[u8]],
+) -> Result<(), AllocError>
+    ensures { OnOk result ((told : Bytes) × (text.new.items ≡ text.old.items ++ told)
+        × Tells (lent_texts old.now) (lent_texts new.now) told) }
+{
+    let found = changes(alloc, old, new)?;
+    put_hunks(text, CONTEXT, old, new, found.as_slice())
 }
 
 /// Whether Git takes a text as binary: a NUL is among its first 8,000 bytes. Takes no memory.
@@ -48,6 +62,6 @@ pub fn is_binary(text: &[u8]) -> bool
 fn has_nul(text: &[u8], count: usize) -> bool
     ensures { result ≡ has_nul count text.now }
 {
-    let looked_at = text.len().min(count);
-    text[..looked_at].contains(&0)
+    let (front, _behind) = text.split_at(usize::min(count, text.len()));
+    front.contains(&0)
 }

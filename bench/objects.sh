@@ -65,7 +65,8 @@ make_directories() {
 
 make_libgit2() { cp -a "$(source_of libgit2)/tests/resources/." .; }
 
-make_tests() { "$top/scripts/git_tests.sh" "$(source_of git)" "$PWD" "${scripts[@]}"; }
+# a script that is cut off is told, and leaves repositories, too
+make_tests() { "$top/scripts/git_tests.sh" "$(source_of git)" "$PWD" "${scripts[@]}" || true; }
 
 # the directories of repositories below the current folder: git wants `refs` in each, and archives leave out empty folders
 repositories() {

@@ -1,8 +1,8 @@
 #!/usr/bin/env bash
 # Fetches the source of a Debian package by apt-get, and prints the folder where it stands.
 #   scripts/debian_source.sh PACKAGE FOLDER
-# The lists of sources are made below FOLDER, of what the system's own sources name: nothing of the
-# system is changed. A source that stands in FOLDER already isn't fetched again. It needs dpkg-dev.
+# The list of sources is made below FOLDER, with the address that the system's own names: nothing of
+# the system is changed. A source that stands in FOLDER already isn't fetched again. It needs dpkg-dev.
 set -euo pipefail
 [ $# -eq 2 ] || {
   echo "usage: scripts/debian_source.sh PACKAGE FOLDER" >&2
@@ -20,12 +20,14 @@ command -v dpkg-source > /dev/null || fail 'there is no dpkg-source here: instal
 # the last one of the package's folders
 there() { find "$folder" -mindepth 1 -maxdepth 1 -type d -name "$package-[0-9]*" | sort -V | tail -n 1; }
 
-# Lines of one kind and paragraphs, as sources of programs. Where Debian isn't among them, its address is the usual one.
+# Debian's sources, where the system has its programs from
 sources() {
-  local release=
+  local release address
+  # shellcheck source=/dev/null
   release=$(. /etc/os-release && echo "$VERSION_CODENAME")
-  grep -hE '^deb [^#]*debian' /etc/apt/sources.list /etc/apt/sources.list.d/*.list 2> /dev/null | sed 's/^deb /deb-src /' | grep -w "$release" && return
-  echo "deb-src [signed-by=/usr/share/keyrings/debian-archive-keyring.gpg] http://deb.debian.org/debian $release main"
+  address=$(cat /etc/apt/sources.list /etc/apt/sources.list.d/* 2> /dev/null | grep -oE '^[^#]*https?://[^ ]*/debian/?( |$)' |
+    grep -oE 'https?://[^ ]*' | head -n 1) || true
+  echo "deb-src [signed-by=/usr/share/keyrings/debian-archive-keyring.gpg] ${address:-http://deb.debian.org/debian} $release main"
 }
 
 apt() {

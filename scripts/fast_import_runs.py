@@ -5,7 +5,8 @@
     scripts/fast_import_runs.py --each RECORDED    prints a line for each run that git takes
 
 RECORDED has a folder for each run, as scripts/recorder/git makes it. GX names the program. Of a run that both take, the refs
-have to be the same, and gx has to hold all objects that git has made, so those of all marks. What is refused or
+have to be the same, and gx has to hold all objects that git has made, so those of all marks. The base is without what
+no store of version 2 holds, as tags of blobs. What is refused or
 differs is tried once more behind `gx adapt`. An option that `gx import` doesn't have is a cause of its own, where
 it changes what is imported. Status 1 tells that a run differs.
 """
@@ -25,10 +26,10 @@ GX = os.environ.get("GX", str(Path(__file__).resolve().parent.parent / "crates/g
 # what changes nothing of an import's refs and names, or is told by marks
 IDLE = ["quiet", "stats", "depth", "active-branches", "max-pack-size", "big-file-threshold", "cat-blob-fd"]
 IDLE += ["export-pack-edges", "allow-unsafe-features", "relative-marks", "no-relative-marks", "export-marks"]
-MARKS = "marks of an earlier run (`--import-marks`)"
-BACK = "`cat-blob`, `ls` and `get-mark`, a channel back"
+MARKS = "earlier runs' marks"
+BACK = "answers to `cat-blob` or `ls`"
 DATES = "dates in another form (`--date-format`)"
-SUBMODULES = "names of submodules that are written anew (`--rewrite-submodules-from`)"
+SUBMODULES = "other names for submodules' commits (`--rewrite-submodules-from`)"
 OPTIONS = {
     "import-marks": MARKS,
     "import-marks-if-exists": MARKS,
@@ -40,11 +41,11 @@ OPTIONS = {
 NEEDS = [
     (r"feature (import|export|relative|no-relative)-marks.*|\w+: feature relative-marks", MARKS),
     (r"(feature )?(cat-blob|ls|get-mark)\b", BACK),
-    (r"tag ", "tags of blobs, trees and tags"),
+    (r"tag ", "tags of blobs and tags"),
     (r"feature date-format|option git date-format", DATES),
     (r"(feature notes|N )", "notes (`N`)"),
     (r"M 0?40000 ", "trees by their names (`M 040000`)"),
-    (r"M 160000 :", "a commit of a submodule by its mark (`M 160000 :N`)"),
+    (r"M 160000 :", "a submodule's commit by its mark (`M 160000 :N`)"),
     (r"from 0{40}$", "a ref that is deleted (`from` forty zeros)"),
 ]
 
@@ -85,16 +86,18 @@ def options_of_gx() -> str:
     return printed(GX, "import", "--help").decode()
 
 
-def words_for(run: Run, known: str) -> tuple[list[str], str]:
+def words_for(run: Run, known: str, marks: Path) -> tuple[list[str], str]:
     """The words of `gx import`, and the need that keeps gx from taking the run, or nothing."""
     words = []
     for name, value in run.options():
-        is_idle = name.startswith("import-marks") and not run.text("marks.before")
-        if name in IDLE or is_idle or (name, value) == ("date-format", "raw"):
+        is_known = re.search(rf"--{name}\b", known) is not None
+        is_idle = name in IDLE or (name.startswith("import-marks") and not run.text("marks.before"))
+        if (is_idle and not is_known) or (name, value) == ("date-format", "raw"):
             continue
-        if not re.search(rf"--{name}\b", known):
+        if not is_known:
             return [], OPTIONS.get(name, f"the option `--{name}`")
-        value = str(run.folder / "marks.before") if name.startswith("import-marks") else value
+        if name.endswith("port-marks") or name == "import-marks-if-exists":
+            value = str(marks if name == "export-marks" else run.folder / "marks.before")
         words.append(f"--{name}={value}" if value else f"--{name}")
     return words, ""
 
@@ -113,8 +116,10 @@ def need_of(told: str) -> str:
     return f"{kind}: `{shown}`" if shown else kind
 
 
-def difference(run: Run, base: Base, store: Path) -> str:
+def difference(run: Run, base: Base, store: Path, marks: Path) -> str:
     """How what gx made differs from what git made, or nothing."""
+    if marks.exists() and marks.read_bytes() != run.text("marks.after"):
+        return "marks"
     refs = set(printed(GX, "refs", store).splitlines())
     wanted = {line for line in run.lines("refs") if line.split()[1] not in base.lacking}
     if refs != wanted:
@@ -125,31 +130,31 @@ def difference(run: Run, base: Base, store: Path) -> str:
     return f"objects: {lacking[:4]}" if lacking else ""
 
 
-def tried(run: Run, words: list[str], base: Base, is_adapted: bool) -> tuple[str, str]:
+def tried(run: Run, folder: Path, words: list[str], is_adapted: bool) -> tuple[str, str]:
     """`equal`; or `differs` or `refused`, with what differs or is needed."""
-    stream = run.text("stdin")
+    stream, base, store, marks = run.text("stdin"), base_of(run.folder / "before"), folder / "store", folder / "marks"
     if is_adapted:
         stream = subprocess.run([GX, "adapt"], input=stream, stdout=subprocess.PIPE, stderr=subprocess.DEVNULL).stdout
-    with tempfile.TemporaryDirectory() as name:
-        store = Path(name) / "store"
-        store.write_bytes(base.text)
-        done = subprocess.run([GX, "--explain", "import", *words, store], input=stream, stdout=subprocess.DEVNULL, stderr=subprocess.PIPE)
-        if done.returncode != 0:
-            return "refused", need_of(done.stderr.decode(errors="replace"))
-        differs = difference(run, base, store)
-        return ("differs", differs) if differs else ("equal", "")
+    marks.unlink(missing_ok=True)
+    store.write_bytes(base.text)
+    done = subprocess.run([GX, "--explain", "import", *words, store], input=stream, stdout=subprocess.DEVNULL, stderr=subprocess.PIPE)
+    if done.returncode != 0:
+        return "refused", need_of(done.stderr.decode(errors="replace"))
+    differs = difference(run, base, store, marks)
+    return ("differs", differs) if differs else ("equal", "")
 
 
 def result_of(run: Run, known: str) -> tuple[str, str]:
     """How it came out: as `tried` tells, or `adapted` where it is equal once `gx adapt` has had the stream, with what came before."""
-    words, need = words_for(run, known)
-    if need:
-        return "refused", need
-    base = base_of(run.folder / "before")
-    first = tried(run, words, base, is_adapted=False)
-    if first[0] != "equal" and tried(run, words, base, is_adapted=True)[0] == "equal":
-        return "adapted", first[1]
-    return first
+    with tempfile.TemporaryDirectory() as name:
+        folder = Path(name)
+        words, need = words_for(run, known, folder / "marks")
+        if need:
+            return "refused", need
+        first = tried(run, folder, words, is_adapted=False)
+        if first[0] != "equal" and tried(run, folder, words, is_adapted=True)[0] == "equal":
+            return "adapted", first[1]
+        return first
 
 
 def tests_of(runs: list[Run]) -> str:

@@ -18,17 +18,18 @@ else
 fi
 GX=$(realpath -m "${GX:-$here/../crates/gx/out/gx}")
 REAL_GIT=$(command -v git)
-RECORDED=$folder/recorded
+RECORDED=$folder/recorded.new
 export GX REAL_GIT RECORDED GIT_CONFIG_NOSYSTEM=1
 [ -x "$GX" ] || {
   echo "fast_import_runs.sh: there is no $GX" >&2
   exit 2
 }
 
-if [ ! -d "$RECORDED" ]; then
+if [ ! -d "$folder/recorded" ]; then
   source=${SOURCE:-$("$here/debian_source.sh" git "$folder")}
-  mkdir "$RECORDED"
+  rm -rf "$RECORDED" && mkdir "$RECORDED"
   GIT_BIN=$here/recorder "$here/git_tests.sh" "$source" "$folder/tests" t9300-fast-import t9301-fast-import-notes \
     t9302-fast-import-unpack-limit t9303-fast-import-compression t9304-fast-import-marks t9350-fast-export t9351-fast-export-anonymize
+  mv "$RECORDED" "$folder/recorded"
 fi
-"$here/fast_import_runs.py" "${each[@]}" "$RECORDED"
+"$here/fast_import_runs.py" "${each[@]}" "$folder/recorded"

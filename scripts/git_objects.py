@@ -16,12 +16,11 @@ EMPTY = "4b825dc642cb6eb9a060e54bf8d69288fbee4904"
 
 @dataclass
 class Base:
-    """The text of a store; the names of git's objects; the refs that the store doesn't have; whether it has all."""
+    """The text of a store; the names of git's objects; the refs that the store doesn't have."""
 
     text: bytes
     there: set[bytes]
     lacking: set[bytes]
-    is_whole: bool
 
 
 def objects_of(git: Path) -> dict[str, tuple[str, bytes]]:
@@ -82,4 +81,4 @@ def base_of(git: Path) -> Base:
     refs = sorted(refs, key=lambda line: line.split()[1])
     text = front + b"".join(records) + last + b"".join(line + b"\n" for line in refs) + b"end\n"
     lacking = {line.split()[1] for line in lines} - {line.split()[1] for line in refs}
-    return Base(text, {name.encode() for name in objects}, lacking, len(order) == len(objects) and not lacking)
+    return Base(text, {name.encode() for name in objects}, lacking)

@@ -1,6 +1,7 @@
 #!/usr/bin/env bash
 # Runs test scripts of git's source over the installed git, and keeps what each leaves in OUT/trash directory.NAME
-# with its output in OUT/NAME.log. A test that fails is no fault here: what it leaves is looked at.
+# with its output in OUT/NAME.log. A test that fails is no fault here: what it leaves is looked at. Status 1 tells, with
+# a line each, that a script didn't come to its end within an hour, or LIMIT seconds.
 #   scripts/git_tests.sh SOURCE OUT SCRIPT..      SOURCE: the folder of git's source; SCRIPT: as t9300-fast-import
 # GIT_BIN names a folder whose `git` is run in place of the installed one. Two run at a time, or JOBS.
 set -euo pipefail
@@ -25,4 +26,14 @@ GIT_TEST_INSTALLED=${GIT_BIN:-$(dirname "$(command -v git)")}
 export GIT_TEST_INSTALLED OUT=$out
 # shellcheck disable=SC2016  # $0 is the inner shell's
 printf '%s\0' "$@" | (cd "$source/t" && xargs -0 -n 1 -P "${JOBS:-2}" \
-  sh -c 'TEST_LOG=$OUT/$0.log; export TEST_LOG; exec timeout 600 sh "./$0.sh" -d -v --root="$OUT" > "$TEST_LOG" 2>&1 < /dev/null') || true
+  sh -c 'TEST_LOG=$OUT/$0.log; export TEST_LOG; exec timeout "${LIMIT:-3600}" sh "./$0.sh" -d -v --root="$OUT" > "$TEST_LOG" 2>&1 < /dev/null') || true
+
+# a script that comes to its end, or is left out as a whole, says how many tests it has
+cut=0
+for script in "$@"; do
+  grep -qaE '^1\.\.[0-9]+' "$out/$script.log" || {
+    echo "git_tests.sh: $script didn't come to its end" >&2
+    cut=1
+  }
+done
+exit $cut

@@ -22,6 +22,7 @@ PLACE = re.compile(rb"objects/([0-9a-f]{2})/([0-9a-f]{38})")
 
 # who and when of the lines of headers that tell it
 PERSON = re.compile(rb"^(?:author|committer|tagger) (.*)$", re.M)
+SIGNED = re.compile(rb"> [\s+]+\d+ [+-]\d+\Z")
 TIME = re.compile(rb"> (\d+) [+-](\d+)\Z")
 COMMIT = rb"\Atree .*\n(?:parent .*\n)*author .*\ncommitter .*\n"
 TAG = rb"\Aobject .*\ntype .*\ntag .*\n(?:tagger .*\n)?"
@@ -56,6 +57,7 @@ GIT_ALONE: dict[str, Callable[[bytes], bool]] = {
     "neither message nor the empty line before it": has(rb"\A(?:[^\n]+\n)+\Z"),
     "a tag of a tree, a blob or a tag": has(rb"\Aobject \w+\ntype (?:tree|blob|tag)\n"),
     "digits in upper case": has(rb"\A(?:tree .*\n(?:parent .*\n)*?parent|tree|object) (?=.*[A-F])[0-9a-fA-F]{40}\n"),
+    "a `+` or a space before the seconds": lambda body: any(map(SIGNED.search, people(body))),
     "a zone above 1400": lambda body: any(int(zone) > 1400 for _, zone in times(body)),
     "a tag whose name makes no ref": names_no_ref,
     "further headers of a commit": has(COMMIT + rb"(?!\n|encoding .+\n(?:\n|\Z))[^\n]"),
@@ -111,7 +113,7 @@ class Sides:
 
 def compare(sides: Sides, bodies: dict[bytes, Record]) -> None:
     """Compares what both say of each body; not where it names what isn't there, which is no matter of its form."""
-    told = sides.refused_by_git()
+    told, without_name = sides.refused_by_git(), []
     for name, record in bodies.items():
         git, gx = told.get(name, b""), sides.told_by_gx(record)
         if b"Dangling" in gx:
@@ -122,8 +124,11 @@ def compare(sides: Sides, bodies: dict[bytes, Record]) -> None:
             continue
         side, among = ("gx alone", GX_ALONE) if git else ("git alone", GIT_ALONE)
         why = next((name for name, holds in among.items() if holds(record.body)), None)
-        assert why, f"{side} takes a {record.kind.decode()}\n{record.body!r}\ngit: {git!r}\ngx: {gx!r}"
-        counted[f"{side} takes: {why}"] += 1
+        if why:
+            counted[f"{side} takes: {why}"] += 1
+        else:
+            without_name.append(f"{side} takes {record.body!r}\n  git: {git!r}\n  gx: {gx!r}")
+    assert not without_name, "\n".join([f"{len(without_name)} differences, as", *without_name[:20]])
 
 
 @pytest.mark.parametrize("kind", [b"commit", b"tag"])

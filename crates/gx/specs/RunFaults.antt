@@ -1,5 +1,6 @@
 -- What a refused run prints on standard error. Source: this project's own.
-use Rattle.std.specs.Prelude.{ℕ, List, codes}
+use Rattle.std.specs.Prelude.{ℕ, List, ◌++◌, codes}
+use Rattle.std.specs.Fmt.{decimal}
 use Rattle.gx_changes.specs.declared.fault.ChangesFault.{ChangesFault}
 use Rattle.gx_changes.specs.declared.fault.ChangesFault.TheVariants as changes
 use Rattle.gx_cli.specs.FaultLines as command
@@ -17,7 +18,7 @@ use Rattle.gx_ranges.specs.declared.fault.RangeFault.{RangeFault}
 use Rattle.gx_told.specs.declared.fault.ToldFault.{ToldFault}
 use Rattle.gx_told.specs.declared.fault.ToldFault.TheVariants as told
 use Rattle.gx.specs.declared.fault.RunFault.{RunFault}
-use Rattle.gx.specs.declared.fault.RunFault.TheVariants.{Command, LockFailed, LongName, StoreChanged, BadStamp, RandomFailed, Damaged, NotSmall, ManyObjects, EmptyBundle}
+use Rattle.gx.specs.declared.fault.RunFault.TheVariants.{Command, LockFailed, LongName, StoreChanged, BadStamp, RandomFailed, Damaged, NotSmall, ManyObjects, EmptyBundle, Item}
 
 -- the line of a refusal, without its line feed
 abbrev pub line_of : RunFault → List ℕ
@@ -31,6 +32,7 @@ line_of Damaged = codes "gx: store: Damaged"
 line_of NotSmall = codes "gx: no small repository"
 line_of ManyObjects = codes "gx: bundle: Unsupported"
 line_of EmptyBundle = codes "gx: bundle: Empty"
+line_of (Item number word) = codes "gx: object " ++ decimal number ++ codes ": " ++ word.now
 
 -- why a run is refused that can't look into its store
 abbrev pub of_look : LookFault → RunFault

@@ -47,6 +47,8 @@ pub(crate) enum RunFault {
     ManyObjects,
     /// The range words of a bundle name no ref.
     EmptyBundle,
+    /// The number of the item of a text of refs and objects, from 1, and the word of what is against it.
+    Item { number: usize, word: &'static str },
 }
 
 impl fmt::Display for RunFault {
@@ -64,16 +66,17 @@ impl fmt::Display for RunFault {
             RunFault::NotSmall => f.write_str("gx: no small repository"),
             RunFault::ManyObjects => f.write_str("gx: bundle: Unsupported"),
             RunFault::EmptyBundle => f.write_str("gx: bundle: Empty"),
+            RunFault::Item { number, word } => write!(f, "gx: object {number}: {word}"),
         }
     }
 }
 
 impl RunFault {
-    /// Whether the stream that is imported, or a line of its push, is at fault.
+    /// Whether what is imported, or a line of its push, is at fault.
     pub(crate) fn is_of_import(&self) -> bool {
         matches!(
             self,
-            RunFault::Command(CliFault::Import(_) | CliFault::Push { .. })
+            RunFault::Command(CliFault::Import(_) | CliFault::Push { .. }) | RunFault::Item { .. }
         )
     }
 

@@ -4,6 +4,7 @@ pub(crate) mod devices;
 pub(crate) mod explanation;
 pub(crate) mod kept;
 pub(crate) mod progress;
+pub(crate) mod refused_item;
 pub(crate) mod reports;
 mod steps;
 pub(crate) mod traced;

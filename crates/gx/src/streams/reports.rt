@@ -18,6 +18,14 @@ pub(crate) fn tell_import(run: &Run<'_>, report: &ImportReport, is_asked: bool) 
     }
 }
 
+/// Tells how many objects came of a text of refs and objects, and how many refs changed, where that is asked for or somebody reads it
+/// as it comes.
+pub(crate) fn tell_taken(run: &Run<'_>, objects: usize, refs: usize, is_asked: bool) {
+    if is_asked || run.is_watched() {
+        let _ = eprintln!(run.rt; "gx: objects: {objects}, refs: {refs}");
+    }
+}
+
 /// Tells how many identities have other bytes than in git, which writes a space before their `<`, if any were counted.
 pub(crate) fn tell_nameless(run: &Run<'_>, count: u64) {
     tell_count(
@@ -88,7 +96,12 @@ fn tell_count(run: &Run<'_>, what: &str, count: u64) {
 
 /// Tells somebody at a terminal, who may wait for something to happen, that a stream is to be typed.
 pub(crate) fn tell_typed_stream(run: &Run<'_>) {
+    tell_typed(run, "a stream");
+}
+
+/// The same of what is to be typed.
+pub(crate) fn tell_typed(run: &Run<'_>, what: &str) {
     if run.is_watched() && run.rt.stdin().is_terminal() {
-        let _ = eprintln!(run.rt; "gx: reading a stream from standard input");
+        let _ = eprintln!(run.rt; "gx: reading {what} from standard input");
     }
 }

@@ -5,7 +5,7 @@ use crate::fault::RunFault;
 use crate::questions::ask;
 use crate::run::Run;
 use crate::salvaging::salvage_into;
-use crate::stores::{collect, drop_refs, grow, import, init, push, put, set_ref};
+use crate::stores::{collect, drop_refs, grow, import, import_objects, init, push, put, set_ref};
 use crate::streams::{features, try_input, verify};
 use gx_asks::Change;
 use gx_cli::Line;
@@ -92,6 +92,14 @@ fn make(
         } => {
             run.explain_if(*explain);
             import(run, file, features(done, force), *report, state)
+        }
+        Change::Objects {
+            force,
+            report,
+            explain,
+        } => {
+            run.explain_if(*explain);
+            import_objects(run, file, *force, *report, state)
         }
         Change::Push {
             push: told,

@@ -1,0 +1,5 @@
+pub mod Lines
+pub mod Changes
+pub mod Hunks
+pub mod Patches
+pub mod Telling

@@ -1,0 +1,4 @@
+mod MarkLines
+mod OneReadings
+mod ReadTexts
+mod SentMarks

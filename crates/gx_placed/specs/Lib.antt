@@ -1,0 +1,5 @@
+pub mod Faults
+pub mod Machine
+pub mod Placed
+pub mod Places
+pub mod Steps

@@ -1,0 +1,12 @@
+mod ToldRefs
+mod FreeRefs
+mod TurnedRefs
+mod GoodItems
+mod CheckedRefs
+mod Splits
+mod SplitOffers
+mod NumberedLabels
+mod HeldObjects
+mod Takings
+mod Unplaced
+mod TakenTexts

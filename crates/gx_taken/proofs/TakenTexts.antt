@@ -44,7 +44,7 @@ module _ (name : Kind → Bytes → Bytes) where
       given_by coming offered h (Err fault.ReadFailed) k = absurd k
       given_by coming offered h (Err (fault.Item number kind)) k = (h.0, read_as coming.bytes _ h.1 ∙ k)
 
-      refused_by : (coming : Coming) (why : OfferFault) → OffersAll {A = A} name coming (Err why) → TakesAll {N = N} name force r coming (Err (of_offer why))
+      refused_by : (coming : Coming) (why : OfferFault) → OffersAll name {A = A} coming (Err why) → TakesAll {N = N} name force r coming (Err (of_offer why))
       unfolding by_items
       refused_by coming offer.OutOfMemory h = tt
       refused_by coming offer.ReadFailed h = h
@@ -56,6 +56,6 @@ module _ (name : Kind → Bytes → Bytes) where
       text_given (Some coming) offered h answer k = given_by (heard coming) offered h answer k
 
       -- or a text isn't read
-      pub text_refused : (coming : Option Coming) (why : OfferFault) → GivesOffer {A = A} name coming (Err why) → TakesText {N = N} name force r coming (Err (of_offer why))
+      pub text_refused : (coming : Option Coming) (why : OfferFault) → GivesOffer name {A = A} coming (Err why) → TakesText {N = N} name force r coming (Err (of_offer why))
       text_refused None why h = (h.0, refused_by h.0 why h.1)
       text_refused (Some coming) why h = refused_by (heard coming) why h

@@ -71,12 +71,12 @@ module _ {A : Type 0} (X : Type 0) (names : Kind → Bytes → Bytes) (all : Lis
           → StandsOn names all was now below r × GoesOn names all (below ++ one ∷ []) below held now r
       by (Ok x) m t h = (
         (s.0, subst (λ rs. IsMachine names all (slots was) rs below) (sym h.1) (ended names all (slots was) held below one m n.0)),
-        last_ok names all (slots was) held below one m n.0 h.0 ∙ ap (resumed (suc (length all)) all below) (sym h.1)
+        last_ok names all (slots was) held below one m n.0 h.0 ∙ ap (resumed (suc (length all)) all below) (sym h.1),
       )
       by (Err place.OutOfMemory) m t h = (tt, tt)
       by (Err (place.Object at fault)) m t h = (
         tt,
-        (one.new, ap (slice_get all) h.1 ∙ t, last_bad names all (slots was) held below one m n.0 h.0 ∙ ap (λ (f : ObjectFault). Err (take_fault f one.new.name)) (sym h.2))
+        (one.new, ap (slice_get all) h.1 ∙ t, last_bad names all (slots was) held below one m n.0 h.0 ∙ ap (λ (f : ObjectFault). Err (take_fault f one.new.name)) (sym h.2)),
       )
 
   module _ (link : Kind × Bytes) (left : List (Kind × Bytes)) (l : one.left ≡ link ∷ left) where
@@ -84,9 +84,10 @@ module _ {A : Type 0} (X : Type 0) (names : Kind → Bytes → Bytes) (all : Lis
     pub held_step : (more : List Begun) → more ≡ below ++ looked_at one link left ∷ [] → is_held held link.0 link.1 ≡ true → slots waiting ≡ slots was → waiting.places ≡ was.places → Stands names all was held (below ++ one ∷ [])
         → Stands names all waiting held more × (resumed (suc (length all)) all (below ++ one ∷ []) held ≡ resumed (suc (length all)) all more held)
     held_step more e h t p s =
-        subst (λ bs. Stands names all waiting held bs × (resumed (suc (length all)) all (below ++ one ∷ []) held ≡ resumed (suc (length all)) all bs held)) (sym e)
-          ((still_first all was waiting p s.0, subst (λ ss. IsMachine names all ss held (below ++ looked_at one link left ∷ [])) (sym t) (over names all (slots was) held below one link left s.1 l h)),
-           over_ok names all (slots was) held below one link left s.1 l h)
+        subst (λ bs. Stands names all waiting held bs × (resumed (suc (length all)) all (below ++ one ∷ []) held ≡ resumed (suc (length all)) all bs held)) (sym e) (
+          (still_first all was waiting p s.0, subst (λ ss. IsMachine names all ss held (below ++ looked_at one link left ∷ [])) (sym t) (over names all (slots was) held below one link left s.1 l h)),
+          over_ok names all (slots was) held below one link left s.1 l h,
+        )
 
     -- a link that is given
     pub given_step : (called : Name) (at : ℕ) (r : Record) (more : List Begun) → called.bytes ≡ link.1 → more ≡ below ++ looked_at one link left ∷ begun_at at r ∷ [] → record_named held link.1 ≡ None
@@ -95,10 +96,13 @@ module _ {A : Type 0} (X : Type 0) (names : Kind → Bytes → Bytes) (all : Lis
     given_step called at r more c e free w k b t p s =
         let found = found_at (slots was) (place_in all called.bytes) at r (ap (option_and_then (object_at (slots was))) (sym (s.0 called)) ∙ w) in
         let first : place_in all link.1 ≡ Some at = ap (place_in all) (sym c) ∙ found.0 in
-        subst (λ bs. Stands names all waiting held bs × (resumed (suc (length all)) all (below ++ one ∷ []) held ≡ resumed (suc (length all)) all bs held)) (sym e)
-          ((still_first all was waiting p s.0,
-            subst (λ ss. IsMachine names all ss held (below ++ looked_at one link left ∷ begun_at at r ∷ [])) (sym t) (into names all (slots was) held below one link left (begun_at at r) s.1 l free first found.1 k b refl refl)),
-           into_ok names all (slots was) held below one link left at r s.1 l free first found.1 k b)
+        subst (λ bs. Stands names all waiting held bs × (resumed (suc (length all)) all (below ++ one ∷ []) held ≡ resumed (suc (length all)) all bs held)) (sym e) (
+          (
+            still_first all was waiting p s.0,
+            subst (λ ss. IsMachine names all ss held (below ++ looked_at one link left ∷ begun_at at r ∷ [])) (sym t) (into names all (slots was) held below one link left (begun_at at r) s.1 l free first found.1 k b refl refl),
+          ),
+          into_ok names all (slots was) held below one link left at r s.1 l free first found.1 k b,
+        )
 
     -- what is given isn't well
     pub bad_step : (called : Name) (at : ℕ) (r : Record) (more : List Begun) (fault : PlaceFault) (result : Result X PlaceFault) → result ≡ Err fault → called.bytes ≡ link.1 → record_named held link.1 ≡ None
@@ -111,21 +115,25 @@ module _ {A : Type 0} (X : Type 0) (names : Kind → Bytes → Bytes) (all : Lis
         by place.OutOfMemory b = (tt, tt)
         by (place.Object p f) b =
             let found = found_at (slots was) (place_in all called.bytes) at r (ap (option_and_then (object_at (slots was))) (sym (s.0 called)) ∙ w) in
-            let first : place_in all link.1 ≡ Some at = ap (place_in all) (sym c) ∙ found.0 in
-            (tt,
-             (r,
-              ap (slice_get all) b.1 ∙ slot_is held (below ++ one ∷ []) all (slots was) at r s.1.covered found.1,
-              into_bad names all (slots was) held below one link left at r s.1 l free first found.1 k b.0 ∙ ap (λ (x : ObjectFault). Err (take_fault x r.name)) (sym b.2)))
+            let first : place_in all link.1 ≡ Some at = ap (place_in all) (sym c) ∙ found.0 in (
+              tt,
+              (
+                r,
+                ap (slice_get all) b.1 ∙ slot_is held (below ++ one ∷ []) all (slots was) at r s.1.covered found.1,
+                into_bad names all (slots was) held below one link left at r s.1 l free first found.1 k b.0 ∙ ap (λ (x : ObjectFault). Err (take_fault x r.name)) (sym b.2),
+              ),
+            )
 
     -- a link that dangles
     pub lacking_step : (called : Name) (next : Begun) → called.bytes ≡ link.1 → next ≡ looked_at one link left → IsLacking (record_named held link.1) (waiting_as was called) link.0 → Stands names all was held (below ++ one ∷ [])
         → (r : Record) × (slice_get all next.place ≡ Some r) × (resumed (suc (length all)) all (below ++ one ∷ []) held ≡ Err (Dangling r.name called.bytes))
     lacking_step called next c n h s =
         let top = top_begun names all all held below one s.1.stack in
-        let known = subst (λ w. IsLacking (record_named held link.1) w link.0) (ap (option_and_then (object_at (slots was))) (s.0 called ∙ ap (place_in all) c)) h in
-        (one.new,
-         ap (λ (x : Begun). slice_get all x.place) n ∙ top.stands,
-         lacks names all (slots was) held below one link left s.1 l known ∙ ap (λ b. Err (Dangling one.new.name b)) (sym c))
+        let known = subst (λ w. IsLacking (record_named held link.1) w link.0) (ap (option_and_then (object_at (slots was))) (s.0 called ∙ ap (place_in all) c)) h in (
+          one.new,
+          ap (λ (x : Begun). slice_get all x.place) n ∙ top.stands,
+          lacks names all (slots was) held below one link left s.1 l known ∙ ap (λ b. Err (Dangling one.new.name b)) (sym c),
+        )
 
 -- ---- how much is left
 
@@ -145,13 +153,13 @@ module _ {A : Type 0} (X : Type 0) (was waiting : Waiting A) (below : List Begun
     fewer_given called at r more e w t =
         let found = found_at (slots was) (place_of was.places called) at r w in
         let a : work_left (slots waiting) more ≡ work_left (set (slots was) at None) (below ++ looked_at one link left ∷ begun_at at r ∷ []) =
-          ap (work_left (slots waiting)) e ∙ ap (λ ss. work_left ss (below ++ looked_at one link left ∷ begun_at at r ∷ [])) t in
+        ap (work_left (slots waiting)) e ∙ ap (λ ss. work_left ss (below ++ looked_at one link left ∷ begun_at at r ∷ [])) t in
         subst (λ n. n < work_left (slots was) (below ++ one ∷ [])) (sym a) (less_into (slots was) below one link left at r l found.1)
 
 -- ---- all steps of one object
 
 module _ {A : Type 0} (X : Type 0) (names again : Kind → Bytes → Bytes) (all : List Record) (was waiting later : Waiting A) (held now next : List Record) (first so_far old new : List Begun) (same : again ≡ names) (are : so_far ≡ old)
-  (known : Stands names all was held first → Stands names all waiting now so_far × (resumed (suc (length all)) all first held ≡ resumed (suc (length all)) all so_far now)) where
+    (known : Stands names all was held first → Stands names all waiting now so_far × (resumed (suc (length all)) all first held ≡ resumed (suc (length all)) all so_far now)) where
   pub next_step : (result : Result X PlaceFault) → Steps again all waiting later now next old new result → Steps names all was later held next first new result
   next_step result h s =
       let k = known s in
@@ -167,15 +175,16 @@ module _ {A : Type 0} (X : Type 0) (names again : Kind → Bytes → Bytes) (all
 -- ---- the object at a place
 
 module _ {A : Type 0} (X : Type 0) (names : Kind → Bytes → Bytes) (all : List Record) (was waiting : Waiting A) (held : List Record) (at : ℕ) (one : Record) (there : slice_get all at ≡ Some one) (places : waiting.places ≡ was.places)
-  (emptied : slots waiting ≡ set (slots was) at None) (s : Stands names all was held []) where
+    (emptied : slots waiting ≡ set (slots was) at None) (s : Stands names all was held []) where
   left_alone : record_named held one.name ≡ Some one → Stands names all waiting held [] × (placed_within (suc (length all)) all held one ≡ Ok held)
-  left_alone f =
-      ((still_first all was waiting places s.0, subst (λ ss. IsMachine names all ss held []) (sym emptied) (left_out names all (slots was) held at one s.1 there f)),
-       name_taken (length all) all held one one f ∙ ap (λ b. cond b (Ok held) (Err (NameHeld one.name))) (λ i. kinds_same one.kind one.kind refl i && same_itself one.body i))
+  left_alone f = (
+    (still_first all was waiting places s.0, subst (λ ss. IsMachine names all ss held []) (sym emptied) (left_out names all (slots was) held at one s.1 there f)),
+    name_taken (length all) all held one one f ∙ ap (λ b. cond b (Ok held) (Err (NameHeld one.name))) (λ i. kinds_same one.kind one.kind refl i && same_itself one.body i),
+  )
 
   -- it was taken before
   pub taken_before : slot_at (slots was) at ≡ None → Stands names all waiting held [] × (placed_within (suc (length all)) all held one ≡ Ok held)
-  taken_before e = left_alone (elim (slot_covered held [] all (slots was) at one s.1.covered e there) [ | inl f ↦ f | inr x ↦ absurd x ])
+  taken_before e = left_alone (elim (slot_covered held [] all (slots was) at one s.1.covered e there) [ inl f ↦ f | inr x ↦ absurd x ])
 
   -- what is taken now is it
   taken_now : (r : Record) → slot_at (slots was) at ≡ Some r → r ≡ one
@@ -196,11 +205,16 @@ module _ {A : Type 0} (X : Type 0) (names : Kind → Bytes → Bytes) (all : Lis
         let h = is_shown held r.name k body e in
         let z = taken_now r taken in
         let no : same_object h.held r ≡ false = false_from_ne_true (same_object h.held r) (λ t.
-          let same = one_record h.held r h.named t in
-          differ (sym h.of_kind ∙ ap (λ (x : Record). x.kind) same, sym h.of_body ∙ ap (λ (x : Record). x.body) same)) in
-        (tt, (one, there,
-         subst (λ (x : Record). placed_within (suc (length all)) all held x ≡ Err (NameHeld x.name)) z
-           (name_taken (length all) all held r h.held h.found ∙ ap (λ b. cond b (Ok held) (Err (NameHeld r.name))) no)))
+        let same = one_record h.held r h.named t in
+        differ (sym h.of_kind ∙ ap (λ (x : Record). x.kind) same, sym h.of_body ∙ ap (λ (x : Record). x.body) same)) in (
+          tt,
+          (
+            one,
+            there,
+            subst (λ (x : Record). placed_within (suc (length all)) all held x ≡ Err (NameHeld x.name)) z
+                (name_taken (length all) all held r h.held h.found ∙ ap (λ b. cond b (Ok held) (Err (NameHeld r.name))) no),
+          ),
+        )
 
     -- it isn't well
     pub new_bad : (fault : PlaceFault) (result : Result X PlaceFault) → result ≡ Err fault → None ≡ option_map object_of (record_named held r.name) → Begins {A = A} at r (Err fault)
@@ -209,10 +223,15 @@ module _ {A : Type 0} (X : Type 0) (names : Kind → Bytes → Bytes) (all : Lis
       where
         by : (f : PlaceFault) → Begins {A = A} at r (Err f) → StandsOn names all {X = X} waiting held [] (Err f) × Answers {X = X} all (placed_within (suc (length all)) all held one) held (Err f)
         by place.OutOfMemory b = (tt, tt)
-        by (place.Object p f) b =
-            (tt, (one, ap (slice_get all) b.1 ∙ there,
-             subst (λ (x : Record). placed_within (suc (length all)) all held x ≡ Err (take_fault f x.name)) (taken_now r taken)
-               (begins_badly (length all) all held r (none_got held r.name free) b.0 ∙ ap (λ (x : ObjectFault). Err (take_fault x r.name)) (sym b.2))))
+        by (place.Object p f) b = (
+          tt,
+          (
+            one,
+            ap (slice_get all) b.1 ∙ there,
+            subst (λ (x : Record). placed_within (suc (length all)) all held x ≡ Err (take_fault f x.name)) (taken_now r taken)
+                (begins_badly (length all) all held r (none_got held r.name free) b.0 ∙ ap (λ (x : ObjectFault). Err (take_fault x r.name)) (sym b.2)),
+          ),
+        )
 
     -- it is new
     pub new_step : {Y : Type 0} (later : Waiting A) (now : List Record) (new : Begun) (result : Result Y PlaceFault) → None ≡ option_map object_of (record_named held r.name) → (is_body r.kind r.body ≡ true) × (new ≡ begun_at at r)
@@ -258,7 +277,7 @@ module _ {A : Type 0} (X : Type 0) (names again : Kind → Bytes → Bytes) (all
       record {
         stands = subst (λ (n : Kind → Bytes → Bytes). Stands n all waiting next []) same done.0;
         front = subst (AllByRecursion (λ (before : Record). record_named next before.name ≡ Some before)) (sym cut.1)
-          (all_snoc (λ (before : Record). record_named next before.name ≡ Some before) (take at all) one.0
+            (all_snoc (λ (before : Record). record_named next before.name ≡ Some before) (take at all) one.0
             (all_then (λ b k. ap (λ rs. record_named rs b.name) more.1 ∙ found_still now more.0 b.name b k) (take at all) known.front) there);
         goes = ap (λ (r : Placed). r >>= placed_in_order all (drop (at + 1) all)) (sym done.1) ∙ ap (λ rs. placed_in_order all rs now) (sym cut.0) ∙ known.goes;
       }
@@ -277,10 +296,10 @@ module _ {A : Type 0} (X : Type 0) (names again : Kind → Bytes → Bytes) (all
 
 pub none_so_far : {A : Type 0} (names : Kind → Bytes → Bytes) (all held : List Record) (waiting : Waiting A) → AreNamed names all → slots waiting ≡ map Some all → IsIndexed all waiting → AreSoFar names all held waiting held 0
 none_so_far names all held waiting n t i = record {
-    stands = (i, subst (λ ss. IsMachine names all ss held []) (sym t) (at_first names all held n));
-    front = tt;
-    goes = refl;
-  }
+  stands = (i, subst (λ ss. IsMachine names all ss held []) (sym t) (at_first names all held n));
+  front = tt;
+  goes = refl;
+}
 
 pub all_so_far : {A : Type 0} (names : Kind → Bytes → Bytes) (all held : List Record) (waiting : Waiting A) (now : List Record) (at : ℕ) → at ≡ length all → AreSoFar names all held waiting now at → placed_all all held ≡ Ok now
 all_so_far names all held waiting now at e known = sym known.goes ∙ ap (λ rs. placed_in_order all rs now) (ap (λ n. drop n all) e ∙ none all)
@@ -288,3 +307,17 @@ all_so_far names all held waiting now at e known = sym known.goes ∙ ap (λ rs.
     none : (rs : List Record) → drop (length rs) rs ≡ []
     none [] = refl
     none (r ∷ rs) = none rs
+
+-- ---- what stays
+
+pub empty_list : {X : Type 0} (xs : List X) → length xs ≡ 0 → xs ≡ []
+empty_list [] e = refl
+empty_list (x ∷ xs) e = absurd (omega (arith, e))
+
+-- as many as stood before stand in front
+pub front_kept : (old new : List Record) (n : ℕ) → n ≡ length old → Extends old new → take n new ≡ old
+front_kept old new n e h = ap (λ k. take k new) e ∙ ap (take (length old)) h.1 ∙ front old h.0
+  where
+    front : (xs ys : List Record) → take (length xs) (xs ++ ys) ≡ xs
+    front [] ys = refl
+    front (x ∷ xs) ys = ap (λ v. x ∷ v) (front xs ys)

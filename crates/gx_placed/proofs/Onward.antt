@@ -76,7 +76,7 @@ module _ (names : Kind → Bytes → Bytes) (all : List Record) (slots : List (O
   into_ok link left p r m l e f g k b =
       let need = needed names all slots held below one link p r m e f g in
       goes (suc (suc (length all - length below - 1))) (looked_at one link left ∷ begun_at p r ∷ []) held (more_left p r g m)
-        (into_link (length all - length below - 1) (beside all below) held one link left (begun_at p r) l e need.2 k b refl)
+      (into_link (length all - length below - 1) (beside all below) held one link left (begun_at p r) l e need.2 k b refl)
 
   ends : (k : ℕ) (link : Kind × Bytes) (left : List (Kind × Bytes)) (f : TakeFault) → suc (length all) ≡ length below + suc k → one.left ≡ link ∷ left
       → link_placed (placed_within k (others one.new.name (beside all below))) (others one.new.name (beside all below)) one.new.name link held ≡ Err f → resumed (suc (length all)) all (below ++ one ∷ []) held ≡ Err f
@@ -89,16 +89,16 @@ module _ (names : Kind → Bytes → Bytes) (all : List Record) (slots : List (O
       let j = length all - length below - 1 in
       let rest = others one.new.name (beside all below) in
       ends (suc j) link left (BadObject r.name) (more_left p r g m) l
-        (given_link (placed_within (suc j) rest) rest one.new.name link held r e need.2
-         ∙ ap (λ t. cond t (placed_within (suc j) rest held r) (Err (Dangling one.new.name link.1))) k
-         ∙ begins_badly j rest held r (ap (record_named held) need.1 ∙ e) b)
+      (given_link (placed_within (suc j) rest) rest one.new.name link held r e need.2
+      ∙ ap (λ t. cond t (placed_within (suc j) rest held r) (Err (Dangling one.new.name link.1))) k
+      ∙ begins_badly j rest held r (ap (record_named held) need.1 ∙ e) b)
 
   -- a link dangles
   pub lacks : (link : Kind × Bytes) (left : List (Kind × Bytes)) → IsMachine names all slots held (below ++ one ∷ []) → one.left ≡ link ∷ left
       → IsLacking (record_named held link.1) (option_and_then (object_at slots) (place_in all link.1)) link.0 → resumed (suc (length all)) all (below ++ one ∷ []) held ≡ Err (Dangling one.new.name link.1)
   lacks link left m l h =
       ends (length all - length below) link left (Dangling one.new.name link.1) (steps_left m) l
-        (by (record_named held link.1) (option_and_then (object_at slots) (place_in all link.1)) refl refl h)
+      (by (record_named held link.1) (option_and_then (object_at slots) (place_in all link.1)) refl refl h)
     where
       step : List Record → Record → Placed
       step = placed_within (length all - length below) (others one.new.name (beside all below))

@@ -72,12 +72,12 @@ put_first given i n r x now was s e u w =
     elim (one_or_two x r.name) [
       | inl same ↦
           (let here : is_eq (byte_cmp r.name x) ≡ true = ap (λ y. is_eq (byte_cmp r.name y)) same ∙ ap is_eq (itself r.name) in
-           let first : place_in (r ∷ drop n given) x ≡ Some zero = ap (λ b. cond b (Some zero) (option_map suc (place_in (drop n given) x))) (ap (λ y. same_bytes y r.name) same ∙ same_itself r.name) in
-           let z : i ≡ 0 + i = omega arith in
-           u ∙ ap (λ b. cond b (Some i) was) here ∙ ap Some z ∙ ap (option_map (λ k. k + i)) (sym first) ∙ ap (λ ds. option_map (λ k. k + i) (place_in ds x)) (sym (parted given i n r s e).0))
+          let first : place_in (r ∷ drop n given) x ≡ Some zero = ap (λ b. cond b (Some zero) (option_map suc (place_in (drop n given) x))) (ap (λ y. same_bytes y r.name) same ∙ same_itself r.name) in
+          let z : i ≡ 0 + i = omega arith in
+          u ∙ ap (λ b. cond b (Some i) was) here ∙ ap Some z ∙ ap (option_map (λ k. k + i)) (sym first) ∙ ap (λ ds. option_map (λ k. k + i) (place_in ds x)) (sym (parted given i n r s e).0))
       | inr apart ↦
           (let later : place_in (r ∷ drop n given) x ≡ option_map suc (place_in (drop n given) x) = ap (λ b. cond b (Some zero) (option_map suc (place_in (drop n given) x))) apart in
-           u ∙ ap (λ b. cond b (Some i) was) (differs r.name x apart) ∙ w ∙ by (place_in (drop n given) x) ∙ ap (option_map (λ k. k + i)) (sym later) ∙ ap (λ ds. option_map (λ k. k + i) (place_in ds x)) (sym (parted given i n r s e).0))
+          u ∙ ap (λ b. cond b (Some i) was) (differs r.name x apart) ∙ w ∙ by (place_in (drop n given) x) ∙ ap (option_map (λ k. k + i)) (sym later) ∙ ap (λ ds. option_map (λ k. k + i) (place_in ds x)) (sym (parted given i n r s e).0))
     ]
   where
     by : (o : Option ℕ) → option_map (λ k. k + n) o ≡ option_map (λ k. k + i) (option_map suc o)
@@ -90,3 +90,21 @@ from_start given x = by (place_in given x)
     by : (o : Option ℕ) → option_map (λ k. k + 0) o ≡ o
     by None = refl
     by (Some k) = let z : k + 0 ≡ k = omega arith in ap Some z
+
+-- ---- at first
+
+-- each object in a slot of its own
+pub all_slots : {X : Type 0} (f : X → Record) (slots : List (Option X)) (xs ys : List X) → slots ≡ map Some xs → map (λ y. y) xs ≡ ys → map (option_map f) slots ≡ map Some (map f ys)
+all_slots {X = X} f slots xs ys e h = ap (map (option_map f)) e ∙ view xs ∙ ap (λ zs. map Some (map f zs)) (sym (itself_all xs) ∙ h)
+  where
+    view : (zs : List X) → map (option_map f) (map Some zs) ≡ map Some (map f zs)
+    view [] = refl
+    view (z ∷ zs) = ap (λ v. Some (f z) ∷ v) (view zs)
+
+    itself_all : (zs : List X) → map (λ y. y) zs ≡ zs
+    itself_all [] = refl
+    itself_all (z ∷ zs) = ap (λ v. z ∷ v) (itself_all zs)
+
+pub as_many : (given : List Record) → length (map Some given) ≡ length given
+as_many [] = refl
+as_many (r ∷ given) = ap suc (as_many given)

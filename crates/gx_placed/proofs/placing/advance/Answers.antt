@@ -46,9 +46,9 @@ returns-in_ok-push-in-Given-clause-steps g c = λ all.
     given_step (Unit {0}) (g.N.Namer.name_of c.args.repo.now.0) all c.args.waiting.now c.find.new.waiting c.args.repo.now.1.records below (begun c.args.frame) (shown_link c.in-Some.link) n.0 n.1
     c.in-Some.link.name c.in-Given.at (shown_object c.in-Given.object) (all_begun c.push-in-Given.new.self) refl
     (pushed c.push.new.self.items c.push-in-Given.new.self.items c.in_ok-new-in-Given.field-0 c.in_ok-push-in-Given.ensures.items
-     ∙ ap (λ (bs : List Begun). bs ++ begun c.in_ok-new-in-Given.field-0 ∷ []) (pushed c.args.frames.now.items c.push.new.self.items c.next.new.self c.in_ok-push.ensures.items ∙ ap (λ (x : Begun). below ++ x ∷ []) n.2)
-     ∙ append_assoc below (looked_at (begun c.args.frame) (shown_link c.in-Some.link) n.0 ∷ []) (begun c.in_ok-new-in-Given.field-0 ∷ [])
-     ∙ ap (λ (x : Begun). below ++ looked_at (begun c.args.frame) (shown_link c.in-Some.link) n.0 ∷ x ∷ []) new.1)
+    ∙ ap (λ (bs : List Begun). bs ++ begun c.in_ok-new-in-Given.field-0 ∷ []) (pushed c.args.frames.now.items c.push.new.self.items c.next.new.self c.in_ok-push.ensures.items ∙ ap (λ (x : Begun). below ++ x ∷ []) n.2)
+    ∙ append_assoc below (looked_at (begun c.args.frame) (shown_link c.in-Some.link) n.0 ∷ []) (begun c.in_ok-new-in-Given.field-0 ∷ [])
+    ∙ ap (λ (x : Begun). below ++ looked_at (begun c.args.frame) (shown_link c.in-Some.link) n.0 ∷ x ∷ []) new.1)
     found.0 found.1 found.2 new.0 c.in-Given.ensures.slots c.in-Given.ensures.places
 
 pub returns-in_ok-push-in-Given-clause-less : goal.returns-in_ok-push-in-Given-clause-less
@@ -60,13 +60,15 @@ returns-in_ok-push-in-Given-clause-less g c =
     fewer_given (Unit {0}) c.args.waiting.now c.find.new.waiting below (begun c.args.frame) (shown_link c.in-Some.link) n.0 n.1
     c.in-Some.link.name c.in-Given.at (shown_object c.in-Given.object) (all_begun c.push-in-Given.new.self)
     (pushed c.push.new.self.items c.push-in-Given.new.self.items c.in_ok-new-in-Given.field-0 c.in_ok-push-in-Given.ensures.items
-     ∙ ap (λ (bs : List Begun). bs ++ begun c.in_ok-new-in-Given.field-0 ∷ []) (pushed c.args.frames.now.items c.push.new.self.items c.next.new.self c.in_ok-push.ensures.items ∙ ap (λ (x : Begun). below ++ x ∷ []) n.2)
-     ∙ append_assoc below (looked_at (begun c.args.frame) (shown_link c.in-Some.link) n.0 ∷ []) (begun c.in_ok-new-in-Given.field-0 ∷ [])
-     ∙ ap (λ (x : Begun). below ++ looked_at (begun c.args.frame) (shown_link c.in-Some.link) n.0 ∷ x ∷ []) new.1)
+    ∙ ap (λ (bs : List Begun). bs ++ begun c.in_ok-new-in-Given.field-0 ∷ []) (pushed c.args.frames.now.items c.push.new.self.items c.next.new.self c.in_ok-push.ensures.items ∙ ap (λ (x : Begun). below ++ x ∷ []) n.2)
+    ∙ append_assoc below (looked_at (begun c.args.frame) (shown_link c.in-Some.link) n.0 ∷ []) (begun c.in_ok-new-in-Given.field-0 ∷ [])
+    ∙ ap (λ (x : Begun). below ++ looked_at (begun c.args.frame) (shown_link c.in-Some.link) n.0 ∷ x ∷ []) new.1)
     found.1 c.in-Given.ensures.slots
 
 pub returns-in-Lacking-clause-steps : goal.returns-in-Lacking-clause-steps
 returns-in-Lacking-clause-steps g c = λ all s.
-    let n = c.in-Some.ensures in
-    (tt, lacking_step (Unit {0}) (g.N.Namer.name_of c.args.repo.now.0) all c.args.waiting.now c.find.new.waiting c.args.repo.now.1.records (all_begun c.args.frames.now) (begun c.args.frame) (shown_link c.in-Some.link) n.0 n.1
-      c.in-Some.link.name (begun c.next.new.self) refl n.2 c.in-Lacking.ensures.found s)
+    let n = c.in-Some.ensures in (
+      tt,
+      lacking_step (Unit {0}) (g.N.Namer.name_of c.args.repo.now.0) all c.args.waiting.now c.find.new.waiting c.args.repo.now.1.records (all_begun c.args.frames.now) (begun c.args.frame) (shown_link c.in-Some.link) n.0 n.1
+          c.in-Some.link.name (begun c.next.new.self) refl n.2 c.in-Lacking.ensures.found s,
+    )

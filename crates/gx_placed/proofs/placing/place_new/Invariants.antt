@@ -11,8 +11,8 @@ invariant-loop-frame g l = record {
   refs : l.repo.1.refs ≡ l.fn.repo.1.refs;
   extends : Extends l.fn.repo.1.records l.repo.1.records;
   steps : (all : List Record) → Stands (g.N.Namer.name_of l.fn.repo.0) all l.fn.waiting l.fn.repo.1.records (begun l.fn.frame ∷ [])
-  → Stands (g.N.Namer.name_of l.fn.repo.0) all l.waiting l.repo.1.records (all_begun l.frames)
-  × (resumed (suc (length all)) all (begun l.fn.frame ∷ []) l.fn.repo.1.records ≡ resumed (suc (length all)) all (all_begun l.frames) l.repo.1.records);
+      → Stands (g.N.Namer.name_of l.fn.repo.0) all l.waiting l.repo.1.records (all_begun l.frames)
+      × (resumed (suc (length all)) all (begun l.fn.frame ∷ []) l.fn.repo.1.records ≡ resumed (suc (length all)) all (all_begun l.frames) l.repo.1.records);
 }
 
 abbrev pub decreases-loop-frame : goal.decreases-loop-frame

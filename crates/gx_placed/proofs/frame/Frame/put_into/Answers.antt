@@ -10,5 +10,5 @@ returns-in-Ok-clause-puts g c = λ ready.
 
 pub returns-clause-puts : goal.returns-clause-puts
 returns-clause-puts g c = λ ready.
-    subst (λ f. PutsLast c.args.repo.now.1.records c.add_body.new.self.1.records c.args.self.place (shown_object c.args.self.object) (Err f)) (sym c.fault_at.ensures)
+    subst (λ f. PutsLast {X = Unit {0}} c.args.repo.now.1.records c.add_body.new.self.1.records c.args.self.place (shown_object c.args.self.object) (Err f)) (sym c.fault_at.ensures)
     (may_not (g.N.Namer.name_of c.args.repo.now.0) c.args.repo.now.1.records c.add_body.new.self.1.records (shown_object c.args.self.object) ready (Unit {0}) c.args.self.place c.in-Err.fault c.in-Err.ensures.adds)

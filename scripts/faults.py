@@ -42,6 +42,7 @@ ENUMS = {
         "gx_line/src/fault.rt LineFault",
         "gx/src/fault.rt RunFault",
     ],
+    "Texts of objects": ["gx_offered/src/fault.rt ItemFault", "gx_taken/src/fault.rt Refused"],
     "The library": ["gx_c/src/answer.rt Why"],
 }
 
@@ -53,6 +54,8 @@ PARTS = {"keep": "Objects to keep"}
 RUNS, OF_RUNS = "gx/src/fault.rt", {"bundle": "Bundles"}
 # what no line of a push is refused for, since its objects come from the stream, and what is told without a part
 UNTOLD = {("Pushes", word) for word in ("BadRefName", "UnknownObject", "WrongKind")} | {("Stores", "ReadFailed"), ("Bundles", "Stopped")}
+# what has the word of another fault
+UNTOLD |= {("Texts of objects", "Unread"), ("Texts of objects", "DanglingRef")}
 
 
 def words_of(place):
@@ -60,7 +63,7 @@ def words_of(place):
     word of a part, have none."""
     file, name = place.split()
     text = (TOP / "crates" / file).read_text()
-    body = re.search(rf"^pub(?:\(crate\))? enum {name} \{{\n(.*?)^\}}", text, re.M | re.S).group(1)
+    body = re.search(rf"^pub(?:\(crate\))? enum {name}(?:<.*?>)? \{{\n(.*?)^\}}", text, re.M | re.S).group(1)
     told = dict(re.findall(rf'\b{name}::(\w+)(?:\(\w+\)| \{{.*?\}})? => (?:f\.write_str\(|write!\(f, )?(?:"([^"]*)"|\w+\.word\(\))', text))
     variants = re.findall(r'^ {4}(?:#\[error\("(.*)"\)\]\n {4})?(\w+)\b', body, re.M)
     words = (own or told.get(variant, variant) for own, variant in variants)

@@ -1,5 +1,5 @@
 #!/usr/bin/env bash
-# Installs the built program, git-remote-gx, gx-mirror, their manuals and the completions of bash and zsh, or removes these eight files again;
+# Installs the built program, git-remote-gx, gx-mirror, git-objects, their manuals and the completions of bash and zsh, or removes these nine files again;
 # or the built library with its header and the Python module.
 #   scripts/install.sh [--library] [--uninstall]
 # Variables of the environment say where, as `scripts/install.sh --help` tells.
@@ -16,8 +16,8 @@ usage: scripts/install.sh [--library] [--uninstall]
        scripts/install.sh --help
 
 Installs the built program gx, the script git-remote-gx by which git has stores as
-remotes, the script gx-mirror by which stores follow repositories, their manuals and
-the completions of bash and zsh.
+remotes, the script gx-mirror by which stores follow repositories, the script git-objects
+whose text `gx import --objects` takes, their manuals and the completions of bash and zsh.
 With --library it installs libginlarch in place of these: the static and the shared
 library, the header, the file for pkg-config and the Python module. --uninstall
 removes what was installed so, and leaves all folders.
@@ -46,7 +46,7 @@ fail() {
 # runs a command on each file: its mode, where it is, and where it goes
 for_each_file() {
   "$1" 755 "${stamped:-$program}" "${BINDIR:-$prefix/bin}/gx"
-  for script in git-remote-gx gx-mirror; do
+  for script in git-remote-gx gx-mirror git-objects; do
     "$1" 755 "$root/scripts/$script" "${BINDIR:-$prefix/bin}/$script"
   done
   for manual in gx git-remote-gx gx-mirror; do

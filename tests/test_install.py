@@ -14,6 +14,7 @@ NAMES = ("PREFIX", "BINDIR", "MANDIR", "BASHCOMPLETIONDIR", "ZSHCOMPLETIONDIR", 
 COMMIT = "0123456789abcdef0123456789abcdef01234567"
 # where each file goes by itself, and where it comes from
 INSTALLED = {
+    "usr/local/bin/git-objects": "scripts/git-objects",
     "usr/local/bin/git-remote-gx": "scripts/git-remote-gx",
     "usr/local/bin/gx-mirror": "scripts/gx-mirror",
     "usr/local/share/bash-completion/completions/gx": "completions/gx.bash",

@@ -1,0 +1,9 @@
+pub mod Going
+pub mod Grown
+pub mod HeldLinks
+pub mod Last
+pub mod Lookups
+pub mod Machines
+pub mod Onward
+pub mod Resumes
+pub mod Slots

@@ -1,12 +1,12 @@
 -- Objects on their way, each above one that waits for it, and how the rest is to go on from there.
-use Rattle.std.specs.Prelude.{◌≡◌, ◌⊎◌, ◌+◌, ◌≤◌, ℕ, zero, suc, true, if◌then◌else◌, List, [], ◌∷◌, ◌++◌, length, Option, None, Some, Ok, Err, ⊤}
+use Rattle.std.specs.Prelude.{◌≡◌, ◌⊎◌, ◌+◌, ◌≤◌, ℕ, zero, suc, true, false, if◌then◌else◌, List, [], ◌∷◌, ◌++◌, length, Option, None, Some, Ok, Err, ⊤}
 use Rattle.std.specs.List.{AllByRecursion, slice_get}
 use Rattle.std.specs.Option.{option_map}
 use Rattle.gx_model.specs.declared.objects.Kind.{Kind}
 use Rattle.gx_model.specs.Texts.{Bytes, same_bytes}
 use Rattle.gx_model.specs.Faults.{◌>>=◌}
 use Rattle.gx_model.specs.Histories.{Record}
-use Rattle.gx_model.specs.Records.Growth.{record_named}
+use Rattle.gx_model.specs.Records.Growth.{record_named, same_kind}
 use Rattle.gx_model.specs.Records.RecordFaults.{is_body, is_held}
 use Rattle.gx_wide.specs.Placing.{Dangling, Placed, links_placed, put_last, wide_links}
 use Rattle.gx_placed.specs.Placed.{others, placed_within}
@@ -24,11 +24,21 @@ slot_at [] place = None
 slot_at (slot ∷ slots) zero = slot
 slot_at (slot ∷ slots) (suc place) = slot_at slots place
 
+-- the object at a place, with the place
+abbrev pub object_at : List (Option Record) → ℕ → Option (ℕ × Record)
+object_at slots place = option_map (λ one. (place, one)) (slot_at slots place)
+
 -- the first object of a name, where it waits
 abbrev pub waits : List Record → List (Option Record) → Bytes → Option Record
 waits [] slots called = None
 waits (one ∷ given) [] called = None
 waits (one ∷ given) (slot ∷ slots) called = if same_bytes called one.name then slot else waits given slots called
+
+-- what is found by a name is of another kind, if anything is
+abbrev pub IsLacking : Option Record → Option (ℕ × Record) → Kind → Type 0
+IsLacking (Some known) waiting of_kind = same_kind known.kind of_kind ≡ false
+IsLacking None (Some waiting) of_kind = same_kind waiting.1.kind of_kind ≡ false
+IsLacking None None of_kind = ⊤
 
 -- a number for each object that waits
 abbrev pub weight_of : (Record → ℕ) → Option Record → ℕ

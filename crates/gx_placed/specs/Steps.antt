@@ -7,22 +7,23 @@ use Rattle.std.specs.declared.vec.Vec.{Vec}
 use Rattle.gx_model.specs.declared.objects.Kind.{Kind}
 use Rattle.gx_model.specs.Texts.{Bytes, byte_cmp}
 use Rattle.gx_model.specs.Histories.{Record}
-use Rattle.gx_model.specs.Records.Growth.{record_named, same_kind, same_object}
+use Rattle.gx_model.specs.Records.Growth.{record_named, same_kind}
 use Rattle.gx_model.specs.Records.RecordFaults.{are_links_held, is_bad_below, is_body, is_held}
 use Rattle.gx_object.specs.declared.name.Name.{Name}
 use Rattle.gx_links.specs.Links.{shown_link}
 use Rattle.gx_links.specs.declared.links.Link.{Link}
 use Rattle.gx_offered.specs.declared.offered.OfferedObject.{OfferedObject}
-use Rattle.gx_placed.specs.Machine.{Begun, IsMachine, begun_at, looked_at, place_in, resumed, slot_at}
+use Rattle.gx_repo.specs.declared.fault.AddFault.{AddFault}
+use Rattle.gx_repo.specs.declared.fault.AddFault.TheVariants as add
+use Rattle.gx_placed.specs.Machine.{Begun, IsLacking, IsMachine, begun_at, looked_at, object_at, place_in, resumed}
 use Rattle.gx_placed.specs.Placed.{placed_within}
 use Rattle.gx_placed.specs.Places.{Answers, shown_object}
-use Rattle.gx_placed.specs.declared.fault.ObjectFault.{ObjectFault}
 use Rattle.gx_placed.specs.declared.fault.ObjectFault.TheVariants.{BadObject}
 use Rattle.gx_placed.specs.declared.fault.PlaceFault.{PlaceFault}
 use Rattle.gx_placed.specs.declared.fault.PlaceFault.TheVariants.{Object, OutOfMemory}
 use Rattle.gx_placed.specs.declared.frame.Frame.{Frame}
-use Rattle.gx_placed.specs.declared.place.Found.{Found}
-use Rattle.gx_placed.specs.declared.place.Found.TheVariants.{Given, Held, Lacking}
+use Rattle.gx_placed.specs.declared.placing.Found.{Found}
+use Rattle.gx_placed.specs.declared.placing.Found.TheVariants.{Given, Held, Lacking}
 use Rattle.gx_placed.specs.declared.waiting.Waiting.{Waiting}
 
 -- ---- objects that wait
@@ -40,10 +41,6 @@ AreFirst given places = (called : Name) → place_of places called ≡ place_in 
 
 abbrev pub IsIndexed : {A : Type 0} → List Record → Waiting A → Type 0
 IsIndexed given waiting = AreFirst given waiting.places
-
--- the object at a place, with the place
-abbrev pub object_at : List (Option Record) → ℕ → Option (ℕ × Record)
-object_at slots place = option_map (λ one. (place, one)) (slot_at slots place)
 
 -- the object of a name, with its place
 abbrev pub waiting_as : {A : Type 0} → Waiting A → Name → Option (ℕ × Record)
@@ -81,6 +78,11 @@ abbrev pub Nexts : Begun → Begun → Option (Kind × Bytes) → Type 0
 Nexts old new None = (old.left ≡ []) × (new ≡ old)
 Nexts old new (Some link) = (left : List (Kind × Bytes)) × (old.left ≡ link ∷ left) × (new ≡ looked_at old link left)
 
+-- what is told of an object at a place that isn't added, though all of its links are held
+abbrev pub last_fault : ℕ → AddFault → PlaceFault
+last_fault place add.OutOfMemory = OutOfMemory
+last_fault place _ = Object place BadObject
+
 -- an object that can stand last
 pub record IsReady (names : Kind → Bytes → Bytes) (held : List Record) (new : Record) : Type 0 where
   pub free : record_named held new.name ≡ None
@@ -95,12 +97,6 @@ PutsLast held now place new (Err OutOfMemory) = ⊤
 PutsLast held now place new (Err (Object at fault)) = (is_bad_below held new.kind new.body ≡ true) × (at ≡ place) × (fault ≡ BadObject)
 
 -- ---- links
-
--- what is found by a name is of another kind, if anything is
-abbrev pub IsLacking : Option Record → Option (ℕ × Record) → Kind → Type 0
-IsLacking (Some known) waiting of_kind = same_kind known.kind of_kind ≡ false
-IsLacking None (Some waiting) of_kind = same_kind waiting.1.kind of_kind ≡ false
-IsLacking None None of_kind = ⊤
 
 -- where what a link names is found
 abbrev pub Finds : {A : Type 0} → List Record → Waiting A → Link → Found A → Type 0
@@ -129,7 +125,7 @@ module _ (names : Kind → Bytes → Bytes) (all : List Record) where
   -- how all go on
   abbrev pub GoesOn : {X : Type 0} → List Begun → List Begun → List Record → List Record → Result X PlaceFault → Type 0
   GoesOn old new held now (Ok x) = resumed (suc (length all)) all old held ≡ resumed (suc (length all)) all new now
-  GoesOn old new held now (Err fault) = Answers {X = X} all (resumed (suc (length all)) all old held) now (Err fault)
+  GoesOn {X = X} old new held now (Err fault) = Answers {X = X} all (resumed (suc (length all)) all old held) now (Err fault)
 
   -- a step from some that were begun to others
   abbrev pub Steps : {A X : Type 0} → Waiting A → Waiting A → List Record → List Record → List Begun → List Begun → Result X PlaceFault → Type 0

@@ -4,7 +4,7 @@ ghost use Rattle.std.specs.Prelude.{◌≡◌};
 ghost use Rattle.std.specs.Option.{option_map};
 ghost use Rattle.gx_links.specs.Links.{shown_link};
 ghost use Rattle.gx_placed.specs.Places.{Extends, shown_object};
-ghost use Rattle.gx_placed.specs.Steps.{Begins, IsReady, Nexts, PutsLast, begun};
+ghost use Rattle.gx_placed.specs.Steps.{Begins, IsReady, Nexts, PutsLast, begun, last_fault};
 
 use crate::fault::{ObjectFault, PlaceFault};
 use gx_links::{Link, LinksFault, links_of};
@@ -67,8 +67,19 @@ impl<A: Allocator + Copy> Frame<A> {
     {
         match repo.add_body(self.object.kind, self.object.body) {
             Ok(_) => Ok(()),
-            Err(AddFault::OutOfMemory) => Err(PlaceFault::OutOfMemory),
-            Err(_) => Err(PlaceFault::Object(self.place, ObjectFault::BadObject)),
+            Err(fault) => Err(fault_at(self.place, fault)),
+        }
+    }
+}
+
+/// Why the object at a place, all of whose links are held, isn't added.
+fn fault_at(place: usize, fault: AddFault) -> PlaceFault
+    ensures { result ≡ last_fault place fault }
+{
+    match fault {
+        AddFault::OutOfMemory => PlaceFault::OutOfMemory,
+        AddFault::BadObject | AddFault::Dangling | AddFault::DuplicateObject => {
+            PlaceFault::Object(place, ObjectFault::BadObject)
         }
     }
 }

@@ -3,8 +3,8 @@
 
 mod fault;
 mod frame;
-mod place;
+mod placing;
 mod waiting;
 
 pub use fault::{ObjectFault, PlaceFault};
-pub use place::place;
+pub use placing::place;

@@ -26,17 +26,22 @@ module _ {A : Type 0} (force : Bool) (r : Records) (items : List (RefItem A)) wh
   nothing None e = refl
   nothing (Some fault) e = absurd (cc e)
 
-  pub checked_next : (i : ℕ) (d : RefItem A) → i < length items → AreChecked i → None ≡ option_map untaken (ref_fault force r (ref_offered (get_or items i d).offered)) → AreChecked (i + 1)
-  checked_next i d lt h e = sym (at_next i d None lt (nothing _ e)) ∙ h
+  pub checked_next : (i : ℕ) (d item : RefItem A) → i < length items → AreChecked i → item ≡ get_or items i d → None ≡ option_map untaken (ref_fault force r (ref_offered item.offered)) → AreChecked (i + 1)
+  checked_next i d item lt h is e = sym (at_next i d None lt (nothing _ (e ∙ ap (λ (it : RefItem A). option_map untaken (ref_fault force r (ref_offered it.offered))) is))) ∙ h
 
-  pub refused_at : (i : ℕ) (d : RefItem A) (kind : Refusal) → i < length items → AreChecked i → Some kind ≡ option_map untaken (ref_fault force r (ref_offered (get_or items i d).offered))
+  refused_there : (i : ℕ) (d : RefItem A) (kind : Refusal) → i < length items → AreChecked i → Some kind ≡ option_map untaken (ref_fault force r (ref_offered (get_or items i d).offered))
       → first_refused force r (shown_ref_items items) ≡ Some ((get_or items i d).number, kind)
-  refused_at i d kind lt h e = by (ref_fault force r (ref_offered (get_or items i d).offered)) refl e where
+  refused_there i d kind lt h e = by (ref_fault force r (ref_offered (get_or items i d).offered)) refl e where
     by : (f : Option TakeFault) → ref_fault force r (ref_offered (get_or items i d).offered) ≡ f → Some kind ≡ option_map untaken f → first_refused force r (shown_ref_items items) ≡ Some ((get_or items i d).number, kind)
     by None k e = absurd (cc e)
     by (Some fault) k e =
         let is : kind ≡ untaken fault = cc e in
         sym h ∙ at_next i d (Some fault) lt k ∙ ap (λ told. Some ((get_or items i d).number, told)) (sym is)
+
+  pub refused_at : (i : ℕ) (d item : RefItem A) (kind : Refusal) → i < length items → AreChecked i → item ≡ get_or items i d → Some kind ≡ option_map untaken (ref_fault force r (ref_offered item.offered))
+      → first_refused force r (shown_ref_items items) ≡ Some (item.number, kind)
+  refused_at i d item kind lt h is e =
+      refused_there i d kind lt h (e ∙ ap (λ (it : RefItem A). option_map untaken (ref_fault force r (ref_offered it.offered))) is) ∙ ap (λ (it : RefItem A). Some (it.number, kind)) (sym is)
 
   pub none_refused : (i : ℕ) → length items ≤ i → AreChecked i → first_refused force r (shown_ref_items items) ≡ None
   none_refused i le h = sym h ∙ ap (λ its. first_refused force r (shown_ref_items its)) (drop_of_length-le items le)

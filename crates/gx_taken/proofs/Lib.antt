@@ -10,3 +10,4 @@ mod HeldObjects
 mod Takings
 mod Unplaced
 mod TakenTexts
+mod LastRefs

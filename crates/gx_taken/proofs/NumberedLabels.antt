@@ -56,6 +56,9 @@ named_at (l ∷ ls) (suc at) label e = by (same_bytes l.name.bytes label.name.by
   by true h = refl
   by false h = h
 
+abbrev pub no_label : Label
+no_label = record { number = 0; name = record { bytes = [] } }
+
 -- what is answered of the object at a place
 pub unplaced_is : {A : Type 0} (labels : List Label) (at : ℕ) (d : Label) (name : Name) (against : ObjectFault) (number : ℕ) (kind : Refused A) → at < length labels → name ≡ (get_or labels at d).name
     → number ≡ number_named (shown_labels labels) name.bytes → kind ≡ object_refused name against → IsUnplaced labels at against (Item number kind)

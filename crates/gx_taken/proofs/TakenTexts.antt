@@ -8,14 +8,10 @@ use Rattle.gx_text.specs.Devices.{Coming}
 use Rattle.gx_stream.specs.Heard.{heard}
 use Rattle.gx_repo.specs.Repositories.{Repository}
 use Rattle.gx_wide.specs.ObjectsTexts as model
-use Rattle.gx_offered.specs.ItemFaults.{shown_fault}
 use Rattle.gx_offered.specs.Items.{shown_offer}
 use Rattle.gx_offered.specs.Offers.{GivesOffer, OffersAll}
-use Rattle.gx_offered.specs.declared.fault.OfferFault.{OfferFault}
-use Rattle.gx_offered.specs.declared.fault.OfferFault.TheVariants as offer
 use Rattle.gx_offered.specs.declared.offered.Offered.{Offered}
 use Rattle.gx_taken.specs.Calls.{AreGoodItems, IsTaken, TakesAll, TakesText}
-use Rattle.gx_taken.specs.Refusals.{of_offer}
 use Rattle.gx_taken.specs.Taking.{Refusal, taken, text_taken, unread}
 use Rattle.gx_taken.specs.declared.fault.TakeFault.{TakeFault}
 use Rattle.gx_taken.specs.declared.fault.TakeFault.TheVariants as fault
@@ -44,18 +40,7 @@ module _ (name : Kind → Bytes → Bytes) where
       given_by coming offered h (Err fault.ReadFailed) k = absurd k
       given_by coming offered h (Err (fault.Item number kind)) k = (h.0, read_as coming.bytes _ h.1 ∙ k)
 
-      refused_by : (coming : Coming) (why : OfferFault) → OffersAll {A = A} name coming (Err why) → TakesAll {N = N} name force r coming (Err (of_offer why))
-      unfolding by_items
-      refused_by coming offer.OutOfMemory h = tt
-      refused_by coming offer.ReadFailed h = h
-      refused_by coming (offer.Item number fault) h = (h.0, read_as coming.bytes _ h.1)
-
       -- what is offered is taken, or not
       pub text_given : (coming : Option Coming) (offered : Vec (Offered A) A) → GivesOffer name coming (Ok offered) → (answer : Result (Repository N) (TakeFault A)) → IsTaken (taken force r (shown_offer offered)) answer → TakesText name force r coming answer
       text_given None offered h answer k = (h.0, given_by h.0 offered h.1 answer k)
       text_given (Some coming) offered h answer k = given_by (heard coming) offered h answer k
-
-      -- or a text isn't read
-      pub text_refused : (coming : Option Coming) (why : OfferFault) → GivesOffer {A = A} name coming (Err why) → TakesText {N = N} name force r coming (Err (of_offer why))
-      text_refused None why h = (h.0, refused_by h.0 why h.1)
-      text_refused (Some coming) why h = refused_by (heard coming) why h

@@ -1,5 +1,5 @@
 -- What the calls answer that take what is offered.
-use Rattle.std.specs.Prelude.{◌≡◌, ℕ, Bool, true, false, List, Option, None, Some, Result, Ok, Err, IfOk, IsTrue, ⊤}
+use Rattle.std.specs.Prelude.{◌≡◌, ◌<◌, ℕ, Bool, true, false, List, length, Option, None, Some, Result, Ok, Err, IfOk, IsTrue, ⊤}
 use Rattle.std.specs.List.{AllByRecursion, slice_get}
 use Rattle.std.specs.Option.{option_map}
 use Rattle.gx_model.specs.declared.objects.Kind.{Kind}
@@ -13,6 +13,8 @@ use Rattle.gx_repo.specs.Repositories.{Repository}
 use Rattle.gx_object.specs.declared.name.Name.{Name}
 use Rattle.gx_placed.specs.declared.fault.ObjectFault.{ObjectFault}
 use Rattle.gx_placed.specs.declared.fault.ObjectFault.TheVariants as object
+use Rattle.gx_placed.specs.declared.fault.PlaceFault.{PlaceFault}
+use Rattle.gx_placed.specs.declared.fault.PlaceFault.TheVariants as place
 use Rattle.gx_taken.specs.Parts.{shown_labels}
 use Rattle.gx_taken.specs.Refusals.{shown_refused}
 use Rattle.gx_wide.specs.Placing as placing
@@ -77,3 +79,20 @@ IsUnplaced labels at against told =
 -- two commits by their names
 abbrev pub shown_commits : Name × Name → Bytes × Bytes
 shown_commits commits = (commits.0.bytes, commits.1.bytes)
+
+-- a fault is of an object that has a label
+abbrev pub IsWithin : List Label → PlaceFault → Type 0
+IsWithin labels place.OutOfMemory = ⊤
+IsWithin labels (place.Object at against) = at < length labels
+
+-- what is answered where objects aren't placed
+abbrev pub TellsUnplaced : {A : Type 0} → List Label → PlaceFault → TakeFault A → Type 0
+TellsUnplaced labels place.OutOfMemory told = told ≡ fault.OutOfMemory
+TellsUnplaced labels (place.Object at against) told = IsUnplaced labels at against told
+
+-- these records and refs are what is taken, or an item is refused
+abbrev pub IsTakenBy : {A : Type 0} → Result Records (ℕ × Refusal) → Records → Result (Unit {0}) (TakeFault A) → Type 0
+IsTakenBy given now (Ok _) = given ≡ Ok now
+IsTakenBy given now (Err fault.OutOfMemory) = ⊤
+IsTakenBy given now (Err fault.ReadFailed) = ⊥
+IsTakenBy given now (Err (fault.Item number kind)) = given ≡ Err (number, shown_refused kind)

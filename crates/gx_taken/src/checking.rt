@@ -31,11 +31,14 @@ pub(crate) fn check_refs<N: Namer, A: Allocator + Copy>(
     let mut parents = Parents::new(alloc);
     for item in refs {
         let against = against_ref(alloc, repo, &mut parents, item, force)?;
-        if let Some(kind) = against {
-            return Err(TakeFault::Item {
-                number: item.number,
-                kind,
-            });
+        match against {
+            Some(kind) => {
+                return Err(TakeFault::Item {
+                    number: item.number,
+                    kind,
+                });
+            }
+            None => {}
         }
     }
     Ok(())

@@ -4,9 +4,11 @@
 
 mod checking;
 mod fault;
+mod laws;
 mod parts;
 mod setting;
 mod taking;
 
 pub use fault::{Refused, TakeFault};
+pub use laws::last_refs_win;
 pub use taking::{take, take_text};

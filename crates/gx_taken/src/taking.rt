@@ -3,12 +3,12 @@
 ghost use Rattle.std.specs.Prelude.{◌≡◌, ◌<◌, IfOk, length};
 ghost use Rattle.gx_model.specs.Records.Sound.{IsSound};
 ghost use Rattle.gx_offered.specs.Items.{shown_offer};
-ghost use Rattle.gx_taken.specs.Calls.{AreGoodItems, IsTaken, IsUnplaced, TakesText, object_refused};
+ghost use Rattle.gx_taken.specs.Calls.{AreGoodItems, IsTaken, IsTakenBy, IsUnplaced, IsWithin, TakesText, TellsUnplaced, object_refused};
 ghost use Rattle.gx_taken.specs.Taking.{taken};
 
 use crate::checking::check_refs;
 use crate::fault::{Refused, TakeFault};
-use crate::parts::{Label, Parts, number_of, parts_of};
+use crate::parts::{Label, number_of, parts_of};
 use crate::setting::set_refs;
 use gx_object::{Name, Namer};
 use gx_offered::{Offered, read_offer};
@@ -61,25 +61,52 @@ pub fn take<N: Namer + Drop, A: Allocator + Copy>(
     ensures taken { IsTaken (taken force repo.1 (shown_offer items)) result }
     ensures sound { IfOk result (λ left. IsSound (N.name_of repo.0) left.1) }
 {
-    let Parts {
-        objects,
-        labels,
-        refs,
-    } = parts_of(alloc, items)?;
     let mut repo = repo;
-    match place(alloc, &mut repo, objects) {
-        Ok(()) => {}
-        Err(PlaceFault::OutOfMemory) => return Err(TakeFault::OutOfMemory),
-        Err(PlaceFault::Object(at, fault)) => return Err(unplaced(&labels, at, fault)),
+    match take_all(alloc, &mut repo, items, force) {
+        Ok(()) => {
+            repo.sound();
+            Ok(repo)
+        }
+        Err(fault) => Err(fault),
     }
-    check_refs(alloc, &repo, refs.as_slice(), force)?;
-    set_refs(alloc, &mut repo, refs.as_slice())?;
-    repo.sound();
-    Ok(repo)
+}
+
+/// Takes all that items tell. After a fault some of it may be there.
+fn take_all<N: Namer, A: Allocator + Copy>(
+    alloc: A,
+    repo: &mut Repo<N, A>,
+    items: Vec<Offered<A>, A>,
+    force: bool,
+) -> Result<(), TakeFault<A>>
+    requires good { AreGoodItems (N.name_of repo.old.0) (shown_offer items) }
+    ensures namer { repo.new.0 ≡ repo.old.0 }
+    ensures taken { IsTakenBy (taken force repo.old.1 (shown_offer items)) repo.new.1 result }
+{
+    let parts = parts_of(alloc, items)?;
+    if let Err(fault) = place(alloc, repo, parts.objects) {
+        return Err(unplaced(parts.labels.as_slice(), fault));
+    }
+    let refs = parts.refs.as_slice();
+    if let Err(fault) = check_refs(alloc, repo, refs, force) {
+        return Err(fault);
+    }
+    set_refs(alloc, repo, refs)?;
+    Ok(())
+}
+
+/// The refusal of objects of these labels that aren't placed.
+fn unplaced<A: Allocator>(labels: &[Label], fault: PlaceFault) -> TakeFault<A>
+    requires { IsWithin labels.now fault }
+    ensures { TellsUnplaced labels.now fault result }
+{
+    match fault {
+        PlaceFault::OutOfMemory => TakeFault::OutOfMemory,
+        PlaceFault::Object(at, against) => refusal_at(labels, at, against),
+    }
 }
 
 /// The refusal of the object at this place of those that are given.
-fn unplaced<A: Allocator>(labels: &[Label], at: usize, fault: ObjectFault) -> TakeFault<A>
+fn refusal_at<A: Allocator>(labels: &[Label], at: usize, fault: ObjectFault) -> TakeFault<A>
     requires { at < length labels.now }
     ensures { IsUnplaced labels.now at fault result }
 {

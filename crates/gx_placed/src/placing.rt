@@ -1,7 +1,8 @@
 //! How given objects are placed. Source: gitglossary(7), "reachable".
 
-ghost use Rattle.std.specs.Prelude.{◌≡◌, ◌<◌, ◌++◌, ◌∷◌, [], List, OnErr, OnOk};
+ghost use Rattle.std.specs.Prelude.{◌≡◌, ◌↔◌, ◌<◌, ◌++◌, ◌∷◌, [], List, IsTrue, OnErr, OnOk};
 ghost use Rattle.gx_model.specs.Histories.{Record};
+ghost use Rattle.gx_store.specs.Bodies.{bytes_of};
 ghost use Rattle.gx_placed.specs.Machine.{work_left};
 ghost use Rattle.gx_placed.specs.Places.{AreNamed, Extends, Places, shown_given};
 ghost use Rattle.gx_placed.specs.Steps.{Finds, PlacesAt, Steps, Takes, all_begun, begun, slots};
@@ -10,7 +11,7 @@ use crate::fault::{ObjectFault, PlaceFault};
 use crate::frame::Frame;
 use crate::waiting::Waiting;
 use gx_links::Link;
-use gx_object::Namer;
+use gx_object::{Kind, Namer};
 use gx_offered::OfferedObject;
 use gx_repo::Repo;
 use std::alloc::Allocator;
@@ -84,7 +85,7 @@ fn place_at<N: Namer, A: Allocator + Copy>(
     };
     match repo.store().get(&object.name) {
         Some((kind, body)) => {
-            if kind == object.kind && body == object.body.as_slice() {
+            if is_same(kind, body, &object) {
                 Ok(())
             } else {
                 Err(PlaceFault::Object(place, ObjectFault::NameHeld))
@@ -95,6 +96,14 @@ fn place_at<N: Namer, A: Allocator + Copy>(
             place_new(alloc, repo, waiting, frame)
         }
     }
+}
+
+/// Whether an object is of this kind and has this body.
+fn is_same<A: Allocator + Copy>(kind: Kind, body: &[u8], object: &OfferedObject<A>) -> bool
+    ensures { IsTrue result
+        ↔ (kind ≡ object.now.kind) × (body.now ≡ bytes_of object.now.body) }
+{
+    kind == object.kind && body == object.body.as_slice()
 }
 
 /// Places an object that isn't held.
@@ -131,9 +140,9 @@ fn advance<N: Namer, A: Allocator + Copy>(
     ensures extends { Extends repo.old.1.records repo.new.1.records }
     ensures steps { (all : List Record) → Steps (N.name_of repo.old.0) all waiting.old waiting.new
         repo.old.1.records repo.new.1.records
-        (all_begun frames.old ++ begun frame.entry ∷ []) (all_begun frames.new) result }
+        (all_begun frames.old ++ begun frame ∷ []) (all_begun frames.new) result }
     ensures less { OnOk result (work_left (slots waiting.new) (all_begun frames.new)
-        < work_left (slots waiting.old) (all_begun frames.old ++ begun frame.entry ∷ [])) }
+        < work_left (slots waiting.old) (all_begun frames.old ++ begun frame ∷ [])) }
 {
     let mut frame = frame;
     let Some(link) = frame.next() else {

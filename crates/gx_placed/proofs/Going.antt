@@ -1,31 +1,28 @@
 -- What the steps of the code come to.
-use Rattle.std.proofs.Common.{◌≡◌, ℕ, zero, suc, ◌+◌, ◌<◌, ◌≤◌, true, false, Bool, cond, sym, ap, ◌∙◌, refl, subst, List, [], ◌∷◌, ◌++◌, drop, length, map, set, take, Option, Some, None, inl, inr, arith, append_assoc, append-nil}
+use Rattle.std.proofs.Common.{◌≡◌, ℕ, zero, suc, ◌+◌, ◌<◌, true, false, cond, sym, ap, ◌∙◌, refl, subst, List, [], ◌∷◌, ◌++◌, drop, length, map, set, take, Some, None, inl, inr, arith, append_assoc, append-nil}
 use Rattle.std.specs.Prelude.{Ok, Err, Result, OnOk, ⊤, ◌&&◌}
-use Rattle.std.specs.Bool.{passes}
 use Rattle.std.specs.List.{AllByRecursion, slice_get}
 use Rattle.std.specs.Option.{option_and_then, option_map}
-use Rattle.std.specs.declared.vec.Vec.{Vec}
 use Rattle.std.proofs.lemmas.List.{map-append}
 use Rattle.gx_model.specs.declared.objects.Kind.{Kind}
-use Rattle.gx_model.specs.Texts.{Bytes, same_bytes}
+use Rattle.gx_model.specs.Texts.{Bytes}
 use Rattle.gx_model.specs.Faults.{◌>>=◌}
 use Rattle.gx_model.specs.Histories.{Record, object_of}
 use Rattle.gx_model.specs.Records.Growth.{record_named, same_kind, same_object}
-use Rattle.gx_model.specs.Records.RecordFaults.{is_bad_below, is_body, is_held}
+use Rattle.gx_model.specs.Records.RecordFaults.{is_body, is_held}
 use Rattle.gx_model.proofs.Records.HeldObjects.{is_shown}
 use Rattle.gx_model.proofs.Revisions.Bases.{none_got}
 use Rattle.gx_model.proofs.Histories.PathRuns.{same_itself}
 use Rattle.gx_model.proofs.Records.HeldValues.{kinds_same}
 use Rattle.std.proofs.lemmas.Bool.{false_from_ne_true}
 use Rattle.gx_object.specs.declared.name.Name.{Name}
-use Rattle.gx_wide.specs.Placing.{BadObject, Dangling, NameHeld, Placed, TakeFault}
+use Rattle.gx_wide.specs.Placing.{Dangling, NameHeld, Placed}
 use Rattle.gx_placed.specs.Faults.{take_fault}
 use Rattle.gx_placed.specs.Placed.{placed_all, placed_in_order, placed_within}
-use Rattle.gx_placed.specs.Machine.{Begun, IsLacking, IsMachine, begun_at, beside, looked_at, object_at, place_in, resumed, slot_at, work_left}
-use Rattle.gx_placed.specs.Places.{Answers, AreNamed, Extends, IsAgainst, Places}
-use Rattle.gx_placed.specs.Steps.{AreFirst, Begins, GoesOn, IsIndexed, IsReady, PlacesAt, PutsLast, Stands, StandsOn, Steps, begun, place_of, slots, waiting_as}
+use Rattle.gx_placed.specs.Machine.{Begun, IsLacking, IsMachine, begun_at, looked_at, object_at, place_in, resumed, slot_at, work_left}
+use Rattle.gx_placed.specs.Places.{Answers, AreNamed, Extends, Places}
+use Rattle.gx_placed.specs.Steps.{Begins, GoesOn, IsIndexed, IsReady, PlacesAt, PutsLast, Stands, StandsOn, Steps, begun, place_of, slots, waiting_as}
 use Rattle.gx_placed.specs.declared.fault.ObjectFault.{ObjectFault}
-use Rattle.gx_placed.specs.declared.fault.ObjectFault.TheVariants as object
 use Rattle.gx_placed.specs.declared.fault.PlaceFault.{PlaceFault}
 use Rattle.gx_placed.specs.declared.fault.PlaceFault.TheVariants as place
 use Rattle.gx_placed.specs.declared.frame.Frame.{Frame}

@@ -1,6 +1,6 @@
 -- What is placed: those of before stand in front, each given one under its name, and none else.
-use Rattle.std.proofs.Common.{◌≡◌, ℕ, zero, suc, true, false, Bool, cond, sym, ap, ◌∙◌, refl, subst, List, [], ◌∷◌, ◌++◌, length, map, Option, Some, None, inl, inr, ◌⊎◌, append_assoc, append-nil}
-use Rattle.std.specs.Prelude.{Ok, Err, Result, if◌then◌else◌, not}
+use Rattle.std.proofs.Common.{◌≡◌, ℕ, zero, suc, true, false, Bool, cond, sym, ap, ◌∙◌, refl, subst, List, [], ◌∷◌, ◌++◌, length, Option, Some, None, inl, inr, append_assoc, append-nil}
+use Rattle.std.specs.Prelude.{Ok, Err, Result, not}
 use Rattle.std.specs.Bool.{passes}
 use Rattle.std.specs.List.{AllByRecursion}
 use Rattle.gx_model.specs.declared.objects.Kind.{Kind}
@@ -9,15 +9,13 @@ use Rattle.gx_model.specs.Faults.{◌>>=◌}
 use Rattle.gx_model.specs.Histories.{Record}
 use Rattle.gx_model.specs.Records.Growth.{record_named, same_kind, same_object}
 use Rattle.gx_model.specs.Records.RecordFaults.{is_bad_below, is_body}
-use Rattle.gx_model.specs.Records.Sound.{AnyByRecursion}
 use Rattle.gx_model.proofs.Records.GrownRecords.{kind_is}
 use Rattle.gx_model.proofs.Records.HeldObjects.{named_so}
 use Rattle.gx_model.proofs.Records.TakenRecords.{all_named}
 use Rattle.gx_model.proofs.Texts.PathTests.{first, second, same_is}
-use Rattle.gx_wide.specs.Placing.{BadObject, Dangling, NameHeld, Placed, TakeFault, link_placed, links_placed, put_last, wide_links}
+use Rattle.gx_wide.specs.Placing.{BadObject, Dangling, NameHeld, Placed, link_placed, links_placed, put_last, wide_links}
 use Rattle.gx_placed.specs.Placed.{ArePlaced, IsOneOf, others, placed_all, placed_in_order, placed_within}
-use Rattle.gx_placed.proofs.Lookups.{behind_front, found_behind, found_last, found_still, one_or_two}
-use Rattle.gx_placed.proofs.Machines.{all_then}
+use Rattle.gx_placed.proofs.Lookups.{behind_front, found_behind, found_last, found_still}
 use Rattle.gx_placed.proofs.Resumes.{by_name, through, through_given, unfolded}
 
 -- two records of one name, one kind and one body

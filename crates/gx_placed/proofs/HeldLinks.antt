@@ -1,12 +1,12 @@
 -- Where each object that a body names is held, its links are.
-use Rattle.std.proofs.Common.{◌≡◌, true, Bool, sym, ap, ◌∙◌, refl, subst, List, [], ◌∷◌, map, Option, Some, None}
+use Rattle.std.proofs.Common.{◌≡◌, true, Bool, ap, ◌∙◌, refl, subst, List, [], ◌∷◌, map}
 use Rattle.std.specs.Prelude.{◌&&◌}
 use Rattle.std.specs.List.{AllByRecursion, cons_option, filter_map, list_all}
 use Rattle.gx_model.specs.declared.objects.Kind.{Kind}
 use Rattle.gx_model.specs.declared.objects.Kind.TheVariants as kinds
 use Rattle.gx_model.specs.declared.objects.Mode.{Mode}
 use Rattle.gx_model.specs.declared.objects.Mode.TheVariants as modes
-use Rattle.gx_model.specs.Objects.{Entry, IsTagText, TagParts}
+use Rattle.gx_model.specs.Objects.{Entry, TagParts}
 use Rattle.gx_model.specs.Texts.{Bytes}
 use Rattle.gx_model.specs.Histories.{Record}
 use Rattle.gx_model.specs.Records.HistoryOf.{commit_parts_in, entries_in}

@@ -1,16 +1,15 @@
 -- What adding an object tells, all of whose links are held.
-use Rattle.std.proofs.Common.{◌≡◌, ℕ, true, false, Bool, cond, sym, ap, ◌∙◌, refl, subst, List, [], ◌∷◌, ◌++◌, Option, Some, None, append-nil}
-use Rattle.std.specs.Prelude.{not, Ok, Err, Result, is_some}
+use Rattle.std.proofs.Common.{◌≡◌, ℕ, true, false, Bool, sym, ap, ◌∙◌, refl, List, [], ◌∷◌, ◌++◌, Some, None, append-nil}
+use Rattle.std.specs.Prelude.{Ok, Err, Result}
 use Rattle.gx_model.specs.declared.objects.Kind.{Kind}
 use Rattle.gx_model.specs.declared.store_faults.FileFault.{FileFault}
 use Rattle.gx_model.specs.declared.store_faults.FileFault.TheVariants as fault
 use Rattle.gx_model.specs.Texts.{Bytes}
 use Rattle.gx_model.specs.Histories.{Record, record_for}
-use Rattle.gx_model.specs.Records.Growth.{record_named}
-use Rattle.gx_model.specs.Records.RecordFaults.{are_links_held, content_fault, is_bad_below, is_body, or_duplicate, record_fault}
+use Rattle.gx_model.specs.Records.RecordFaults.{is_bad_below, record_fault}
 use Rattle.gx_model.proofs.Records.TakenRecords.{fine_body, fine_record, no_fault, nothing_against}
 use Rattle.gx_object.specs.declared.name.Name.{Name}
-use Rattle.gx_repo.specs.Records.{AddsRecord, add_fault}
+use Rattle.gx_repo.specs.Records.{AddsRecord}
 use Rattle.gx_repo.specs.declared.fault.AddFault.{AddFault}
 use Rattle.gx_repo.specs.declared.fault.AddFault.TheVariants as add
 use Rattle.gx_placed.specs.Places.{Extends}

@@ -1,10 +1,9 @@
 -- What a name finds among objects, among those of other names, and among those that wait.
-use Rattle.std.proofs.Common.{◌≡◌, ℕ, zero, suc, ◌+◌, true, false, Bool, cond, sym, ap, ◌∙◌, refl, subst, List, [], ◌∷◌, ◌++◌, map, set, take, Option, Some, None, inl, inr, ◌⊎◌}
+use Rattle.std.proofs.Common.{◌≡◌, ℕ, zero, suc, true, false, cond, sym, ap, ◌∙◌, refl, subst, List, [], ◌∷◌, ◌++◌, map, set, take, Option, Some, None, inl, inr, ◌⊎◌}
 use Rattle.std.specs.Prelude.{not}
 use Rattle.std.specs.Bool.{passes}
 use Rattle.std.specs.List.{AllByRecursion, slice_get}
 use Rattle.std.specs.Option.{option_map, option_and_then}
-use Rattle.std.proofs.lemmas.Bool.{false≢true}
 use Rattle.gx_model.specs.Texts.{Bytes, same_bytes}
 use Rattle.gx_model.specs.Histories.{Record}
 use Rattle.gx_model.specs.Records.Growth.{record_named}

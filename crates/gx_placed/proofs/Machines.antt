@@ -1,10 +1,10 @@
 -- What is known while objects are placed, from one step to the next.
-use Rattle.std.proofs.Common.{◌≡◌, ℕ, zero, suc, ◌+◌, ◌≤◌, true, false, Bool, cond, sym, ap, ◌∙◌, refl, subst, List, [], ◌∷◌, ◌++◌, length, map, set, take, Option, Some, None, inl, inr, ◌⊎◌, arith, append_assoc, append-nil, length-append}
+use Rattle.std.proofs.Common.{◌≡◌, ℕ, zero, suc, ◌+◌, ◌≤◌, true, sym, ap, ◌∙◌, refl, subst, List, [], ◌∷◌, ◌++◌, length, map, set, take, Option, Some, None, inl, inr, ◌⊎◌, arith, append_assoc, append-nil, length-append}
 use Rattle.std.specs.Prelude.{⊤}
 use Rattle.std.specs.Bool.{passes}
 use Rattle.std.specs.List.{AllByRecursion, slice_get}
 use Rattle.gx_model.specs.declared.objects.Kind.{Kind}
-use Rattle.gx_model.specs.Texts.{Bytes, same_bytes}
+use Rattle.gx_model.specs.Texts.{Bytes}
 use Rattle.gx_model.specs.Histories.{Record}
 use Rattle.gx_model.specs.Records.Growth.{record_named, same_kind}
 use Rattle.gx_model.specs.Records.RecordFaults.{is_body, is_held, is_of_kind}
@@ -12,8 +12,8 @@ use Rattle.gx_model.proofs.Records.GrownRecords.{kind_is}
 use Rattle.gx_model.proofs.Records.HeldValues.{kinds_same}
 use Rattle.gx_wide.specs.Placing.{wide_links}
 use Rattle.gx_placed.specs.Placed.{others}
-use Rattle.gx_placed.specs.Machine.{AreBegun, AreSlots, Begun, IsAmong, IsBegun, IsCovered, IsLooked, IsMachine, IsUnderWay, beside, count, looked_at, place_in, slot_at, waits, weight, weight_of}
-use Rattle.gx_placed.proofs.Lookups.{all_wait, apart_too, first_there, found_among_all, found_last, found_still, free_among, free_before, free_still, none_found, none_waits, one_or_two, other_found, place_named_so, two, waits_at, waits_still}
+use Rattle.gx_placed.specs.Machine.{AreBegun, AreSlots, Begun, IsAmong, IsBegun, IsCovered, IsLooked, IsMachine, IsUnderWay, beside, count, looked_at, place_in, slot_at, waits, weight}
+use Rattle.gx_placed.proofs.Lookups.{all_wait, apart_too, first_there, found_last, found_still, free_among, free_before, free_still, none_found, none_waits, one_or_two, other_found, place_named_so, two, waits_at, waits_still}
 use Rattle.gx_placed.proofs.Resumes.{beside_last}
 
 -- ---- lists

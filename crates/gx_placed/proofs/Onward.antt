@@ -1,19 +1,18 @@
 -- How all go on from one step to the next, and how they end with a fault.
-use Rattle.std.proofs.Common.{◌≡◌, ℕ, zero, suc, ◌+◌, ◌-◌, ◌<◌, ◌≤◌, true, false, Bool, cond, sym, ap, ◌∙◌, refl, subst, List, [], ◌∷◌, ◌++◌, length, map, set, Option, Some, None, arith, append-nil, length-append}
-use Rattle.std.specs.Prelude.{Ok, Err}
-use Rattle.std.specs.List.{AllByRecursion, slice_get}
+use Rattle.std.proofs.Common.{◌≡◌, ℕ, suc, ◌+◌, ◌-◌, ◌<◌, true, false, cond, sym, ap, ◌∙◌, refl, subst, List, [], ◌∷◌, ◌++◌, length, set, Option, Some, None, arith, append-nil, length-append}
+use Rattle.std.specs.Prelude.{Err}
 use Rattle.std.specs.Option.{option_and_then, option_map}
 use Rattle.gx_model.specs.declared.objects.Kind.{Kind}
 use Rattle.gx_model.specs.Texts.{Bytes}
 use Rattle.gx_model.specs.Histories.{Record}
 use Rattle.gx_model.specs.Records.Growth.{record_named, same_kind}
 use Rattle.gx_model.specs.Records.RecordFaults.{is_bad_below, is_body, is_held}
-use Rattle.gx_wide.specs.Placing.{BadObject, Dangling, Placed, TakeFault, link_placed, wide_links}
+use Rattle.gx_wide.specs.Placing.{BadObject, Dangling, Placed, TakeFault, link_placed}
 use Rattle.gx_placed.specs.Placed.{others, placed_within}
-use Rattle.gx_placed.specs.Machine.{Begun, IsLacking, IsMachine, begun_at, beside, count, looked_at, object_at, place_in, resumed, slot_at, waits, weight, work, work_begun, work_left}
+use Rattle.gx_placed.specs.Machine.{Begun, IsLacking, IsMachine, begun_at, beside, looked_at, object_at, place_in, resumed, slot_at, waits, work, work_begun, work_left}
 use Rattle.gx_placed.proofs.Lookups.{waits_at}
 use Rattle.gx_placed.proofs.Machines.{needed, unneeded, weight_emptied}
-use Rattle.gx_placed.proofs.Resumes.{bad_end, bad_link, begins_badly, dangling_end, given_link, into_link, left_is, left_of, no_link, over_link, resumed_alike, resumed_ends, to_end}
+use Rattle.gx_placed.proofs.Resumes.{bad_end, bad_link, begins_badly, dangling_end, given_link, into_link, left_is, no_link, over_link, resumed_alike, resumed_ends, to_end}
 
 -- an object with its place
 abbrev with_place : ℕ → Option Record → Option (ℕ × Record)

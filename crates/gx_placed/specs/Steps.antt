@@ -7,7 +7,7 @@ use Rattle.std.specs.declared.vec.Vec.{Vec}
 use Rattle.gx_model.specs.declared.objects.Kind.{Kind}
 use Rattle.gx_model.specs.Texts.{Bytes, byte_cmp}
 use Rattle.gx_model.specs.Histories.{Record}
-use Rattle.gx_model.specs.Records.Growth.{record_named, same_kind, same_object}
+use Rattle.gx_model.specs.Records.Growth.{record_named, same_kind}
 use Rattle.gx_model.specs.Records.RecordFaults.{are_links_held, is_bad_below, is_body, is_held}
 use Rattle.gx_object.specs.declared.name.Name.{Name}
 use Rattle.gx_links.specs.Links.{shown_link}
@@ -15,10 +15,9 @@ use Rattle.gx_links.specs.declared.links.Link.{Link}
 use Rattle.gx_offered.specs.declared.offered.OfferedObject.{OfferedObject}
 use Rattle.gx_repo.specs.declared.fault.AddFault.{AddFault}
 use Rattle.gx_repo.specs.declared.fault.AddFault.TheVariants as add
-use Rattle.gx_placed.specs.Machine.{Begun, IsLacking, IsMachine, begun_at, looked_at, object_at, place_in, resumed, slot_at}
+use Rattle.gx_placed.specs.Machine.{Begun, IsLacking, IsMachine, begun_at, looked_at, object_at, place_in, resumed}
 use Rattle.gx_placed.specs.Placed.{placed_within}
 use Rattle.gx_placed.specs.Places.{Answers, shown_object}
-use Rattle.gx_placed.specs.declared.fault.ObjectFault.{ObjectFault}
 use Rattle.gx_placed.specs.declared.fault.ObjectFault.TheVariants.{BadObject}
 use Rattle.gx_placed.specs.declared.fault.PlaceFault.{PlaceFault}
 use Rattle.gx_placed.specs.declared.fault.PlaceFault.TheVariants.{Object, OutOfMemory}

@@ -1,4 +1,4 @@
-use Rattle.std.proofs.Common.{◌≡◌, ◌∙◌, List, length, take, refl, sym, ap, subst}
+use Rattle.std.proofs.Common.{◌∙◌, List, length, sym, ap, subst}
 use Rattle.gx_model.specs.Histories.{Record}
 use Rattle.gx_repo.specs.Objects.{AreTargets}
 use Rattle.gx_placed.proofs.Going.{front_kept}

@@ -1,4 +1,4 @@
-use Rattle.std.proofs.Common.{◌≡◌, ◌∙◌, Ok, Err, Some, length, map, refl, sym, ap, subst, arith}
+use Rattle.std.proofs.Common.{◌∙◌, Ok, Err, length, refl, sym, ap, subst, arith}
 use Rattle.gx_placed.proofs.Slots.{as_many}
 use Rattle.std.proofs.lemmas.Result.{err_from_is_err_and}
 use Rattle.gx_placed.specs.Places.{Places, shown_given}

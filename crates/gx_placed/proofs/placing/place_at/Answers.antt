@@ -1,4 +1,4 @@
-use Rattle.std.proofs.Common.{◌≡◌, ◌∙◌, List, Err, refl, sym, ap, true≢false}
+use Rattle.std.proofs.Common.{◌∙◌, List, Err, refl, sym, ap, true≢false}
 use Rattle.std.specs.Option.{option_map}
 use Rattle.std.proofs.lemmas.Result.{err_from_is_err_and}
 use Rattle.gx_model.specs.Histories.{Record, object_of}

@@ -1,4 +1,4 @@
-use Rattle.std.proofs.Common.{◌≡◌, ◌+◌, ◌-◌, ◌∙◌, refl, sym, ap, get_or, map, Some, arith}
+use Rattle.std.proofs.Common.{◌-◌, ◌∙◌, ap, get_or, map, arith}
 use Rattle.std.specs.Option.{option_map}
 use Rattle.std.proofs.lemmas.Option.{slice_get-get_or, slice_get-map}
 use Rattle.gx_placed.specs.Places.{shown_object}

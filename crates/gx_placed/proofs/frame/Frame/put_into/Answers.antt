@@ -1,7 +1,7 @@
 use Rattle.std.proofs.Common.{Err, subst, sym}
 use Rattle.gx_placed.specs.Places.{shown_object}
 use Rattle.gx_placed.specs.Steps.{PutsLast}
-use Rattle.gx_placed.proofs.Last.{may_not, may_stand, more_stand}
+use Rattle.gx_placed.proofs.Last.{may_not, may_stand}
 use Rattle.gx_placed.proofs.frame.Frame.put_into.Goals as goal
 
 pub returns-in-Ok-clause-puts : goal.returns-in-Ok-clause-puts

@@ -1,4 +1,4 @@
-use Rattle.std.proofs.Common.{◌≡◌, refl, sym, ap, ◌∙◌}
+use Rattle.std.proofs.Common.{sym, ap, ◌∙◌}
 use Rattle.std.specs.Option.{option_map}
 use Rattle.gx_placed.specs.Steps.{shown_taken, slots, without}
 use Rattle.gx_placed.proofs.Slots.{set_none}

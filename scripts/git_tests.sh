@@ -28,6 +28,11 @@ export GIT_TEST_INSTALLED OUT=$out
 printf '%s\0' "$@" | (cd "$source/t" && xargs -0 -n 1 -P "${JOBS:-2}" \
   sh -c 'TEST_LOG=$OUT/$0.log; export TEST_LOG; exec timeout "${LIMIT:-3600}" sh "./$0.sh" -d -v --root="$OUT" > "$TEST_LOG" 2>&1 < /dev/null') || true
 
+# signed tests leave agents of gpg
+for home in "$out"/*/gpghome; do
+  [ ! -d "$home" ] || gpgconf --homedir "$home" --kill gpg-agent || true
+done
+
 # a script that comes to its end, or is left out as a whole, says how many tests it has
 cut=0
 for script in "$@"; do

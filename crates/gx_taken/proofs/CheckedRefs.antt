@@ -3,7 +3,6 @@ use Rattle.std.proofs.Common.{◌≡◌, ℕ, ◌+◌, ◌<◌, ◌≤◌, Bool,
 use Rattle.std.specs.Option.{option_map}
 use Rattle.std.proofs.lemmas.List.{drop_more}
 use Rattle.gx_model.specs.Histories.{Records}
-use Rattle.gx_model.specs.Records.Publishing.{Ref}
 use Rattle.gx_wide.specs.Placing.{TakeFault}
 use Rattle.gx_taken.specs.Parts.{ref_offered, shown_ref_items}
 use Rattle.gx_taken.specs.Taking.{Refusal, first_refused, ref_fault, untaken}

@@ -4,7 +4,6 @@ use Rattle.std.specs.Prelude.{not, ◌||◌, if◌then◌else◌}
 use Rattle.std.specs.Bool.{passes}
 use Rattle.std.specs.List.{fold}
 use Rattle.std.specs.Map.{lookup}
-use Rattle.std.specs.Ordering.{eq_by_cmp}
 use Rattle.std.specs.FinMap.Entries.{find, find-put, put}
 use Rattle.std.proofs.lemmas.Bool.{true≢false}
 use Rattle.std.proofs.lemmas.Map.Text.{is_eq-slice_cmp}
@@ -18,7 +17,7 @@ use Rattle.gx_repo.specs.Dropping.{without}
 use Rattle.gx_wide.specs.ObjectsTexts.{Item}
 use Rattle.gx_wide.specs.Placing.{TakeFault, given_in, is_dropped}
 use Rattle.gx_placed.specs.Placed.{placed_all}
-use Rattle.gx_taken.specs.Laws.{GivesAll, HoldTold, WhereTaken, object_told, or_before, told_last}
+use Rattle.gx_taken.specs.Laws.{GivesAll, WhereTaken, object_told, or_before, told_last}
 use Rattle.gx_taken.specs.Taking.{Refusal, first_refused, names_told, number_named, refs_taken, refs_told, subject, taken, untaken, with_told}
 use Rattle.gx_taken.proofs.ToldRefs.{found_left}
 use Rattle.gx_taken.proofs.TurnedRefs.{found}

@@ -1,6 +1,6 @@
 -- The number of the first label of a name.
 use Rattle.std.proofs.Common.{◌≡◌, ℕ, zero, suc, ◌+◌, ◌<◌, ◌≤◌, Bool, true, false, List, [], ◌∷◌, length, drop, get_or, refl, sym, ap, subst, ◌∙◌, drop_of_length-le}
-use Rattle.std.specs.Prelude.{Option, Some, IsTrue, ◌||◌, if◌then◌else◌}
+use Rattle.std.specs.Prelude.{Some, IsTrue, ◌||◌, if◌then◌else◌}
 use Rattle.std.specs.List.{slice_get}
 use Rattle.std.proofs.lemmas.Bool.{true≢false}
 use Rattle.std.proofs.lemmas.List.{drop_more}

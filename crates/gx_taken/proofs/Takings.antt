@@ -1,8 +1,5 @@
 -- What is taken, step by step.
-use Rattle.std.proofs.Common.{◌≡◌, ℕ, Bool, List, Option, Some, None, Result, Ok, Err, refl, sym, ap, subst, ◌∙◌}
-use Rattle.std.specs.List.{slice_get}
-use Rattle.std.specs.Option.{option_map}
-use Rattle.gx_model.specs.Texts.{Bytes}
+use Rattle.std.proofs.Common.{◌≡◌, ℕ, Bool, List, Some, None, Result, Ok, Err, sym, ap, ◌∙◌}
 use Rattle.gx_model.specs.Histories.{Record, Records}
 use Rattle.gx_model.specs.Laws.RepositoryLaws.{with_records, with_refs}
 use Rattle.gx_wide.specs.ObjectsTexts.{Item}

@@ -1,5 +1,5 @@
 -- Refs that are told of one after the other come to names that are dropped first, and changes behind that.
-use Rattle.std.proofs.Common.{◌≡◌, Bool, true, false, cond, List, [], ◌∷◌, Option, Some, None, refl, sym, ap, subst, ◌∙◌}
+use Rattle.std.proofs.Common.{◌≡◌, Bool, true, false, cond, List, [], ◌∷◌, Some, None, refl, sym, ap, ◌∙◌}
 use Rattle.std.specs.Prelude.{T, not, ◌||◌, if◌then◌else◌}
 use Rattle.std.specs.List.{fold}
 use Rattle.std.specs.Bool.{passes}

@@ -1,5 +1,5 @@
 -- What is taken, as the code has what it is made of.
-use Rattle.std.proofs.Common.{◌≡◌, ℕ, ◌<◌, Bool, List, Option, Some, None, Result, Ok, Err, length, refl, sym, ap, subst, ◌∙◌}
+use Rattle.std.proofs.Common.{◌≡◌, ℕ, ◌<◌, Bool, List, Option, Some, None, Ok, Err, length, refl, sym, ap, subst, ◌∙◌}
 use Rattle.std.specs.List.{slice_get}
 use Rattle.std.specs.Option.{option_map}
 use Rattle.std.proofs.lemmas.Option.{slice_get-map, slice_get_within}
@@ -59,7 +59,7 @@ module _ {A : Type 0} (force : Bool) (r : Records) (items : List Item) (parts : 
         let l = labelled in
         let placed = ap (λ rs. placed_all rs r.records) (sym are.objects) ∙ h.2 in
         let number : number_named (names_told 1 items) (subject (take_fault against h.0.name)) ≡ number_named (shown_labels parts.labels.items) l.0.name.bytes =
-            ap (number_named (names_told 1 items)) (subject_is against h.0.name ∙ sym l.2) ∙ ap (λ ls. number_named ls l.0.name.bytes) (sym are.labels) in
+        ap (number_named (names_told 1 items)) (subject_is against h.0.name ∙ sym l.2) ∙ ap (λ ls. number_named ls l.0.name.bytes) (sym are.labels) in
         let refused : untaken (take_fault against h.0.name) ≡ shown_refused (object_refused {A = A} l.0.name against) = ap (λ called. untaken (take_fault against called)) (sym l.2) ∙ refused_is A against l.0.name in
         subst (λ (t : TakeFault A). IsTakenBy (taken force r items) left (Err t)) (sym (is l.0 l.1))
         (not_placed force r items (take_fault against h.0.name) placed ∙ (λ i. Err (number i, refused i)))

@@ -18,7 +18,7 @@ use Rattle.gx_placed.specs.declared.fault.PlaceFault.TheVariants as place
 use Rattle.gx_taken.specs.Parts.{shown_labels}
 use Rattle.gx_taken.specs.Refusals.{shown_refused}
 use Rattle.gx_wide.specs.Placing as placing
-use Rattle.gx_taken.specs.Taking.{Refusal, number_named, taken, text_taken, untaken}
+use Rattle.gx_taken.specs.Taking.{Refusal, number_named, text_taken, untaken}
 use Rattle.gx_taken.specs.declared.fault.Refused.{Refused}
 use Rattle.gx_taken.specs.declared.fault.Refused.TheVariants as refused
 use Rattle.gx_taken.specs.declared.fault.TakeFault.{TakeFault}

@@ -1,7 +1,6 @@
 -- The parts of an offer as the code has them.
 use Rattle.std.specs.Prelude.{◌≡◌, ℕ, Bool, List, map}
 use Rattle.std.specs.List.{list_any}
-use Rattle.std.specs.declared.vec.Vec.{Vec}
 use Rattle.gx_model.specs.Texts.{Bytes, same_bytes}
 use Rattle.gx_model.specs.Records.Publishing.{Ref}
 use Rattle.gx_store.specs.Bodies.{bytes_of}

@@ -1,5 +1,5 @@
 -- Refusals as the code has them, by the definitions and by their words.
-use Rattle.std.specs.Prelude.{ℕ, codes}
+use Rattle.std.specs.Prelude.{codes}
 use Rattle.gx_model.specs.Texts.{Bytes}
 use Rattle.gx_offered.specs.ItemFaults as item
 use Rattle.gx_offered.specs.declared.fault.OfferFault.{OfferFault}

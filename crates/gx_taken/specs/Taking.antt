@@ -1,6 +1,6 @@
 -- What a repository becomes by a text of refs and objects, or what is against its first item that isn't taken.
 -- Source: git-for-each-ref(1), git-cat-file(1), "BATCH OUTPUT", and gitglossary(7), "ref" and "fast-forward".
-use Rattle.std.specs.Prelude.{ℕ, ◌+◌, Bool, true, false, not, if◌then◌else◌, List, [], ◌∷◌, map, replicate, Option, None, Some, Result, Ok, Err}
+use Rattle.std.specs.Prelude.{ℕ, ◌+◌, Bool, not, if◌then◌else◌, List, [], ◌∷◌, map, Option, None, Some, Result, Ok, Err}
 use Rattle.std.specs.List.{fold}
 use Rattle.std.specs.Map.{lookup}
 use Rattle.std.specs.Option.{option_map}

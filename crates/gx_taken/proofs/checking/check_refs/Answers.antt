@@ -13,6 +13,8 @@ returns-in-Some g c =
     (sym (ap (option_map shown_refused) c.in-Some.is) ∙ c.in_ok-against.ensures.against)
 
 pub loop-item-preserved : goal.loop-item-preserved
-loop-item-preserved g c =
-    (c.in_ok-against.ensures.holds, checked_next {A = g.row.A.Denot} c.args.force c.args.repo.now.1 c.args.refs.now c.loop-item.item-index c.item-item.result c.item-item.result c.loop-item-test.true c.loop-item.invariant.1 c.item-item.is
-    (sym (ap (option_map shown_refused) c.in-None.is) ∙ c.in_ok-against.ensures.against))
+loop-item-preserved g c = (
+  c.in_ok-against.ensures.holds,
+  checked_next {A = g.row.A.Denot} c.args.force c.args.repo.now.1 c.args.refs.now c.loop-item.item-index c.item-item.result c.item-item.result c.loop-item-test.true c.loop-item.invariant.1 c.item-item.is
+      (sym (ap (option_map shown_refused) c.in-None.is) ∙ c.in_ok-against.ensures.against),
+)

@@ -1,4 +1,4 @@
-use Rattle.std.proofs.Common.{◌≡◌, ◌-◌, ◌<◌, ◌≤◌, ◌∙◌, get_or, length, map, ap, sym, subst, arith, rules}
+use Rattle.std.proofs.Common.{◌≡◌, ◌-◌, ◌<◌, ◌∙◌, get_or, length, map, ap, sym, subst, arith, rules}
 use Rattle.std.specs.Prelude.{reverse}
 use Rattle.std.specs.Bool.{passes}
 use Rattle.gx_repo.specs.Refs.{shown_update}
@@ -17,10 +17,12 @@ loop-place-preserved-then-contains g c =
     let fits = l.invariant.0 in
     let some = c.loop-place-test.true in
     let lt : l.place - 1 < length c.args.refs.now = omega (arith, fits, some) in
-    let object = (get_or c.args.refs.now (l.place - 1) d).offered.object in
-    (omega (arith, fits), looked_seen {A = g.row.A.Denot} r.refs c.args.refs.now (l.place - 1) l.seen (lent_texts l.dropped.items) (map shown_update (reverse l.changes.items)) d (c.as_slice-name.result.now, object.bytes) lt
-    (λ i. (c.as_slice-name.ensures i, object.bytes)) (before {A = g.row.A.Denot} r.refs c.args.refs.now l.place l.seen (lent_texts l.dropped.items) (map shown_update (reverse l.changes.items)) some l.invariant.1)
-    (sym c.contains.ensures ∙ c.if-contains.true))
+    let object = (get_or c.args.refs.now (l.place - 1) d).offered.object in (
+      omega (arith, fits),
+      looked_seen {A = g.row.A.Denot} r.refs c.args.refs.now (l.place - 1) l.seen (lent_texts l.dropped.items) (map shown_update (reverse l.changes.items)) d (c.as_slice-name.result.now, object.bytes) lt
+          (λ i. (c.as_slice-name.ensures i, object.bytes)) (before {A = g.row.A.Denot} r.refs c.args.refs.now l.place l.seen (lent_texts l.dropped.items) (map shown_update (reverse l.changes.items)) some l.invariant.1)
+          (sym c.contains.ensures ∙ c.if-contains.true),
+    )
 
 pub loop-place-preserved-then-not-is_none : goal.loop-place-preserved-then-not-is_none
 loop-place-preserved-then-not-is_none g c =
@@ -30,11 +32,13 @@ loop-place-preserved-then-not-is_none g c =
     let fits = l.invariant.0 in
     let some = c.loop-place-test.true in
     let lt : l.place - 1 < length c.args.refs.now = omega (arith, fits, some) in
-    let object = (get_or c.args.refs.now (l.place - 1) d).offered.object in
-    (omega (arith, fits), looked_set {A = g.row.A.Denot} r.refs c.args.refs.now (l.place - 1) l.seen (lent_texts l.dropped.items) (map shown_update (reverse l.changes.items)) d (c.as_slice-name.result.now, object.bytes) lt
-    (λ i. (c.as_slice-name.ensures i, object.bytes)) (before {A = g.row.A.Denot} r.refs c.args.refs.now l.place l.seen (lent_texts l.dropped.items) (map shown_update (reverse l.changes.items)) some l.invariant.1)
-    (sym c.contains.ensures ∙ c.if-contains.false) (search rules) (map shown_update (reverse c.push.new.self.items))
-    (reversed_more shown_update l.changes.items c.push.new.self.items (record { name = c.as_slice-name.result; target = object }) c.in_ok-push.ensures.items))
+    let object = (get_or c.args.refs.now (l.place - 1) d).offered.object in (
+      omega (arith, fits),
+      looked_set {A = g.row.A.Denot} r.refs c.args.refs.now (l.place - 1) l.seen (lent_texts l.dropped.items) (map shown_update (reverse l.changes.items)) d (c.as_slice-name.result.now, object.bytes) lt
+          (λ i. (c.as_slice-name.ensures i, object.bytes)) (before {A = g.row.A.Denot} r.refs c.args.refs.now l.place l.seen (lent_texts l.dropped.items) (map shown_update (reverse l.changes.items)) some l.invariant.1)
+          (sym c.contains.ensures ∙ c.if-contains.false) (search rules) (map shown_update (reverse c.push.new.self.items))
+          (reversed_more shown_update l.changes.items c.push.new.self.items (record { name = c.as_slice-name.result; target = object }) c.in_ok-push.ensures.items),
+    )
 
 pub loop-place-preserved-in-Continue-branch-3 : goal.loop-place-preserved-in-Continue-branch-3
 loop-place-preserved-in-Continue-branch-3 g c =
@@ -44,13 +48,15 @@ loop-place-preserved-in-Continue-branch-3 g c =
     let fits = l.invariant.0 in
     let some = c.loop-place-test.true in
     let lt : l.place - 1 < length c.args.refs.now = omega (arith, fits, some) in
-    let object = (get_or c.args.refs.now (l.place - 1) d).offered.object in
-    (omega (arith, fits), looked_held {A = g.row.A.Denot} r.refs c.args.refs.now (l.place - 1) l.seen (lent_texts l.dropped.items) (map shown_update (reverse l.changes.items)) d (c.as_slice-name.result.now, object.bytes) lt
-    (λ i. (c.as_slice-name.ensures i, object.bytes)) (before {A = g.row.A.Denot} r.refs c.args.refs.now l.place l.seen (lent_texts l.dropped.items) (map shown_update (reverse l.changes.items)) some l.invariant.1)
-    (sym c.contains.ensures ∙ c.if-contains.false) (search rules)
-    (near r.refs c.as_slice-name.result.now c.ref_near.result.1 _ c.ref_near.ensures.object (sym c.is_some.ensures ∙ c.if-is_some.true))
-    c.insert.new.self c.in_ok-insert.ensures.updates.0 (lent_texts c.push-then-is_some.new.self.items)
-    (lent_more l.dropped.items c.push-then-is_some.new.self.items c.as_slice-name.result c.in_ok-push-2.ensures.items))
+    let object = (get_or c.args.refs.now (l.place - 1) d).offered.object in (
+      omega (arith, fits),
+      looked_held {A = g.row.A.Denot} r.refs c.args.refs.now (l.place - 1) l.seen (lent_texts l.dropped.items) (map shown_update (reverse l.changes.items)) d (c.as_slice-name.result.now, object.bytes) lt
+          (λ i. (c.as_slice-name.ensures i, object.bytes)) (before {A = g.row.A.Denot} r.refs c.args.refs.now l.place l.seen (lent_texts l.dropped.items) (map shown_update (reverse l.changes.items)) some l.invariant.1)
+          (sym c.contains.ensures ∙ c.if-contains.false) (search rules)
+          (near r.refs c.as_slice-name.result.now c.ref_near.result.1 _ c.ref_near.ensures.object (sym c.is_some.ensures ∙ c.if-is_some.true))
+          c.insert.new.self c.in_ok-insert.ensures.updates.0 (lent_texts c.push-then-is_some.new.self.items)
+          (lent_more l.dropped.items c.push-then-is_some.new.self.items c.as_slice-name.result c.in_ok-push-2.ensures.items),
+    )
 
 pub loop-place-preserved : goal.loop-place-preserved
 loop-place-preserved g c =
@@ -60,12 +66,14 @@ loop-place-preserved g c =
     let fits = l.invariant.0 in
     let some = c.loop-place-test.true in
     let lt : l.place - 1 < length c.args.refs.now = omega (arith, fits, some) in
-    let object = (get_or c.args.refs.now (l.place - 1) d).offered.object in
-    (omega (arith, fits), looked_absent {A = g.row.A.Denot} r.refs c.args.refs.now (l.place - 1) l.seen (lent_texts l.dropped.items) (map shown_update (reverse l.changes.items)) d (c.as_slice-name.result.now, object.bytes) lt
-    (λ i. (c.as_slice-name.ensures i, object.bytes)) (before {A = g.row.A.Denot} r.refs c.args.refs.now l.place l.seen (lent_texts l.dropped.items) (map shown_update (reverse l.changes.items)) some l.invariant.1)
-    (sym c.contains.ensures ∙ c.if-contains.false) (search rules)
-    (near r.refs c.as_slice-name.result.now c.ref_near.result.1 _ c.ref_near.ensures.object (sym c.is_some.ensures ∙ c.if-is_some.false))
-    c.insert.new.self c.in_ok-insert.ensures.updates.0)
+    let object = (get_or c.args.refs.now (l.place - 1) d).offered.object in (
+      omega (arith, fits),
+      looked_absent {A = g.row.A.Denot} r.refs c.args.refs.now (l.place - 1) l.seen (lent_texts l.dropped.items) (map shown_update (reverse l.changes.items)) d (c.as_slice-name.result.now, object.bytes) lt
+          (λ i. (c.as_slice-name.ensures i, object.bytes)) (before {A = g.row.A.Denot} r.refs c.args.refs.now l.place l.seen (lent_texts l.dropped.items) (map shown_update (reverse l.changes.items)) some l.invariant.1)
+          (sym c.contains.ensures ∙ c.if-contains.false) (search rules)
+          (near r.refs c.as_slice-name.result.now c.ref_near.result.1 _ c.ref_near.ensures.object (sym c.is_some.ensures ∙ c.if-is_some.false))
+          c.insert.new.self c.in_ok-insert.ensures.updates.0,
+    )
 
 pub returns : goal.returns
 returns g c =

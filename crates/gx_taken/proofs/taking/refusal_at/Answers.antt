@@ -1,5 +1,4 @@
-use Rattle.std.proofs.Common.{[], get_or, refl}
-use Rattle.gx_taken.specs.declared.parts.Label.{Label}
+use Rattle.std.proofs.Common.{get_or, refl}
 use Rattle.gx_taken.proofs.NumberedLabels.{named_there, no_label, unplaced_is}
 use Rattle.gx_taken.proofs.taking.refusal_at.Goals as goal
 

@@ -147,7 +147,7 @@ def environment(gx_path: Path, tmp_path_factory: pytest.TempPathFactory) -> dict
     commands = home / "bin"
     commands.mkdir()
     (commands / "gx").symlink_to(gx_path)
-    for name in ("git-remote-gx", "gx-mirror"):
+    for name in ("git-remote-gx", "gx-mirror", "git-objects"):
         (commands / name).symlink_to(SCRIPTS / name)
     who = {
         f"GIT_{side}_{what}": value

@@ -44,16 +44,20 @@ fn lines_tell_marks_in_their_order(rt: HostRuntime) {
     let alloc = rt.alloc();
     assert!(rt; tells(alloc, b"", &[]));
     assert!(rt; tells(alloc, WRITTEN, &[(1, HI), (18, HO)]));
-    assert!(rt; tells(
-        alloc,
-        b":2 AB4A98190CF776B43CB0FE57CEF231FB93FD07E6\r\n:01 45b983be36b73c0788dc9cbcb76cbb80fc7bb057\n",
-        &[(2, HO), (1, HI)],
-    ));
-    assert!(rt; tells(
-        alloc,
-        b":1 45b983be36b73c0788dc9cbcb76cbb80fc7bb057\n:1 ab4a98190cf776b43cb0fe57cef231fb93fd07e6\n",
-        &[(1, HI), (1, HO)],
-    ));
+    assert!(rt;
+        tells(
+            alloc,
+            b":2 AB4A98190CF776B43CB0FE57CEF231FB93FD07E6\r\n:01 45b983be36b73c0788dc9cbcb76cbb80fc7bb057\n",
+            &[(2, HO), (1, HI)],
+        )
+    );
+    assert!(rt;
+        tells(
+            alloc,
+            b":1 45b983be36b73c0788dc9cbcb76cbb80fc7bb057\n:1 ab4a98190cf776b43cb0fe57cef231fb93fd07e6\n",
+            &[(1, HI), (1, HO)],
+        )
+    );
 }
 
 #[test]
@@ -62,11 +66,13 @@ fn first_bad_line_is_told(rt: HostRuntime) {
     assert!(rt; is_bad_at(alloc, b"\n", 1));
     assert!(rt; is_bad_at(alloc, &WRITTEN[..WRITTEN.len() - 1], 2));
     assert!(rt; is_bad_at(alloc, b":0 45b983be36b73c0788dc9cbcb76cbb80fc7bb057\n", 1));
-    assert!(rt; is_bad_at(
-        alloc,
-        b":1 45b983be36b73c0788dc9cbcb76cbb80fc7bb057\n\n:1 ab4a98190cf776b43cb0fe57cef231fb93fd07e6\n",
-        2,
-    ));
+    assert!(rt;
+        is_bad_at(
+            alloc,
+            b":1 45b983be36b73c0788dc9cbcb76cbb80fc7bb057\n\n:1 ab4a98190cf776b43cb0fe57cef231fb93fd07e6\n",
+            2,
+        )
+    );
     assert!(rt; is_bad_at(alloc, b":1 45b983be36b73c0788dc9cbcb76cbb80fc7bb0577\n", 1));
 }
 

@@ -17,7 +17,7 @@ use std::alloc::Allocator;
 /// The marks that a text tells, in the order of its lines. One that is told twice stands twice: in git the last line counts.
 ///
 /// `BadLine`: the first line that tells no mark. `OutOfMemory`: a growth was refused, for a mark.
-/// Cost: the text. Memory: 28 bytes a mark, and as many while they grow. Source: git-fast-import(1), "--import-marks".
+/// Cost: the text. Memory: 32 bytes a mark, and up to twice as many more while they grow. Source: git-fast-import(1), "--import-marks".
 pub fn read_marks<A: Allocator + Copy>(alloc: A, text: &[u8]) -> Result<Vec<Mark, A>, MarksFault>
     ensures marks { IfOk result (λ marks. TellMarks text.now (shown_marks marks.items)) }
     ensures fault { (line : ℕ) → result ≡ Err (BadLine line) → IsFirstBad text.now line }

@@ -1,25 +1,24 @@
 -- A line tells the mark that is read in it, and no other.
-use Rattle.std.proofs.Common.{◌≡◌, ℕ, ◌+◌, ◌<◌, ◌≤◌, ◌^◌, Bool, true, false, cond, not, ◌&&◌, ◌||◌, refl, sym, ap, subst, ◌∙◌, arith, [], ◌∷◌, ◌++◌, length, take, drop, length-append, append-nil, append_assoc, Option, Some, None, Result, Ok, Err, inl, inr, ◌⊎◌}
-use Rattle.std.specs.Prelude.{IsTrue, ◌==◌, nat_eq, nat_lt}
+use Rattle.std.proofs.Common.{◌≡◌, ℕ, ◌<◌, ◌^◌, Bool, true, false, cond, ◌&&◌, refl, sym, ap, subst, ◌∙◌, arith, [], ◌∷◌, ◌++◌, map, length, take, drop, append-nil, Option, Some, None, Ok, Err, inl, inr}
+use Rattle.std.specs.Prelude.{◌==◌, nat_eq}
 use Rattle.std.specs.Bool.{passes}
 use Rattle.std.specs.Char.{is_ascii_digit}
-use Rattle.std.specs.Fmt.{decimal}
-use Rattle.std.specs.List.{list_all, list_any}
+use Rattle.std.specs.List.{list_all}
 use Rattle.std.specs.Option.{ok_or, option_and_then, option_map}
 use Rattle.std.specs.Result.{result_ok}
 use Rattle.std.specs.Str.Parse.{digits_value}
-use Rattle.std.proofs.lemmas.Bool.{and_from, and_parts, eqb-true, or_parts}
+use Rattle.std.proofs.lemmas.Bool.{and_from, and_parts, eqb-true}
 use Rattle.std.proofs.lemmas.Bool.Decides.{nat_tests}
-use Rattle.std.proofs.lemmas.List.{drop-append-le, take-append-drop, take-append-le, take_all, drop_all}
+use Rattle.std.proofs.lemmas.List.{take-append-drop, take_all, drop_all}
 use Rattle.std.proofs.lemmas.Slice.Eq.{bytes_eq-Decides}
-use Rattle.gx_model.specs.Faults.{Given, ◌>>=◌}
+use Rattle.gx_model.specs.Faults.{◌>>=◌}
 use Rattle.gx_model.specs.declared.faults.Fault.TheVariants as faults
 use Rattle.gx_model.specs.Export.{mark_text}
-use Rattle.gx_model.specs.Objects.{hex, is_name, line, unhex}
-use Rattle.gx_model.specs.Objects.Naming.{lower_name_in, name_in}
-use Rattle.gx_model.specs.Streams.LineShapes.{IsMarkText, is_mark, with_colon}
-use Rattle.gx_model.specs.Streams.Lines.{colon_number, mark_number, mark_of, of_mark}
-use Rattle.gx_model.specs.Texts.{Bytes, cut_at, is_line, lacks, same_bytes}
+use Rattle.gx_model.specs.Objects.{hex, is_name, unhex}
+use Rattle.gx_model.specs.Objects.Naming.{name_in}
+use Rattle.gx_model.specs.Streams.LineShapes.{IsMarkText, is_mark}
+use Rattle.gx_model.specs.Streams.Lines.{mark_number, mark_of, of_mark}
+use Rattle.gx_model.specs.Texts.{Bytes, cut_at, is_line, lacks}
 use Rattle.gx_model.specs.Texts.Digits.{is_any_digit, is_lower_digit, lower}
 use Rattle.gx_model.specs.Texts.Numbers.{decimal_of, is_number}
 use Rattle.gx_model.proofs.ObjectTexts.BodiesReadBack.{unhex_hex}
@@ -104,7 +103,7 @@ name_digits : (text name : Bytes) → name_in text ≡ Some name → IsDigits te
 unfolding name_in
 name_digits text name e = by (nat_eq (length text) 40 && list_all is_any_digit text) refl e
   where
-    by : (b : Bool) → (nat_eq (length text) 40 && list_all is_any_digit text) ≡ b → cond b (Some (unhex (Rattle.std.proofs.Common.map lower text))) None ≡ Some name → IsDigits text
+    by : (b : Bool) → (nat_eq (length text) 40 && list_all is_any_digit text) ≡ b → cond b (Some (unhex (map lower text))) None ≡ Some name → IsDigits text
     by false h f = absurd cc
     by true h f = record { long = eqb-true _ _ (and_one (nat_eq (length text) 40) _ h); digits = and_two (nat_eq (length text) 40) _ h }
 

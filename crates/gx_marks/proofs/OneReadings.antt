@@ -1,12 +1,11 @@
 -- A text tells one list of marks, or has one first line that tells none; and what is written of marks tells these.
-use Rattle.std.proofs.Common.{◌≡◌, ℕ, suc, ◌+◌, refl, sym, ap, subst, ◌∙◌, arith, List, [], ◌∷◌, ◌++◌, length, append_assoc, Some}
-use Rattle.std.specs.List.{AllByRecursion}
+use Rattle.std.proofs.Common.{◌≡◌, ℕ, suc, ◌+◌, refl, sym, ap, subst, ◌∙◌, List, [], ◌∷◌, ◌++◌, length, append_assoc, Some}
 use Rattle.gx_model.specs.Export.{mark_text}
 use Rattle.gx_model.specs.Objects.{hex}
 use Rattle.gx_model.specs.Texts.{Bytes}
 use Rattle.gx_model.proofs.Stores.StoreTexts.{line_text}
 use Rattle.gx_marks.specs.MarkLaws.{MarksAreRead, OneReading}
-use Rattle.gx_marks.specs.Marks.{IsFirstBad, IsNumberedName, LeadsWith, NumberedName, TellMarks, marks_text}
+use Rattle.gx_marks.specs.Marks.{IsFirstBad, LeadsWith, NumberedName, TellMarks, marks_text}
 use Rattle.gx_marks.proofs.MarkLines.{first_told, written_tells}
 
 -- ---- one reading

@@ -3,7 +3,7 @@ use Rattle.std.proofs.Common.{◌≡◌, ℕ, ◌+◌, true, false, refl, sym, a
 use Rattle.std.specs.Prelude.{◌==◌}
 use Rattle.std.proofs.lemmas.Bool.Decides.{nat_tests}
 use Rattle.gx_model.specs.Texts.{Bytes}
-use Rattle.gx_marks.specs.Marks.{IsFirstBad, LeadsWith, NumberedName, TellMarks, TellsMark}
+use Rattle.gx_marks.specs.Marks.{IsFirstBad, IsLed, LeadsWith, NumberedName, TellMarks, TellsMark}
 use Rattle.gx_marks.specs.Reading.{first_in}
 use Rattle.gx_marks.proofs.MarkLines.{first_tells, first_told}
 
@@ -32,6 +32,14 @@ one_more text rest marks mark behind h e =
       parts = h.parts ∙ ap (λ r. h.front ++ r) (led.1 ∙ sym (append_assoc led.0 (10 ∷ []) behind)) ∙ sym (append_assoc h.front (led.0 ++ 10 ∷ []) behind);
       told = told_more h.front led.0 mark marks h.told led.2;
     }
+
+-- where a line is led by a mark, so is the text
+pub led_first : (text rest : Bytes) (marks : List NumberedName) (mark : NumberedName) (behind : Bytes) → IsLeft text rest marks → Some (mark, behind) ≡ first_in rest → IsLed text
+led_first text rest marks mark behind h e = subst IsLed (sym h.parts) (by h.front marks h.told)
+  where
+    by : (front : Bytes) (before : List NumberedName) → TellMarks front before → IsLed (front ++ rest)
+    by front [] t = let led = first_tells rest mark behind (sym e) in (mark, behind, subst (λ f. LeadsWith (f ++ rest) mark behind) (sym t) led)
+    by front (a ∷ before) t = (a, t.0 ++ rest, (t.1.0, ap (λ f. f ++ rest) t.1.1 ∙ append_assoc t.1.0 (10 ∷ t.0) rest, t.1.2))
 
 -- what follows the first line is shorter
 pub shorter : (rest : Bytes) (mark : NumberedName) (behind : Bytes) → Some (mark, behind) ≡ first_in rest → length behind < length rest

@@ -53,6 +53,10 @@ abbrev pub TellMarks : Bytes → List NumberedName → Type 0
 TellMarks text [] = text ≡ []
 TellMarks text (mark ∷ marks) = (rest : Bytes) × LeadsWith text mark rest × TellMarks rest marks
 
+-- the first line of a text tells some mark
+abbrev pub IsLed : Bytes → Type 0
+IsLed text = (mark : NumberedName) × (rest : Bytes) × LeadsWith text mark rest
+
 -- The line of this number, from 1, is the first of a text that tells no mark: the lines before it tell marks, and behind them
 -- something is left that begins with no line of a mark.
 pub record IsFirstBad (text : Bytes) (number : ℕ) : Type 0 where

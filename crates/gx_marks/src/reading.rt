@@ -4,10 +4,10 @@ ghost use Rattle.std.specs.Prelude.{◌≡◌, ℕ, IfOk, Err};
 ghost use Rattle.std.specs.Option.{option_map};
 ghost use Rattle.std.specs.Result.{result_ok};
 ghost use Rattle.gx_model.specs.Streams.Lines.{mark_of};
-ghost use Rattle.gx_marks.specs.Marks.{IsFirstBad, TellMarks};
+ghost use Rattle.gx_marks.specs.Marks.{IsFirstBad, IsLed, TellMarks};
 ghost use Rattle.gx_marks.specs.Reading.{first_in, is_line_end, mark_in, named_in};
 ghost use Rattle.gx_marks.specs.Shown.{shown_first, shown_mark, shown_marks};
-ghost use Rattle.gx_marks.specs.declared.fault.MarksFault.TheVariants.{BadLine};
+ghost use Rattle.gx_marks.specs.declared.fault.MarksFault.TheVariants.{BadLine, OutOfMemory};
 
 use crate::{Mark, MarksFault};
 use gx_object::Name;
@@ -16,11 +16,12 @@ use std::alloc::Allocator;
 
 /// The marks that a text tells, in the order of its lines. One that is told twice stands twice: in git the last line counts.
 ///
-/// `BadLine`: the first line that tells no mark. `OutOfMemory`: a growth was refused.
-/// Cost: the text. Memory: 28 bytes a mark, and as many while they grow. Source: git-fast-import(1), "--import-marks".
+/// `BadLine`: the first line that tells no mark. `OutOfMemory`: a growth was refused, for a mark.
+/// Cost: the text. Memory: 32 bytes a mark, and up to twice as many more while they grow. Source: git-fast-import(1), "--import-marks".
 pub fn read_marks<A: Allocator + Copy>(alloc: A, text: &[u8]) -> Result<Vec<Mark, A>, MarksFault>
     ensures marks { IfOk result (λ marks. TellMarks text.now (shown_marks marks.items)) }
     ensures fault { (line : ℕ) → result ≡ Err (BadLine line) → IsFirstBad text.now line }
+    ensures memory { result ≡ Err OutOfMemory → IsLed text.now }
 {
     let mut marks = Vec::new(alloc);
     let mut rest = text;

@@ -14,7 +14,8 @@ use itoa::Buffer;
 /// Cost: the text, in five pushes a mark where the sink takes what it is given. Takes no memory.
 /// Source: git-fast-import(1), "--export-marks".
 pub fn write_marks<W: Sink>(marks: &[Mark], sink: &mut W) -> Result<(), Failed>
-    ensures { Sent (marks_text (shown_marks marks.now)) (W.taken sink.old) (W.taken sink.new) result }
+    ensures { Sent (marks_text (shown_marks marks.now)) (W.taken sink.old)
+        (W.taken sink.new) result }
 {
     for mark in marks {
         write_mark(*mark, sink)?;

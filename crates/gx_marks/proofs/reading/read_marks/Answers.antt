@@ -1,7 +1,7 @@
 use Rattle.std.proofs.Common.{ap, sym, subst, ◌∙◌, ◌+◌, ◌≡◌, [], ◌∷◌, length, arith}
 use Rattle.std.proofs.lemmas.List.{length-map, map-append}
 use Rattle.gx_marks.specs.Shown.{shown_mark, shown_marks}
-use Rattle.gx_marks.proofs.ReadTexts.{IsLeft, all_left, all_told, none_more, one_more, shorter}
+use Rattle.gx_marks.proofs.ReadTexts.{IsLeft, all_left, all_told, led_first, none_more, one_more, shorter}
 use Rattle.gx_marks.proofs.reading.read_marks.Goals as goal
 
 pub loop-rest-init : goal.loop-rest-init
@@ -28,3 +28,6 @@ returns-clause-marks g c = all_told c.args.text.now c.loop-rest.rest.now (shown_
 
 pub loop-rest-smaller : goal.loop-rest-smaller
 loop-rest-smaller g c = shorter c.loop-rest.rest.now (shown_mark c.in-Some.mark) c.in-Some.behind.now c.in-Some.ensures
+
+pub returns-in_err-push-clause-memory : goal.returns-in_err-push-clause-memory
+returns-in_err-push-clause-memory g c _ = led_first c.args.text.now c.loop-rest.rest.now (shown_marks c.loop-rest.marks.items) (shown_mark c.in-Some.mark) c.in-Some.behind.now c.loop-rest.invariant c.in-Some.ensures

@@ -17,11 +17,11 @@ line whose checksums aren't today's is stale.
                                      a crate whose code changed, or those of the crates or of the
                                      CRATE/NAMEs that are given, N crates at once; writes their
                                      lines, and how many stand
-    scripts/wrong_bodies.py --gate   tries again, over the libraries that `rt ci` left, those that
-                                     a request names where more than a proof changed, and five that
-                                     the commit's name picks; ends with 1 where one comes to
-                                     something else, or has no line over its crate's contracts of
-                                     today
+    scripts/wrong_bodies.py --gate   tries, over the libraries that `rt ci` left, those without a
+                                     line over their crate's contracts of today, those that a
+                                     request names where more than a proof changed, and five that
+                                     the commit's name picks; ends with 1 where one isn't refused,
+                                     or comes to something else than its line has
 """
 
 import argparse
@@ -233,19 +233,22 @@ def picks(tree, commit):
 
 def gate(tree):
     stale = tree.stale()
-    lacking = {key: changed for key, changed in stale.items() if changed != ["below"]}
-    for key, changed in sorted(lacking.items()):
-        why = ", ".join(changed)
-        say(f"{'/'.join(key)}: docs/tried.tsv has no line of today's text ({why}); see --try")
-    keys, differ = picks(tree, printed("git", "rev-parse", "HEAD")), 0
+    lacking = {key for key, changed in stale.items() if changed != ["below"]}
+    keys, differ = lacking | picks(tree, printed("git", "rev-parse", "HEAD")), 0
     for told in tried(tree, keys, most_at_once(), is_gate=True):
         for key, (kind, why) in sorted(told.items()):
-            verdict = tree.lines[key].verdict
-            differ += kind != verdict
-            more = "" if kind == verdict else f", where its line has {verdict}: {why[:300]}"
+            # what is stale may come to either
+            wanted = (REFUSED, LIMIT) if key in lacking else (tree.lines[key].verdict,)
+            differ += kind not in wanted
+            more = "" if kind in wanted else f", in place of {' or '.join(wanted)}: {why[:300]}"
             say(f"{'/'.join(key)}: {kind}{more}")
-    figures(tree, stale, f"; {len(keys)} tried again, {differ} otherwise; {minutes()}")
-    return 1 if lacking or differ else 0
+    figures(
+        tree,
+        stale,
+        f"; {len(keys)} tried, {len(lacking)} of them without a line of today's text,"
+        f" {differ} otherwise; {minutes()}",
+    )
+    return 1 if differ else 0
 
 
 def standing():

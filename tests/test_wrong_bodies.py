@@ -194,15 +194,25 @@ def planted(copy: Copy) -> Copy:
     return copy
 
 
-def test_the_gate_refuses_a_wrong_body_again_and_one_without_a_line(planted: Copy) -> None:
+def test_the_gate_tries_a_wrong_body_again_and_one_without_a_line(planted: Copy) -> None:
     planted.hold_all()
     folder = planted.top / "crates/gx_where/wrong"
     shutil.copy(folder / "lines_are_counted_from_nought.edit", folder / "new.edit")
     done = planted.run("--gate")
-    assert done.returncode == 1
-    assert "gx_where/new: docs/tried.tsv has no line of today's text (no line)" in done.stderr
+    assert done.returncode == 0
+    assert "gx_where/lines_are_counted_from_nought: refused\n" in done.stderr
+    assert "gx_where/new: refused\n" in done.stderr
     assert "wrong bodies: 1 held, 1 stale, 0 of them" in done.stderr
-    assert "; 1 tried again, 0 otherwise; " in done.stderr
+    assert "; 2 tried, 1 of them without a line of today's text, 0 otherwise; " in done.stderr
+
+
+def test_the_gate_fails_by_a_stale_body_that_is_proved(planted: Copy) -> None:
+    planted.hold_all()
+    planted.change(NOUGHT, "new: line: count", "new: line: 1 + 0 + count")
+    done = planted.run("--gate")
+    assert done.returncode == 1
+    name = "gx_where/lines_are_counted_from_nought"
+    assert f"{name}: proved, in place of refused or limit" in done.stderr
 
 
 def test_the_gate_tells_a_body_that_is_proved(planted: Copy) -> None:
@@ -211,7 +221,7 @@ def test_the_gate_tells_a_body_that_is_proved(planted: Copy) -> None:
     done = planted.run("--gate")
     assert done.returncode == 1
     name = "gx_where/lines_are_counted_from_nought"
-    assert f"{name}: proved, where its line has refused" in done.stderr
+    assert f"{name}: proved, in place of refused" in done.stderr
 
 
 def test_one_that_another_hides_is_tried_apart(planted: Copy) -> None:
@@ -221,4 +231,4 @@ def test_one_that_another_hides_is_tried_apart(planted: Copy) -> None:
     done = planted.run("--gate")
     assert done.returncode == 1
     assert "gx_where/lines_are_counted_from_nought: refused\n" in done.stderr
-    assert "gx_where/means_the_same: proved, where its line has refused" in done.stderr
+    assert "gx_where/means_the_same: proved, in place of refused" in done.stderr

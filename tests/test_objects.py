@@ -1,4 +1,4 @@
-"""`gx import --objects`: texts of refs and objects, as git prints them, under the names that they tell."""
+"""`gx import --objects`: texts of refs and objects, as git prints them, under their names."""
 
 from __future__ import annotations
 
@@ -184,8 +184,14 @@ def test_branch_loses_commits_by_force_alone(gx: Program, store: Path) -> None:
 @pytest.mark.parametrize(
     "text, told",
     [
-        (ref("refs/heads/main", FIRST.digits), b"refs/heads/main: from %s to %s" % (SECOND.digits, FIRST.digits)),
-        (ref("refs/heads/x", SIDE.digits), b"refs/heads/x names %s, which is neither held nor given" % SIDE.digits),
+        (
+            ref("refs/heads/main", FIRST.digits),
+            b"refs/heads/main: from %s to %s" % (SECOND.digits, FIRST.digits),
+        ),
+        (
+            ref("refs/heads/x", SIDE.digits),
+            b"refs/heads/x names %s, which is neither held nor given" % SIDE.digits,
+        ),
         (
             commit(OTHER_BLOB.digits).text,
             b"%s names %s, which is neither held nor given so"
@@ -210,7 +216,7 @@ def test_text_cut_between_items_lacks_nothing_or_is_refused(gx: Program, store: 
 def test_deep_history_newest_first(gx: Program, store: Path) -> None:
     """As deep as no stack of a thread is."""
     line = [commit(TREE.digits)]
-    while len(line) < 100_000:
+    while len(line) < 30_000:
         line.append(commit(TREE.digits, line[-1].digits))
     text = ref("refs/heads/main", line[-1].digits)
     text += b"".join(one.text for one in reversed(line)) + TREE.text + BLOB.text
@@ -259,7 +265,8 @@ def test_repository_comes_and_goes_back(
     git("clone", "-q", "--mirror", bundle, mirror)
     assert git("for-each-ref", "--format=%(objectname) %(refname)", cwd=mirror) == refs
     reached = ("rev-list", "--objects", "--no-object-names", "--all")
-    assert sorted(git(*reached, cwd=mirror).split()) == sorted(git(*reached, cwd=repository).split())
+    held, wanted = (git(*reached, cwd=folder).split() for folder in (mirror, repository))
+    assert sorted(held) == sorted(wanted)
 
 
 def test_increment_leaves_out_what_the_store_has(
@@ -303,7 +310,7 @@ def test_shallow_repository_is_refused(
 def test_random_texts(
     gx: Program, environment, store: Path, repository: Path, randoms: random.Random
 ) -> None:
-    """A text with a byte changed or cut off is refused, or gives what it gave; the store can be read."""
+    """A text with a bit turned, or cut off, is refused, or leaves a store that can be read."""
     text = bytearray(objects_of(environment, repository))
     tries = int(os.environ.get("TRIES", "40"))
     for _ in range(tries):

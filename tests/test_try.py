@@ -80,7 +80,7 @@ def test_make_tells_what_there_is(environment) -> None:
     done = made(environment)
     targets = re.findall(r"^  make (\S+) +\S", done.out.decode(), re.M)
     assert done.status == 0
-    assert targets == "help try test prove gate bench docs dist install library library-try".split()
+    assert targets == "help try test prove gate bench docs install library dist library-try".split()
 
 
 @needs_make

@@ -25,6 +25,8 @@ def made(gx_path: Path, tmp_path_factory: pytest.TempPathFactory) -> list[Path]:
     """Two folders, each with a release."""
     if not PROVED.exists():
         pytest.skip("no library: `make library` makes it")
+    if subprocess.run(["/usr/bin/python3", "-c", "import setuptools, wheel"]).returncode:
+        pytest.skip("python3-setuptools or python3-wheel is missing")
     folders = [tmp_path_factory.mktemp("dist") for _ in range(2)]
     for folder in folders:
         environment = {**os.environ, "GX": str(gx_path), "COMMIT": head()}

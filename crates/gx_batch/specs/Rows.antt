@@ -101,7 +101,7 @@ abbrev files : FileMap Bytes
 files = (codes "a" ∷ [], (File, codes "hi")) ∷ (codes "sub" ∷ [], (Gitlink, replicate 40 49)) ∷ []
 
 abbrev first : Commit
-first = commit files none (record { author = codes "A <a@x> 1 +0000"; committer = codes "A <a@x> 1 +0000"; encoding = None; message = codes "m" })
+first = commit files none (record { author = codes "A <a@x> 1 +0000"; committer = codes "A <a@x> 1 +0000"; headers = []; message = codes "m" })
 
 abbrev held : History
 held = record { values = blob_value (codes "hi") ∷ tree_value files ∷ commit_value first ∷ []; refs = (codes "refs/heads/main", at_commit first) ∷ [] }
@@ -134,7 +134,7 @@ abbrev deep : FileMap Bytes
 deep = (codes "d" ∷ codes "x" ∷ [], (File, codes "hi")) ∷ []
 
 abbrev nested : Commit
-nested = commit deep none (record { author = codes "A <a@x> 1 +0000"; committer = codes "A <a@x> 1 +0000"; encoding = None; message = codes "m" })
+nested = commit deep none (record { author = codes "A <a@x> 1 +0000"; committer = codes "A <a@x> 1 +0000"; headers = []; message = codes "m" })
 
 abbrev held_nested : History
 held_nested = record {

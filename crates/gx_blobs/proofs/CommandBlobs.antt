@@ -11,7 +11,7 @@ use Rattle.gx_model.specs.Streams.Commands.{BlobParts, Command, Commands, Blob}
 use Rattle.gx_model.specs.Streams.Grammar.{asks_done, blob_at, command_at, commands_of, commands_within, commit_at, if_early, is_done, is_option, item_after, links_at, reset_at, stops, tag_at, unsigned, with_command}
 use Rattle.gx_model.specs.Streams.Lines.{Read, Words, any_text, bare, block, commit_ish_of, encoding_of, feature_of, ident_of, is_word, mark_of, needed, optional, ref_of, rest_of, tag_of, words_by, words_of}
 use Rattle.gx_model.proofs.Streams.AskedFeatures.{any_more}
-use Rattle.gx_model.proofs.Streams.ReadGitlinks.{if_either, then_any}
+use Rattle.gx_model.proofs.Streams.ReadLines.{if_either, then_any}
 use Rattle.gx_blobs.specs.Blobs.{BlobRun, Stop, refused, not_a_blob, blobs_of, blobs_within, first_body, stops as run_stops}
 use Rattle.gx_blobs.specs.Laws.{BeginWith, StopsAt, is_blob}
 

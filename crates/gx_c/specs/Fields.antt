@@ -10,6 +10,7 @@ use Rattle.gx_model.specs.Records.{parts_of_commit}
 use Rattle.gx_model.specs.Revisions.{revision_of}
 use Rattle.gx_model.specs.Revisions.Denotation.{commit_denoted}
 use Rattle.gx_model.specs.Texts.{Bytes}
+use Rattle.gx_model.specs.Texts.Headers.{encoding_in}
 use Rattle.gx_c.specs.Answers.{AnswersText, digits_line}
 use Rattle.gx_c.specs.declared.answer.Answer.{Answer}
 use Rattle.gx_c.specs.declared.answer.Why.TheVariants as why
@@ -31,7 +32,7 @@ field_text Tree parts = hex parts.tree
 field_text Parents parts = flat_map digits_line parts.parents
 field_text Author parts = parts.text.author
 field_text Committer parts = parts.text.committer
-field_text Encoding parts = or_empty parts.text.encoding
+field_text Encoding parts = or_empty (encoding_in parts.text.headers)
 field_text Message parts = parts.text.message
 
 -- What a call answers of a field. Where no field has the number, that is told, whatever the others give.

@@ -4,6 +4,7 @@ ghost use Rattle.std.specs.Prelude.{◌≡◌, ◌++◌, IfOk};
 ghost use Rattle.std.specs.List.{flat_map, slice_get};
 ghost use Rattle.gx_model.specs.Faults.{Gives};
 ghost use Rattle.gx_model.specs.Records.HistoryOf.{history_of};
+ghost use Rattle.gx_model.specs.Texts.Headers.{encoding_in};
 ghost use Rattle.gx_rev.specs.RevFaults.{fault_of};
 ghost use Rattle.gx_c.specs.Answers.{AnswersText, digits_line};
 ghost use Rattle.gx_c.specs.Fields.{AnswersField, field_given, field_text, fields, or_empty};
@@ -127,7 +128,7 @@ fn put_parents<A: Allocator + Copy>(
 
 /// The encoding that a commit tells, or nothing.
 fn encoding_of<'a>(commit: &CommitView<'a>) -> &'a [u8]
-    ensures { result.now ≡ or_empty commit.now.text.encoding }
+    ensures { result.now ≡ or_empty (encoding_in commit.now.text.headers) }
 {
     match commit.encoding() {
         Some(encoding) => encoding,

@@ -112,7 +112,8 @@ fn encode_again<N: Namer>(room: &mut Room<'_>, namer: &N, body: &[u8]) {
         parents: &parents,
         author,
         committer,
-        encoding: commit.encoding(),
+        encoding: None,
+        further: commit.headers(),
         message: commit.message(),
     };
     room.arm();

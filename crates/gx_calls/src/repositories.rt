@@ -263,6 +263,7 @@ fn add_parts<'x, 'a, N: Namer>(
         author,
         committer: author,
         encoding,
+        further: b"",
         message,
     };
     room.arm();

@@ -13,7 +13,7 @@ use Rattle.gx_model.specs.Texts.{Bytes}
 use Rattle.gx_model.specs.Histories.{History, IsIn, Records, StandsFor, Target, empty_repository, record_of, value_at}
 use Rattle.gx_model.specs.Histories.Values.{Commit, Value, commit_of}
 use Rattle.gx_model.specs.Laws.ChangesLaws.{ChangesAreImported, ChangesAreSpelled, ClosedCommandsAreItems, ClosedCommandsAreRead, ShortChangesAreReadable, changes_report}
-use Rattle.gx_model.specs.Laws.ExportLaws.{HasNoNullGitlink, IsAgain, IsSpelled, ItemsAreRead, between}
+use Rattle.gx_model.specs.Laws.ExportLaws.{HasSayable, IsAgain, IsSpelled, ItemsAreRead, between}
 use Rattle.gx_model.specs.Laws.FeatureLaws.{ChangesAskOnce}
 use Rattle.gx_model.specs.Laws.RangeLaws.{AreToldByName}
 use Rattle.gx_model.specs.Laws.RepositoryLaws.{HistoriesOf, NamesTell}
@@ -153,7 +153,7 @@ module _ (name : Kind → Bytes → Bytes) where
 
   module _ (histories : HistoriesOf name) (tells : NamesTell name) (readable : ShortChangesAreReadable) (imports : ChangesAreImported) (once : ChangesAskOnce) where
     -- what the replay of the text of changes gives
-    replayed_changes : (asks : Features) (closed : Bool) → LeaveForm (Changes closed) asks → (exported : Records) → IsSound name exported → HasNoNullGitlink (history_of exported)
+    replayed_changes : (asks : Features) (closed : Bool) → LeaveForm (Changes closed) asks → (exported : Records) → IsSound name exported → HasSayable (history_of exported)
         → (coming : Coming) → GivesForm name (Changes closed) exported coming
         → (k : History) × IsAgain (history_of exported) k
         × (imported_asked asks name (history_of empty_repository) (heard coming).bytes (heard coming).fails ≡ finished k [] (changes_report name closed (history_of exported) k))
@@ -176,7 +176,7 @@ module _ (name : Kind → Bytes → Bytes) where
 
     module _ (items : ItemsAreRead) (closed_items : ClosedCommandsAreItems) (closed_read : ClosedCommandsAreRead) (spelled : ChangesAreSpelled) where
       -- its commands ask for no checkpoint
-      none_asked : (asks : Features) (closed : Bool) → LeaveForm (Changes closed) asks → (exported : Records) → IsSound name exported → HasNoNullGitlink (history_of exported)
+      none_asked : (asks : Features) (closed : Bool) → LeaveForm (Changes closed) asks → (exported : Records) → IsSound name exported → HasSayable (history_of exported)
           → (coming : Coming) → GivesForm name (Changes closed) exported coming → AreNone (commands_asked_from asks coming).list
       none_asked asks closed leaves exported sound links coming gives =
           let h = history_of exported in
@@ -189,7 +189,7 @@ module _ (name : Kind → Bytes → Bytes) where
           subst (λ cs. AreNone cs.list) (sym commands) (closed_none closed inner (all_spelled inner s))
 
       -- a fault comes for want of memory or from the sink, and behind no checkpoint
-      cut_changes : (asks : Features) (closed : Bool) → LeaveForm (Changes closed) asks → (exported : Records) → IsSound name exported → HasNoNullGitlink (history_of exported)
+      cut_changes : (asks : Features) (closed : Bool) → LeaveForm (Changes closed) asks → (exported : Records) → IsSound name exported → HasSayable (history_of exported)
           → (coming : Coming) → GivesForm name (Changes closed) exported coming → (old : Records) (fault : ImportFault) → old ≡ empty_repository → StopsReplay asks name old (Some coming) fault
           → ((fault.kind ≡ kind.OutOfMemory) ⊎ (fault.kind ≡ kind.WriteFailed)) × (fault.checkpoints ≡ 0)
       cut_changes asks closed leaves exported sound links coming gives old fault empty h =
@@ -199,7 +199,7 @@ module _ (name : Kind → Bytes → Bytes) where
           (e.0, e.1 ∙ none_counted (fault.command - 1) (commands_asked_from asks coming).list (none_asked asks closed leaves exported sound links coming gives))
 
       -- an import that is accepted
-      changes_imported : (asks : Features) (closed : Bool) → LeaveForm (Changes closed) asks → (exported : Records) → IsSound name exported → HasNoNullGitlink (history_of exported)
+      changes_imported : (asks : Features) (closed : Bool) → LeaveForm (Changes closed) asks → (exported : Records) → IsSound name exported → HasSayable (history_of exported)
           → (coming : Coming) → GivesForm name (Changes closed) exported coming → (old new : Records) → old ≡ empty_repository → IsSound name new
           → (was now : Option Taken) (report : Report) → Imports asks name old new (Some coming) was now (Ok report) → IsExported exported new
       changes_imported asks closed leaves exported sound links coming gives old new empty stands was now report h =
@@ -211,8 +211,8 @@ module _ (name : Kind → Bytes → Bytes) where
 
       -- the export in a form is that with all files, or that of changes
       of_form : (asks : Features) (old new : Records) (coming : Coming) (result : Result Report ImportFault) → (LeaveExports asks → ImportsExport name old new (Some coming) result)
-          → ((closed : Bool) → LeaveForm (Changes closed) asks → (exported : Records) → IsSound name exported → HasNoNullGitlink (history_of exported) → GivesForm name (Changes closed) exported coming → old ≡ empty_repository → ExportedOr exported new result)
-          → (form : ExportForm) (exported : Records) → LeaveForm form asks → IsSound name exported → HasNoNullGitlink (history_of exported) → GivesForm name form exported coming → old ≡ empty_repository → ExportedOr exported new result
+          → ((closed : Bool) → LeaveForm (Changes closed) asks → (exported : Records) → IsSound name exported → HasSayable (history_of exported) → GivesForm name (Changes closed) exported coming → old ≡ empty_repository → ExportedOr exported new result)
+          → (form : ExportForm) (exported : Records) → LeaveForm form asks → IsSound name exported → HasSayable (history_of exported) → GivesForm name form exported coming → old ≡ empty_repository → ExportedOr exported new result
       of_form asks old new coming result whole changed FullTree exported leaves sound links gives empty = whole leaves exported sound links gives empty
       of_form asks old new coming result whole changed (Changes closed) exported leaves sound links gives empty = changed closed leaves exported sound links gives empty
 

@@ -12,7 +12,7 @@ use Rattle.gx_model.specs.Streams.Commands.{no_features}
 use Rattle.gx_model.specs.Records.HistoryOf.{history_of}
 use Rattle.gx_model.specs.Records.Sound.{IsSound}
 use Rattle.gx_model.specs.Export.{export_text}
-use Rattle.gx_model.specs.Streams.Gitlinks.{HoldsNoNullGitlink, HoldsTellsHas}
+use Rattle.gx_model.specs.Streams.Gitlinks.{HoldsSayable, HoldsTellsHas}
 use Rattle.gx_model.specs.Texts.Sinks.{Taken, Took}
 use Rattle.gx_text.specs.Devices.{Coming}
 use Rattle.gx_stream.specs.Heard.{heard_upto}
@@ -93,7 +93,7 @@ module _ {N : Type 0} (name_of : N → Kind → Bytes → Bytes) (namer : N) whe
 
   -- the import of an export's text into a repository with nothing
   pub imported_again : (form : ExportForm) (exported old : N × Records) (new : Records) (text : Bytes) (coming : Coming) (was now : Option Taken) (answer : Result Report ImportFault)
-      → FormsAreImported (name_of namer) → HoldsTellsHas → old ≡ (namer, empty_repository) → exported.0 ≡ namer → IsSound (name_of exported.0) exported.1 → HoldsNoNullGitlink (history_of exported.1)
+      → FormsAreImported (name_of namer) → HoldsTellsHas → old ≡ (namer, empty_repository) → exported.0 ≡ namer → IsSound (name_of exported.0) exported.1 → HoldsSayable (history_of exported.1)
       → coming ≡ record { bytes = text; fails = false } → text ≡ text_as (name_of namer) form (history_of exported.1) → length text ≤ most
       → IsSound (name_of old.0) new → Imports no_features (name_of old.0) old.1 new (Some coming) was now answer → IfErr answer (StopsReplay no_features (name_of old.0) old.1 (Some coming))
       → ImportsExport (name_of old.0) old.1 new (Some coming) answer → ExportedOr exported.1 new answer

@@ -6,7 +6,7 @@ use Rattle.gx_model.specs.declared.features.Features.{Features}
 use Rattle.gx_model.specs.Texts.{Bytes}
 use Rattle.gx_model.specs.Texts.Sinks.{Taken}
 use Rattle.gx_model.specs.Histories.{Records, empty_repository}
-use Rattle.gx_model.specs.Laws.ExportLaws.{HasNoNullGitlink}
+use Rattle.gx_model.specs.Laws.ExportLaws.{HasSayable}
 use Rattle.gx_model.specs.Records.HistoryOf.{history_of}
 use Rattle.gx_model.specs.Records.Sound.{IsSound}
 use Rattle.gx_text.specs.Devices.{Coming}
@@ -32,11 +32,11 @@ GivesForm name form exported coming = heard coming ≡ record { bytes = text_as 
 
 module _ (name : Kind → Bytes → Bytes) where
   -- The export of a sound repository under this namer, in any form, is imported into an empty one, unless memory runs out or the
-  -- sink fails. A gitlink of forty zeros is left out, which no import takes and none brings.
+  -- sink fails. A gitlink of forty zeros is left out, and a header that isn't that of an encoding: no import takes or brings them.
   abbrev pub ImportsForms : Features → Records → Records → Option Coming → Result Report ImportFault → Type 0
   ImportsForms asks old new None result = ⊤
   ImportsForms asks old new (Some coming) result =
-      (form : ExportForm) (exported : Records) → LeaveForm form asks → IsSound name exported → HasNoNullGitlink (history_of exported)
+      (form : ExportForm) (exported : Records) → LeaveForm form asks → IsSound name exported → HasSayable (history_of exported)
       → GivesForm name form exported coming → old ≡ empty_repository → ExportedOr exported new result
 
   -- an import that is what the replay gives, and takes the export with all files, takes it in any form

@@ -30,7 +30,7 @@ shown_fields fields = record {
   text = record {
     author = fields.author.items;
     committer = fields.committer.items;
-    encoding = option_map (λ text. text.items) fields.encoding;
+    headers = fields.headers.items;
     message = fields.message.items;
   };
 }
@@ -58,7 +58,7 @@ module _ (name : Kind → Bytes → Bytes) (h : History) {A : Type 0} where
   pub record IsReply (question : Question A) (reply : Reply A) : Type 0 where
     -- the file at the path in the revision's tree: the mode and the bytes that the map of whole paths has there
     pub file : LooksAs (looked_up name h question.revision question.path) reply.file
-    -- the commit's tree, parents, identities, encoding and message
+    -- the commit's tree, parents, identities, headers and message
     pub commit : ReadsAs (commit_read name h question.revision) reply.commit
     -- the commits that some word includes and none excludes, the newest made first
     pub listed : ListsAs (listed name h (map shown_range question.ranges.items)) reply.listed

@@ -7,12 +7,12 @@ use Rattle.gx_model.specs.declared.features.Features.{Features}
 use Rattle.gx_model.specs.Texts.{Bytes}
 use Rattle.gx_model.specs.Histories.{Records, empty_repository}
 use Rattle.gx_model.specs.Records.HistoryOf.{history_of}
-use Rattle.gx_model.specs.Laws.ExportLaws.{HasNoNullGitlink}
+use Rattle.gx_model.specs.Laws.ExportLaws.{HasSayable}
 use Rattle.gx_model.specs.Records.Sound.{IsSound}
 use Rattle.gx_model.specs.Stores.StoreReading.{Stored}
 use Rattle.gx_model.specs.Texts.Sinks.{Taken}
 use Rattle.gx_text.specs.Devices.{Coming}
-use Rattle.gx_import.specs.Exported.{IsExported, KeepsNoNullGitlink}
+use Rattle.gx_import.specs.Exported.{IsExported, KeepsSayable}
 use Rattle.gx_import.specs.Imports.{Imports}
 use Rattle.gx_import.specs.declared.report.Report.{Report}
 use Rattle.gx_import.specs.declared.fault.ImportFault.{ImportFault}
@@ -53,10 +53,11 @@ module _ (name : Kind → Bytes → Bytes) where
   IsAnswer new (Ok report) answer = IsSound name new × (answer ≡ (Some new, Ok report))
   IsAnswer new (Err fault) answer = IsSound name new × (answer ≡ (next_after fault.checkpoints new, Err (Import fault)))
 
-  -- The import of a stream into a repository, where these features are asked for. It brings no gitlink of forty zeros.
+  -- The import of a stream into a repository, where these features are asked for. It brings no gitlink of forty zeros, and no
+  -- header but that of an encoding.
   abbrev pub ImportsOpened : Features → Records → Option Coming → Option Taken → Option Taken → Answer → Type 0
   ImportsOpened asks old coming was now answer =
-      (new : Records) × (given : Result Report ImportFault) × Imports asks name old new coming was now given × KeepsNoNullGitlink old new × IsAnswer new given answer
+      (new : Records) × (given : Result Report ImportFault) × Imports asks name old new coming was now given × KeepsSayable old new × IsAnswer new given answer
 
   -- the same into the store that a text was read as
   abbrev pub ImportsStored : Features → Stored Records → Option Coming → Option Taken → Option Taken → Answer → Type 0
@@ -65,10 +66,10 @@ module _ (name : Kind → Bytes → Bytes) where
       (why : FileFault) × ((why ≡ file.OutOfMemory) ⊎ (f ≡ why)) × (answer ≡ (None, Err (Store why))) × (now ≡ was)
 
   -- The import of a sound repository's export, in any form, into an empty store makes that repository again, as far as its refs
-  -- reach. A gitlink of forty zeros is left out, which no import takes and none brings.
+  -- reach. A gitlink of forty zeros is left out, and a header that isn't that of an encoding: no import takes or brings them.
   abbrev pub ImportsAgain : Features → Stored Records → Option Coming → Answer → Type 0
   ImportsAgain asks stored None answer = ⊤
   ImportsAgain asks stored (Some coming) answer =
-      (form : ExportForm) (exported : Records) → LeaveForm form asks → IsSound name exported → HasNoNullGitlink (history_of exported)
+      (form : ExportForm) (exported : Records) → LeaveForm form asks → IsSound name exported → HasSayable (history_of exported)
       → GivesForm name form exported coming → stored ≡ Ok empty_repository
       → IsInterrupted answer ⊎ ((new : Records) × (report : Report) × IsExported exported new × IsSound name new × (answer ≡ (Some new, Ok report)))

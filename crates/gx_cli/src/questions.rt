@@ -41,7 +41,8 @@ pub struct CommitFields<A: Allocator> {
     pub parents: Vec<Name, A>,
     pub author: Vec<u8, A>,
     pub committer: Vec<u8, A>,
-    pub encoding: Option<Vec<u8, A>>,
+    /// The header lines between its committer and its message.
+    pub headers: Vec<u8, A>,
     pub message: Vec<u8, A>,
 }
 
@@ -100,16 +101,12 @@ fn fields_of<A: Allocator + Copy>(
 ) -> Result<CommitFields<A>, AllocError>
     ensures { IfOk result (λ fields. shown_fields fields ≡ view.now) }
 {
-    let encoding = match view.encoding() {
-        Some(encoding) => Some(Vec::from_slice(alloc, encoding)?),
-        None => None,
-    };
     Ok(CommitFields {
         tree: view.tree(),
         parents: parents_of(alloc, view)?,
         author: Vec::from_slice(alloc, view.author())?,
         committer: Vec::from_slice(alloc, view.committer())?,
-        encoding,
+        headers: Vec::from_slice(alloc, view.headers())?,
         message: Vec::from_slice(alloc, view.message())?,
     })
 }

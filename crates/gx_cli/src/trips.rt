@@ -1,7 +1,7 @@
 //! A stream that is imported, exported, and imported again.
 
 ghost use Rattle.std.specs.Prelude.{◌≡◌, ◌≤◌, length, IfOk, None};
-ghost use Rattle.gx_model.specs.Streams.Gitlinks.{HoldsNoNullGitlink};
+ghost use Rattle.gx_model.specs.Streams.Gitlinks.{HoldsSayable};
 ghost use Rattle.gx_model.specs.Records.HistoryOf.{history_of};
 ghost use Rattle.gx_model.specs.Records.Sound.{IsSound};
 ghost use Rattle.gx_export.specs.Outputs.{most};
@@ -67,7 +67,7 @@ pub fn round_trip<N: Namer + Copy + Drop, A: Allocator + Copy, R: Source + Drop,
     told: &mut Explanation<A>,
 ) -> Result<RoundTrip<N, A>, CliFault>
     requires namer { repo.old.0 ≡ namer }
-    requires gitlinks { HoldsNoNullGitlink (history_of repo.old.1) }
+    requires gitlinks { HoldsSayable (history_of repo.old.1) }
     ensures namer { repo.new.0 ≡ namer }
     ensures sound { IsSound (N.name_of namer) repo.new.1 }
     ensures extends { Extends repo.old.1.records repo.new.1.records }
@@ -96,7 +96,7 @@ fn come_back<N: Namer + Copy + Drop, A: Allocator + Copy>(
     state: RandomState,
 ) -> Result<RoundTrip<N, A>, CliFault>
     requires namer { repo.now.0 ≡ namer }
-    requires gitlinks { HoldsNoNullGitlink (history_of repo.now.1) }
+    requires gitlinks { HoldsSayable (history_of repo.now.1) }
     ensures again { IfOk result (λ trip. trip.again.0 ≡ namer) }
     ensures back { ComesBackOr (N.name_of namer) options.now.form options.now.question
         report repo.now.1 result }
@@ -124,7 +124,7 @@ fn export_again<N: Namer + Drop, A: Allocator + Copy>(
     state: RandomState,
 ) -> Result<(Repo<N, A>, Vec<u8, A>), CliFault>
     requires namer { first.now.0 ≡ namer }
-    requires gitlinks { HoldsNoNullGitlink (history_of first.now.1) }
+    requires gitlinks { HoldsSayable (history_of first.now.1) }
     ensures namer { IfOk result (λ made. made.0.0 ≡ namer) }
     ensures sound { IfOk result (λ made. IsSound (N.name_of namer) made.0.1) }
     ensures made { ExportsAgain (N.name_of namer) form first.now.1 result }
@@ -172,7 +172,7 @@ fn import_again<N: Namer + Drop, A: Allocator + Copy>(
     requires namer { exported.now.0 ≡ namer }
     requires text { text.now ≡ text_as (N.name_of namer) form (history_of exported.now.1) }
     requires short { length text.now ≤ most }
-    requires gitlinks { HoldsNoNullGitlink (history_of exported.now.1) }
+    requires gitlinks { HoldsSayable (history_of exported.now.1) }
     ensures namer { IfOk result (λ again. again.0 ≡ namer) }
     ensures sound { IfOk result (λ again. IsSound (N.name_of namer) again.1) }
     ensures again { ImportsAgainOr exported.now.1 result }

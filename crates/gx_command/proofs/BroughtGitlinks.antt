@@ -7,7 +7,7 @@ use Rattle.gx_model.specs.declared.objects.Mode.{Mode}
 use Rattle.gx_model.specs.declared.objects.Mode.TheVariants.{File, Exec, Link, Gitlink, Dir}
 use Rattle.gx_model.specs.Texts.Paths.{Path}
 use Rattle.gx_model.specs.Streams.Commands as model
-use Rattle.gx_model.specs.Streams.Gitlinks.{BringsNoNullGitlink, GivesNoNullGitlink}
+use Rattle.gx_model.specs.Streams.Gitlinks.{BringsSayable, GivesNoNullGitlink}
 use Rattle.gx_command.specs.Views.{shown_change, shown_command, shown_data, shown_modify}
 use Rattle.gx_command.specs.DataRefs.{is_suited}
 use Rattle.gx_command.specs.declared.commands.Change.{Change}
@@ -39,7 +39,7 @@ module _ {A : Type 0} where
   changes_given (change.Rename source destination ∷ cs) = (tt, changes_given cs)
   changes_given (change.Clear ∷ cs) = (tt, changes_given cs)
 
-  pub none_brought : (c : Command A) → BringsNoNullGitlink (shown_command c)
+  pub none_brought : (c : Command A) → BringsSayable (shown_command c)
   none_brought (command.Blob b) = tt
   none_brought (command.Commit c) = changes_given c.changes.items
   none_brought (command.Tag t) = tt

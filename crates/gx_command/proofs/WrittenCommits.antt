@@ -1,6 +1,7 @@
 -- Who wrote a commit, and what, read as one part of the commit.
 use Rattle.std.proofs.Common.{◌≡◌, ℕ, Option, Some, None, Result, Ok, Err, refl, sym, ◌∙◌, inl, inr, codes}
 use Rattle.gx_model.specs.Texts.{Bytes}
+use Rattle.gx_model.specs.Texts.Headers.{encoding_header}
 use Rattle.gx_model.specs.Faults.{◌>>=◌}
 use Rattle.gx_model.specs.Streams.Items.{Stream}
 use Rattle.gx_model.specs.Streams.Commands.{Command, Commit}
@@ -26,7 +27,7 @@ written_first last s =
 
 -- a commit behind what was written of it
 abbrev pub commit_behind : Bytes → Option ℕ → (Option Bytes × (Bytes × (Option Bytes × Bytes))) × Stream → Read Command
-commit_behind ref mark w = links_at w.1 >>= λ links. Ok (Commit (record { ref = ref; mark = mark; author = w.0.0; committer = w.0.1.0; encoding = w.0.1.1.0; message = w.0.1.1.1; parent = links.0.0; merges = links.0.1.0; changes = links.0.1.1 }), links.1)
+commit_behind ref mark w = links_at w.1 >>= λ links. Ok (Commit (record { ref = ref; mark = mark; author = w.0.0; committer = w.0.1.0; headers = encoding_header w.0.1.1.0; message = w.0.1.1.1; parent = links.0.0; merges = links.0.1.0; changes = links.0.1.1 }), links.1)
 
 -- the same reading in other words
 pub reads_alike : {Y U : Type 0} (shown : U → Y) (one other : Stream → Read Y) (old new : Option Stream) (r : Result U CommandFault) → ((s : Stream) → one s ≡ other s) → Reads shown one old new r → Reads shown other old new r

@@ -5,7 +5,7 @@ use Rattle.gx_model.specs.declared.features.Feature.TheVariants as features
 use Rattle.gx_model.specs.declared.features.Features.{Features}
 use Rattle.gx_model.specs.declared.faults.Fault.TheVariants as faults
 use Rattle.gx_model.specs.Faults.{◌>>=◌}
-use Rattle.gx_model.specs.Streams.Gitlinks.{BringsNoNullGitlink}
+use Rattle.gx_model.specs.Streams.Gitlinks.{BringsSayable}
 use Rattle.gx_model.specs.Streams.Items.{Item, Stream, items_of}
 use Rattle.gx_model.specs.Streams.Commands as model
 use Rattle.gx_model.specs.Streams.Commands.{Commands, no_features}
@@ -76,8 +76,8 @@ Finishes new (Ok None) = Unit {0}
 Finishes new (Err f) = Unit {0}
 
 -- the command that is answered, where one is, brings no null gitlink
-abbrev pub ReadsNoNullGitlink : {A E : Type 0} → Result (Option (Command A)) E → Type 0
-ReadsNoNullGitlink answer = IfOk answer (λ next. IfSome next (λ command. BringsNoNullGitlink (shown_command command)))
+abbrev pub ReadsSayable : {A E : Type 0} → Result (Option (Command A)) E → Type 0
+ReadsSayable answer = IfOk answer (λ next. IfSome next (λ command. BringsSayable (shown_command command)))
 
 -- each command lowers the bound
 abbrev pub Falls : {A : Type 0} → ℕ → ℕ → Result (Option (Command A)) CommandFault → Type 0

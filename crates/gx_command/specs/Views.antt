@@ -3,6 +3,7 @@ use Rattle.std.specs.Prelude.{map}
 use Rattle.std.specs.Option.{option_map}
 use Rattle.gx_model.specs.Streams.Commands as model
 use Rattle.gx_model.specs.Texts.{Bytes}
+use Rattle.gx_model.specs.Texts.Headers.{encoding_header}
 use Rattle.gx_command.specs.declared.commands.Blob.{Blob}
 use Rattle.gx_command.specs.declared.commands.Commit.{Commit}
 use Rattle.gx_command.specs.declared.commands.Tag.{Tag}
@@ -55,7 +56,7 @@ commit_parts c = record {
   mark = c.mark;
   author = option_map shown_ident c.author;
   committer = c.committer.bytes.items;
-  encoding = option_map shown_encoding c.encoding;
+  headers = encoding_header (option_map shown_encoding c.encoding);
   message = c.message.items;
   parent = option_map shown_commit_ish c.from;
   merges = map shown_commit_ish c.merges.items;

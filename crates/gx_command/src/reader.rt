@@ -6,7 +6,7 @@ ghost use Rattle.gx_model.specs.Streams.Commands.{Commands, no_features};
 ghost use Rattle.gx_command.specs.Ahead.{most, ReadsOn, Falls as FallsAhead};
 ghost use Rattle.gx_command.specs.Behind.{at_start};
 ghost use Rattle.gx_command.specs.Explaining.{ExplainsOn};
-ghost use Rattle.gx_command.specs.Reading.{AreOfItems, ExplainsNext, MayCome, Reads, ReadsNoNullGitlink, Finishes, Falls, Repeats, commands_asked_from, commands_from, next_after, over_after, state_after};
+ghost use Rattle.gx_command.specs.Reading.{AreOfItems, ExplainsNext, MayCome, Reads, ReadsSayable, Finishes, Falls, Repeats, commands_asked_from, commands_from, next_after, over_after, state_after};
 ghost use Rattle.gx_command.specs.Views.{shown_command};
 
 use crate::ahead::Ahead;
@@ -100,7 +100,7 @@ impl<R: Source, A: Allocator + Copy> CommandReader<R, A> {
         ensures falls { Falls self.old.most self.new.most result }
         ensures over { self.new.over ≡ over_after result }
         ensures repeats { Repeats self.old.over self.old self.new result }
-        ensures gitlinks { ReadsNoNullGitlink result }
+        ensures gitlinks { ReadsSayable result }
     {
         let options = match self.state {
             State::Open(options) => options,

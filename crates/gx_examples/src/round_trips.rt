@@ -47,7 +47,7 @@ fn is_of_version(reply: &Reply<Global>) -> bool {
         Ok(commit) => {
             let has_people = commit.author.as_slice() == b"A <a@x> 1 +0000".as_slice()
                 && commit.committer.as_slice() == b"A <a@x> 1 +0000".as_slice();
-            let is_first = commit.parents.is_empty() && commit.encoding.is_none();
+            let is_first = commit.parents.is_empty() && commit.headers.is_empty();
             has_people && is_first && commit.message.as_slice() == b"v1".as_slice()
         }
         Err(_) => false,

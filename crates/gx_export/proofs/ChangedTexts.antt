@@ -16,6 +16,7 @@ use Rattle.gx_model.specs.Records.Sound.{IsSound}
 use Rattle.gx_model.specs.Streams.Commands.{CommitIsh, Remove}
 use Rattle.gx_model.specs.Streams.Items.{Data, Item, Line}
 use Rattle.gx_model.specs.Texts.{Bytes}
+use Rattle.gx_model.specs.Texts.Headers.{encoding_in}
 use Rattle.gx_model.specs.Texts.Paths.{Path}
 use Rattle.gx_export.specs.ChangedParts.{AreLinesOf, differing_lines, lines_on, one_on}
 use Rattle.gx_export.specs.Compared.{gone_items, gone_text}
@@ -47,7 +48,7 @@ commit_parts branch names us c =
     let front = from_line (first_by names ps) in
     let others = map (λ p. word_line (codes "merge") (commit_ish_text p)) (others_by names ps) in
     let changes = differing_lines us (gone_of c) (own_files c) in
-    let line = word_line_if (codes "encoding") text.encoding in
+    let line = word_line_if (codes "encoding") (encoding_in text.headers) in
     ap (λ (is : List Item). author_items branch (suc (length us)) text ++ (line ++ (Data text.message ∷ (front ++ (others ++ is))))) (changes_are us c)
     ∙ ap (λ (is : List Item). author_items branch (suc (length us)) text ++ is)
     (ap (λ (is : List Item). line ++ (Data text.message ∷ is)) (sym (append_assoc front others changes)) ∙ sym (append_assoc line (Data text.message ∷ []) (parents_by names ps ++ changes)))

@@ -8,6 +8,7 @@ use Rattle.std.proofs.lemmas.List.{append-nil, length-append}
 use Rattle.gx_model.specs.declared.objects.Kind.{Kind}
 use Rattle.gx_model.specs.declared.objects.Kind.TheVariants as kind
 use Rattle.gx_model.specs.Texts.{Bytes}
+use Rattle.gx_model.specs.Texts.Headers.{encoding_in}
 use Rattle.gx_model.specs.Export.{all_written, blob_commands, command_items, commit_command, commit_ish_text, contents, from_line, last_reset, one_commit, reset_before, root_reset, to_nothing, carrier, with_blobs, with_commit, word_line, items_text, word_line_if, first_parent_mark, other_parent_marks}
 use Rattle.gx_model.specs.Histories.Files.{FileMap}
 use Rattle.gx_model.specs.Histories.{IsIn, Records}
@@ -69,7 +70,7 @@ commit_parts ws c =
     let front = from_line (first_parent_mark ws ps) in
     let others = map (λ p. word_line (codes "merge") (commit_ish_text p)) (other_parent_marks ws ps) in
     let changes = change_lines ws (files_of c) in
-    let line = word_line_if (codes "encoding") text.encoding in
+    let line = word_line_if (codes "encoding") (encoding_in text.headers) in
     ap (λ (is : List Item). author_items carrier (suc (length ws)) text ++ is)
     (ap (λ (is : List Item). line ++ (Data text.message ∷ is)) (sym (append_assoc front others changes)) ∙ sym (append_assoc line (Data text.message ∷ []) (parent_items ws ps ++ changes)))
 

@@ -4,6 +4,7 @@ use Rattle.std.specs.Borrow.{Bor}
 use Rattle.std.specs.List.{flat_map}
 use Rattle.gx_model.specs.declared.objects.Mode.{Mode}
 use Rattle.gx_model.specs.Texts.{Bytes}
+use Rattle.gx_model.specs.Texts.Headers.{encoding_in}
 use Rattle.gx_model.specs.Streams.Items.{Data, Item, Line}
 use Rattle.gx_model.specs.Histories.Files.{FileMap}
 use Rattle.gx_model.specs.Streams.Commands.{Blob, Command, CommitIsh, Reset, Tag}
@@ -27,7 +28,7 @@ author_items ref mark text =
 
 -- the items of a commit on a ref up to its message
 abbrev pub head_items : Bytes → ℕ → CommitText → List Item
-head_items ref mark text = author_items ref mark text ++ (word_line_if (codes "encoding") text.encoding ++ Data text.message ∷ [])
+head_items ref mark text = author_items ref mark text ++ (word_line_if (codes "encoding") (encoding_in text.headers) ++ Data text.message ∷ [])
 
 -- a blob under a mark
 abbrev pub blob_under : ℕ → Bytes → Command

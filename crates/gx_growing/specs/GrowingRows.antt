@@ -36,7 +36,7 @@ abbrev root_tree : Record
 root_tree = stored kind.Tree []
 
 abbrev text : CommitText
-text = record { author = codes "A <a@x> 1 +0000"; committer = codes "A <a@x> 1 +0000"; encoding = None; message = codes "m" }
+text = record { author = codes "A <a@x> 1 +0000"; committer = codes "A <a@x> 1 +0000"; headers = []; message = codes "m" }
 
 abbrev root : Record
 root = stored kind.Commit (commit_text (record { tree = root_tree.name; parents = []; text = text }))

@@ -13,7 +13,7 @@ use Rattle.gx_model.specs.Histories.{no_history}
 use Rattle.gx_import.specs.Asking.{AsksByChange, AsksByMerge, mark}
 
 abbrev one : Commit
-one = commit [] (commits_of []) (record { author = []; committer = []; encoding = None; message = [] })
+one = commit [] (commits_of []) (record { author = []; committer = []; headers = []; message = [] })
 
 -- a state in which the mark 1 is a commit, and nothing has the mark 2
 abbrev marked_one : State

@@ -20,7 +20,7 @@ use Rattle.gx_model.specs.Replay.{Kept, finished, imported, imported_asked, refu
 use Rattle.gx_model.specs.Export.{command_items, export_text, inner_commands, is_reached, item_text, reached_commits}
 use Rattle.gx_model.specs.declared.features.Features.{Features}
 use Rattle.gx_model.specs.Laws.FeatureLaws.{ExportsAskOnce}
-use Rattle.gx_model.specs.Laws.ExportLaws.{ExportIsImported, FormedIsReadable, HasNoNullGitlink, IsAgain, between, exported_report}
+use Rattle.gx_model.specs.Laws.ExportLaws.{ExportIsImported, FormedIsReadable, HasSayable, IsAgain, between, exported_report}
 use Rattle.gx_model.specs.Laws.RepositoryLaws.{HistoriesOf, NamesTell}
 use Rattle.gx_model.specs.Texts.Sinks.{Taken}
 use Rattle.gx_text.specs.Devices.{Coming}
@@ -128,7 +128,7 @@ module _ (name : Kind → Bytes → Bytes) where
     Replayed exported coming =
         (k : History) × IsAgain (history_of exported) k × (replayed_commands name (history_of empty_repository) (commands_from coming) ≡ finished k [] (exported_report (history_of exported) k))
 
-    export_replayed : (exported : Records) → IsSound name exported → HasNoNullGitlink (history_of exported) → (coming : Coming) → GivesExport exported coming → Replayed exported coming
+    export_replayed : (exported : Records) → IsSound name exported → HasSayable (history_of exported) → (coming : Coming) → GivesExport exported coming → Replayed exported coming
     export_replayed exported sound links coming gives =
         let h = history_of exported in
         let is = (histories.stands exported sound).history in
@@ -151,7 +151,7 @@ module _ (name : Kind → Bytes → Bytes) where
         stand_again exported new (histories.stands exported sound) (histories.stands new stands) (subst (IsAgain (history_of exported)) (sym same) q.1)
 
     -- the commands of an export's text ask for no checkpoint
-    none_asked : (exported : Records) → IsSound name exported → HasNoNullGitlink (history_of exported) → (coming : Coming) → GivesExport exported coming → AreOther (commands_from coming).list
+    none_asked : (exported : Records) → IsSound name exported → HasSayable (history_of exported) → (coming : Coming) → GivesExport exported coming → AreOther (commands_from coming).list
     none_asked exported sound links coming gives =
         let h = history_of exported in
         let is = (histories.stands exported sound).history in

@@ -9,7 +9,7 @@ use Rattle.gx_model.specs.declared.faults.Fault.TheVariants as fault
 use Rattle.gx_model.specs.declared.features.Features.{Features}
 use Rattle.gx_model.specs.Texts.{Bytes}
 use Rattle.gx_model.specs.Streams.Grammar.{stops, with_command}
-use Rattle.gx_model.specs.Streams.Gitlinks.{BringsNoNullGitlink, HoldsNoNullGitlink}
+use Rattle.gx_model.specs.Streams.Gitlinks.{BringsSayable, HoldsSayable}
 use Rattle.gx_model.specs.Histories.{History, IsHistory, Records}
 use Rattle.gx_model.specs.Records.HistoryOf.{history_of}
 use Rattle.gx_model.specs.Streams.Commands.{Command, Commands, Progress}
@@ -372,15 +372,15 @@ stand_empty name {A} r tables h = record {
 }
 
 -- a replay that begins so has no commit with a gitlink of forty zeros, where its history has none
-pub starting_free : (is_forced : Bool) (h : History) → IsHistory h → HoldsNoNullGitlink h → IsFreeState (starting is_forced h)
+pub starting_free : (is_forced : Bool) (h : History) → IsHistory h → HoldsSayable h → IsFreeState (starting is_forced h)
 starting_free is_forced h is none =
     let s = start_free h is none in
     record { values = s.values; refs = s.refs; marks = s.marks; branches = s.branches; tags = s.tags; kept = s.kept }
 
 -- a step keeps a state without gitlinks of forty zeros
-pub step_keeps : (name : Kind → Bytes → Bytes) (s t : State) (c : Command) → step name s c ≡ Ok t → IsFreeState s → BringsNoNullGitlink c → IsFreeState t
+pub step_keeps : (name : Kind → Bytes → Bytes) (s t : State) (c : Command) → step name s c ≡ Ok t → IsFreeState s → BringsSayable c → IsFreeState t
 step_keeps name s t c e free brings = subst (λ r. IfOk r IsFreeState) e (step_free name s c free brings)
 
 -- which values a history has hangs on the records alone
-pub same_records_keep : (r s : Records) → s.records ≡ r.records → HoldsNoNullGitlink (history_of r) → HoldsNoNullGitlink (history_of s)
-same_records_keep r s e none = subst (λ rs. HoldsNoNullGitlink (history_of (record { records = rs; refs = [] }))) (sym e) none
+pub same_records_keep : (r s : Records) → s.records ≡ r.records → HoldsSayable (history_of r) → HoldsSayable (history_of s)
+same_records_keep r s e none = subst (λ rs. HoldsSayable (history_of (record { records = rs; refs = [] }))) (sym e) none

@@ -61,16 +61,16 @@ module _ (name : Kind → Bytes → Bytes) where
     null_refused_alone : (old new : Records) (coming : Option Coming) (was now : Option Taken) (result : Result Report ImportFault)
         → Imports no_features name old new coming was now result → RefusesItsExport name old coming result
     null_refused_alone old new None was now result h = tt
-    null_refused_alone old new (Some coming) was now result h = λ exported sound links gives empty.
+    null_refused_alone old new (Some coming) was now result h = λ exported sound links alone gives empty.
         let text = export_text (history_of exported) in
         let room = heard_short (2 ^ 63 - 1) coming text gives in
         let is = (histories.stands exported sound).history in
         let same : imported name (history_of old) (heard coming).bytes (heard coming).fails ≡ replayed_commands name (history_of empty_repository) (commands_from coming) =
         imported_is no_features name (history_of old) coming ∙ ap (λ r. replayed_commands name (history_of r) (commands_from coming)) empty in
         let known : replayed_commands name (history_of empty_repository) (commands_from coming) ≡ refused (refused_number exported) model.Unsupported [] (start (history_of empty_repository)).kept =
-        (λ i. replayed_text name (history_of empty_repository) (gives i).bytes (gives i).fails) ∙ nulls name (history_of exported) is links (omega (arith, room)) in
+        (λ i. replayed_text name (history_of empty_repository) (gives i).bytes (gives i).fails) ∙ nulls name (history_of exported) is links alone (omega (arith, room)) in
         let listed : (commands_from coming).list ≡ commands_before_null (history_of exported) =
-        ap (λ cs. cs.list) ((λ i. commands_of (items_of (gives i).bytes (gives i).fails)) ∙ ends (history_of exported) is links (omega (arith, room))) in
+        ap (λ cs. cs.list) ((λ i. commands_of (items_of (gives i).bytes (gives i).fails)) ∙ ends (history_of exported) is links alone (omega (arith, room))) in
         let none : (number : ℕ) → ClashesAt name 0 (start (history_of old)) (commands_from coming).list number → ⊥ = λ number clash.
         none_clash exported sound number (subst (λ r. ClashesAt name 0 (start (history_of r)) (commands_before_null (history_of exported)) number) empty
         (subst (λ cs. ClashesAt name 0 (start (history_of old)) cs number) listed clash)) in
@@ -80,6 +80,6 @@ module _ (name : Kind → Bytes → Bytes) where
     pub null_refused : ExportsAskOnce → (asks : Features) → LeaveExports asks → (old new : Records) (coming : Option Coming) (was now : Option Taken) (result : Result Report ImportFault)
         → Imports asks name old new coming was now result → RefusesItsExport name old coming result
     null_refused once asks leaves old new None was now result h = tt
-    null_refused once asks leaves old new (Some coming) was now result h = λ exported sound links gives empty.
+    null_refused once asks leaves old new (Some coming) was now result h = λ exported sound links alone gives empty.
         let plain = unasked name once asks.done asks.force leaves old new exported coming gives was now result h in
-        null_refused_alone old new (Some coming) was now result plain exported sound links gives empty
+        null_refused_alone old new (Some coming) was now result plain exported sound links alone gives empty

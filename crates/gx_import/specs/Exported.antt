@@ -7,10 +7,10 @@ use Rattle.gx_model.specs.Texts.{Bytes}
 use Rattle.gx_model.specs.Histories.{IsHistory, Records, empty_repository}
 use Rattle.gx_model.specs.Records.HistoryOf.{history_of}
 use Rattle.gx_model.specs.Records.Sound.{AnyByRecursion, IsSound}
-use Rattle.gx_model.specs.Export.{export_text}
+use Rattle.gx_model.specs.Export.{export_text, reached_commits}
 use Rattle.gx_model.specs.declared.features.Features.{Features}
-use Rattle.gx_model.specs.Laws.ExportLaws.{HasNoNullGitlink, IsAgain}
-use Rattle.gx_model.specs.Streams.Gitlinks.{HoldsNoNullGitlink, commands_before_null}
+use Rattle.gx_model.specs.Laws.ExportLaws.{HasNoNullGitlink, HasSayable, HaveEncodingsAlone, IsAgain}
+use Rattle.gx_model.specs.Streams.Gitlinks.{HoldsSayable, commands_before_null}
 use Rattle.gx_text.specs.Devices.{Coming}
 use Rattle.gx_stream.specs.Heard.{heard}
 use Rattle.gx_repo.specs.Repositories.{Repository}
@@ -18,13 +18,13 @@ use Rattle.gx_import.specs.declared.fault.ImportFault.{ImportFault}
 use Rattle.gx_model.specs.declared.faults.Fault.TheVariants.{OutOfMemory, Unsupported, WriteFailed}
 use Rattle.gx_import.specs.declared.report.Report.{Report}
 
--- where no commit had a gitlink of forty zeros, none has one
-abbrev pub KeepsNoNullGitlink : Records → Records → Type 0
-KeepsNoNullGitlink old new = HoldsNoNullGitlink (history_of old) → HoldsNoNullGitlink (history_of new)
+-- where a stream could say each commit, it can say each
+abbrev pub KeepsSayable : Records → Records → Type 0
+KeepsSayable old new = HoldsSayable (history_of old) → HoldsSayable (history_of new)
 
 -- the same, where the old repository has the history that its records and refs tell
-abbrev pub MakesNoNullGitlink : Records → Records → Type 0
-MakesNoNullGitlink old new = IsHistory (history_of old) → KeepsNoNullGitlink old new
+abbrev pub MakesSayable : Records → Records → Type 0
+MakesSayable old new = IsHistory (history_of old) → KeepsSayable old new
 
 -- features that leave the import of an export as it is, which asks for `done` itself
 abbrev pub LeaveExports : Features → Type 0
@@ -48,11 +48,11 @@ ExportedOr exported new (Ok report) = IsExported exported new
 ExportedOr exported new (Err fault) = ((fault.kind ≡ OutOfMemory) ⊎ (fault.kind ≡ WriteFailed)) × (fault.checkpoints ≡ 0)
 
 -- The export of a sound repository under this namer is imported into an empty one, unless memory runs out or
--- the sink fails. A gitlink of forty zeros is left out, which no import takes and none brings.
+-- the sink fails. A gitlink of forty zeros is left out, and a header that isn't that of an encoding: no import takes or brings them.
 abbrev pub ImportsExport : (Kind → Bytes → Bytes) → Records → Records → Option Coming → Result Report ImportFault → Type 0
 ImportsExport name old new None result = ⊤
 ImportsExport name old new (Some coming) result =
-    (exported : Records) → IsSound name exported → HasNoNullGitlink (history_of exported) → GivesExport exported coming → old ≡ empty_repository → ExportedOr exported new result
+    (exported : Records) → IsSound name exported → HasSayable (history_of exported) → GivesExport exported coming → old ≡ empty_repository → ExportedOr exported new result
 
 -- The first command of the exported history that brings a gitlink of forty zeros is refused as not supported, or memory ran out, or
 -- the sink of progress texts failed.
@@ -62,14 +62,16 @@ UnsupportedOr exported (Err fault) =
     ((fault.kind ≡ Unsupported) × (fault.command ≡ length (commands_before_null (history_of exported)) + 1))
     ⊎ ((fault.kind ≡ OutOfMemory) ⊎ (fault.kind ≡ WriteFailed))
 
--- Where refs of a sound repository under this namer reach a gitlink of forty zeros, an empty one refuses its export.
+-- Where refs of a sound repository under this namer reach a gitlink of forty zeros, and no headers but those of encodings, an empty
+-- one refuses its export.
 abbrev pub RefusesItsExport : (Kind → Bytes → Bytes) → Records → Option Coming → Result Report ImportFault → Type 0
 RefusesItsExport name old None result = ⊤
 RefusesItsExport name old (Some coming) result =
-    (exported : Records) → IsSound name exported → (HasNoNullGitlink (history_of exported) → ⊥) → GivesExport exported coming → old ≡ empty_repository → UnsupportedOr exported result
+    (exported : Records) → IsSound name exported → (HasNoNullGitlink (history_of exported) → ⊥) → HaveEncodingsAlone (reached_commits (history_of exported))
+    → GivesExport exported coming → old ≡ empty_repository → UnsupportedOr exported result
 
 module _ {N : Type 0} (names : N → Kind → Bytes → Bytes) where
-  -- an empty repository imports the export of any sound one whose refs reach no gitlink of forty zeros
+  -- an empty repository imports the export of any sound one of which a stream can say what its refs reach
   abbrev pub ImportsAnyExport : Repository N → Repository N → Option Coming → Result Report ImportFault → Type 0
   ImportsAnyExport old new = ImportsExport (names old.0) old.1 new.1
 

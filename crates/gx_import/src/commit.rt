@@ -294,6 +294,7 @@ fn object_parts<'a, A: Allocator + Copy>(
         author,
         committer,
         encoding,
+        further: b"",
         message: commit.message.as_slice(),
     }
 }

@@ -1,7 +1,7 @@
 //! Imports of whole streams. Source: git-fast-import(1).
 
 ghost use Rattle.std.specs.Prelude.{◌≡◌, None, IfErr, OnErr, OnOk};
-ghost use Rattle.gx_import.specs.Exported.{ImportsAnyExport, KeepsNoNullGitlink, LeaveExports, RefusesNullGitlink};
+ghost use Rattle.gx_import.specs.Exported.{ImportsAnyExport, KeepsSayable, LeaveExports, RefusesNullGitlink};
 ghost use Rattle.gx_import.specs.Explaining.{ExplainsAsked, TellsNothing};
 ghost use Rattle.gx_import.specs.Imports.{Imports, ImportsAsked, StandsAsked};
 ghost use Rattle.gx_import.specs.Keeping.{AreNone, IsLeft};
@@ -64,7 +64,7 @@ pub fn import<N: Namer, A: Allocator + Copy, R: Source + Drop, W: Sink>(
     ensures unchanged { IfErr result (λ fault. fault.checkpoints ≡ 0 → repo.new ≡ repo.old) }
     ensures stopped { IfErr result (StopsAsked N.name_of no_features repo.old (R.coming source)) }
     ensures exported { ImportsAnyExport N.name_of repo.old repo.new (R.coming source) result }
-    ensures gitlinks { KeepsNoNullGitlink repo.old.1 repo.new.1 }
+    ensures gitlinks { KeepsSayable repo.old.1 repo.new.1 }
     ensures nulls { RefusesNullGitlink N.name_of repo.old (R.coming source) result }
 {
     import_asking(alloc, repo, source, sink, Features::none())
@@ -93,7 +93,7 @@ pub fn import_asking<N: Namer, A: Allocator + Copy, R: Source + Drop, W: Sink>(
     ensures stopped { IfErr result (StopsAsked N.name_of features repo.old (R.coming source)) }
     ensures exported { LeaveExports features
         → ImportsAnyExport N.name_of repo.old repo.new (R.coming source) result }
-    ensures gitlinks { KeepsNoNullGitlink repo.old.1 repo.new.1 }
+    ensures gitlinks { KeepsSayable repo.old.1 repo.new.1 }
     ensures nulls { LeaveExports features
         → RefusesNullGitlink N.name_of repo.old (R.coming source) result }
 {
@@ -133,7 +133,7 @@ pub fn import_explained<N: Namer, A: Allocator + Copy, R: Source + Drop, W: Sink
     ensures stopped { IfErr result (StopsAsked N.name_of features repo.old (R.coming source)) }
     ensures exported { LeaveExports features
         → ImportsAnyExport N.name_of repo.old repo.new (R.coming source) result }
-    ensures gitlinks { KeepsNoNullGitlink repo.old.1 repo.new.1 }
+    ensures gitlinks { KeepsSayable repo.old.1 repo.new.1 }
     ensures nulls { LeaveExports features
         → RefusesNullGitlink N.name_of repo.old (R.coming source) result }
 {
@@ -198,7 +198,7 @@ fn replay_into<N: Namer, A: Allocator + Copy, R: Source + Drop, W: Sink>(
         (W.taken sink.new) result told.new }
     ensures left { OnErr result (IsLeft repo.old.1 repo.new.1 checkpoints.new) }
     ensures counted { IfErr result (λ fault. fault.checkpoints ≡ checkpoints.new.count) }
-    ensures gitlinks { KeepsNoNullGitlink repo.old.1 (left_by result checkpoints.new repo.new.1) }
+    ensures gitlinks { KeepsSayable repo.old.1 (left_by result checkpoints.new repo.new.1) }
 {
     histories_of_records();
     let held = repo.store().len();

@@ -2,11 +2,11 @@
 
 ghost use Rattle.gx_import.specs.Applying.{Applies};
 ghost use Rattle.std.specs.Prelude.{◌≡◌, None, ◌<◌, ◌≤◌, ◌-◌, ◌^◌, length, ◌+◌, IfErr, IfOk, OnErr, OnOk};
-ghost use Rattle.gx_command.specs.Reading.{ReadsNoNullGitlink};
+ghost use Rattle.gx_command.specs.Reading.{ReadsSayable};
 ghost use Rattle.gx_command.specs.Views.{shown_command};
 ghost use Rattle.gx_import.specs.Calls.{AsksFor, InEach, KeepsTipsAtHome};
 ghost use Rattle.gx_import.specs.Explaining.{ExplainsRead, TellsAll, TellsNothing};
-ghost use Rattle.gx_import.specs.Exported.{MakesNoNullGitlink};
+ghost use Rattle.gx_import.specs.Exported.{MakesSayable};
 ghost use Rattle.gx_import.specs.Imports.{line_of};
 ghost use Rattle.gx_import.specs.Keeping.{AreNone, AreStill, IsLeft, IsNext, KeepsFromEach, Moves, left_of};
 ghost use Rattle.gx_import.specs.Losing.{TellsLossInEach};
@@ -56,8 +56,8 @@ pub(crate) fn replay_commands<N: Namer, A: Allocator + Copy, R: Source, W: Sink>
         reader.old sink.old sink.new result told.new }
     ensures left { IsLeft repo.old.1 repo.new.1 checkpoints.new }
     ensures counted { IfErr result (λ fault. fault.checkpoints ≡ checkpoints.new.count) }
-    ensures gitlinks { OnOk result (MakesNoNullGitlink repo.old.1 repo.new.1) }
-    ensures gitlinks_left { MakesNoNullGitlink repo.old.1 (left_of checkpoints.new repo.new.1) }
+    ensures gitlinks { OnOk result (MakesSayable repo.old.1 repo.new.1) }
+    ensures gitlinks_left { MakesSayable repo.old.1 (left_of checkpoints.new repo.new.1) }
 {
     let mut commands = 0;
     repo.sound();
@@ -83,7 +83,7 @@ fn next_command<R: Source, A: Allocator + Copy>(
     requires room { commands < 2 ^ 64 - 1 }
     ensures reads { ReadsNext commands checkpoints reader.old reader.new result }
     ensures falls { FallsNext reader.old.most reader.new.most result }
-    ensures gitlinks { ReadsNoNullGitlink result }
+    ensures gitlinks { ReadsSayable result }
 {
     match reader.next() {
         Ok(command) => Ok(command),

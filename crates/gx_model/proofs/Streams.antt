@@ -6,6 +6,7 @@ pub mod CommandFields
 pub mod ChangeItems
 pub mod CommandItems
 pub mod SpelledItems
+pub mod ReadLines
 pub mod ReadGitlinks
 pub mod WordShapes
 pub mod TextShapes

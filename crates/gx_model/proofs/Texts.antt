@@ -3,6 +3,7 @@ pub mod Cuts
 pub mod Decimals
 pub mod Idents
 pub mod LineTexts
+pub mod HeaderTexts
 pub mod PathTexts
 pub mod Quotes
 pub mod SentTexts

@@ -8,6 +8,7 @@ use Rattle.gx_model.specs.declared.objects.Mode.TheVariants.{File, Exec, Link, G
 use Rattle.gx_model.specs.declared.features.Feature.TheVariants as features
 use Rattle.gx_model.specs.Streams.Commands as command
 use Rattle.gx_model.specs.Texts.{Bytes}
+use Rattle.gx_model.specs.Texts.Headers.{encoding_in}
 use Rattle.gx_model.specs.Texts.Paths.{Path, path_text, printed}
 use Rattle.gx_model.specs.Streams.Items.{Data, Item, Line}
 use Rattle.gx_model.specs.Streams.Commands.{Asks, Blob, Change, Checkpoint, Clear, Command, CommitIsh, Copy, DataRef, Done, Inline, Mark, Marked, Modify, Named, Object, OptionLine, Progress, Remove, Rename, Reset}
@@ -107,7 +108,7 @@ commit_on r names changes ws c = command.Commit (record {
   mark = Some (suc (length ws));
   author = Some (text_of c).author;
   committer = (text_of c).committer;
-  encoding = (text_of c).encoding;
+  headers = (text_of c).headers;
   message = (text_of c).message;
   parent = first_by names (list_of (parents_of c));
   merges = others_by names (list_of (parents_of c));
@@ -224,12 +225,12 @@ abbrev pub reset_items : Option CommitIsh → List Item
 reset_items None = []
 reset_items (Some c) = word_line (codes "from") (commit_ish_text c) ∷ Line [] ∷ []
 
--- an export has no other commands
+-- an export has no other commands; of the headers of a commit it has the encoding alone
 abbrev pub command_items : Command → List Item
 command_items (command.Blob b) = Line (codes "blob") ∷ mark_line b.mark ++ Data b.bytes ∷ []
 command_items (command.Commit c) =
     word_line (codes "commit") c.ref ∷ (mark_line c.mark ++ (word_line_if (codes "author") c.author ++ (word_line (codes "committer") c.committer
-    ∷ (word_line_if (codes "encoding") c.encoding ++ (Data c.message ∷ (from_line c.parent ++ (map (λ p. word_line (codes "merge") (commit_ish_text p)) c.merges
+    ∷ (word_line_if (codes "encoding") (encoding_in c.headers) ++ (Data c.message ∷ (from_line c.parent ++ (map (λ p. word_line (codes "merge") (commit_ish_text p)) c.merges
     ++ (flat_map change_items c.changes ++ Line [] ∷ []))))))))
 command_items (command.Tag t) =
     word_line (codes "tag") t.name ∷ mark_line t.mark ++ word_line (codes "from") (commit_ish_text t.target) ∷ word_line_if (codes "tagger") t.tagger ++ Data t.message ∷ []

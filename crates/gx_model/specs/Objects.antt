@@ -64,10 +64,10 @@ abbrev pub optional_line : Bytes → Option Bytes → Bytes
 optional_line word None = []
 optional_line word (Some rest) = line word rest
 
--- the lines of a commit behind its parents, and its message
+-- the lines of a commit behind its parents, and its message behind an empty one
 abbrev pub text_lines : CommitText → Bytes
 text_lines text =
-    line (codes "author") text.author ++ line (codes "committer") text.committer ++ optional_line (codes "encoding") text.encoding
+    line (codes "author") text.author ++ line (codes "committer") text.committer ++ text.headers
     ++ 10 ∷ text.message
 
 -- the parts of a commit's body and of a tag's

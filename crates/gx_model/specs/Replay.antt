@@ -125,7 +125,7 @@ own_commit None = None
 
 -- a missing author is the committer
 abbrev pub text_made : CommitParts → CommitText
-text_made c = record { author = unwrap_or c.author c.committer; committer = c.committer; encoding = c.encoding; message = c.message }
+text_made c = record { author = unwrap_or c.author c.committer; committer = c.committer; headers = c.headers; message = c.message }
 
 -- the files that a commit starts from
 abbrev pub starting_files : Option Commit → FileMap Bytes

@@ -10,4 +10,5 @@ pub mod RefusalRows
 pub mod RevisionRows
 pub mod RowTexts
 pub mod StoreRows
+pub mod HeaderRows
 pub mod StreamRows

@@ -1,6 +1,7 @@
 -- Texts are byte strings. What stands before and after a byte in them, and which bytes they lack.
 -- Source: this project's own.
 pub mod Digits
+pub mod Headers
 pub mod Idents
 pub mod Numbers
 pub mod Paths

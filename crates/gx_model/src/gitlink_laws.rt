@@ -1,6 +1,6 @@
 //! Laws of gitlinks of forty zeros: no stream brings one.
 ghost use Rattle.gx_model.specs.Histories.{no_history};
-ghost use Rattle.gx_model.specs.Streams.Gitlinks.{CommandsBeforeNullAreReplayed, HoldsNoNullGitlink, HoldsTellsHas, NullGitlinksAreRefused, NullGitlinksEndCommands, RefusalsKeepNone, ReplaysKeepNone, StreamsBringNone, TextsBringNone, TextsComeBack};
+ghost use Rattle.gx_model.specs.Streams.Gitlinks.{CommandsBeforeNullAreReplayed, HoldsSayable, HoldsTellsHas, NullGitlinksAreRefused, NullGitlinksEndCommands, RefusalsKeepNone, ReplaysKeepNone, StreamsBringNone, TextsBringNone, TextsComeBack};
 
 /// No command that a stream has gives a gitlink of forty zeros.
 #[tactic(auto, using(crate::proofs::Streams::ReadGitlinks::none_brought))]
@@ -12,7 +12,7 @@ pub fn streams_bring_none()
 /// none, also where they are refused, and so after any text that is replayed; nor do its refs reach one.
 #[tactic(auto, using(crate::proofs::Replay::GitlinkSteps::none_kept, crate::proofs::Replay::GitlinkSteps::refusals_keep_none, crate::proofs::Replay::GitlinkSteps::none_from_text, crate::proofs::Replay::GitlinkSteps::none_reached))]
 pub fn replays_keep_none()
-    ensures empty { HoldsNoNullGitlink no_history }
+    ensures empty { HoldsSayable no_history }
     ensures kept { ReplaysKeepNone }
     ensures refused { RefusalsKeepNone }
     ensures texts { TextsBringNone }

@@ -1,16 +1,23 @@
 -- A decoded commit's body is the text of its parts, and the text of parts is decoded as them.
-use Rattle.std.proofs.Common.{◌≡◌, Bool, true, false, [], ◌∷◌, ◌++◌, length, Option, Some, None, Result, Ok, Err, refl, sym, ap, subst, ◌∙◌, arith, append_assoc}
+use Rattle.std.proofs.Common.{◌≡◌, Bool, true, false, cond, [], ◌∷◌, ◌++◌, drop, length, Option, Some, None, Result, Ok, Err, refl, sym, ap, subst, ◌∙◌, arith, append_assoc}
 use Rattle.std.specs.Prelude.{codes, nat_eq, IfOk, IsOkAnd, ◌&&◌}
+use Rattle.std.specs.List.{starts_with}
+use Rattle.std.specs.Option.{unwrap_or}
 use Rattle.std.specs.Result.{result_ok}
 use Rattle.std.proofs.lemmas.Bool.{and_from, and_parts, false≢true, ne_eqb}
-use Rattle.gx_model.specs.Texts.{Bytes, is_line}
+use Rattle.std.proofs.lemmas.Bool.Decides.{Decides-eqb}
+use Rattle.std.proofs.lemmas.Slice.Eq.{starts_is}
+use Rattle.gx_model.specs.Texts.{Bytes, cut_at, parts_at}
+use Rattle.gx_model.specs.Texts.Headers.{encoding_in, unless_empty}
 use Rattle.gx_model.specs.Texts.Idents.{is_ident}
-use Rattle.gx_model.specs.Histories.Values.{CommitText, is_optional_encoding}
+use Rattle.gx_model.specs.Histories.Values.{CommitText}
 use Rattle.gx_model.specs.Objects.{CommitParts, IsCommitText, commit_text, hex, line, optional_line, text_lines}
-use Rattle.gx_object.specs.Lines.{field, ident_field, name_field, or_absent, stripped}
+use Rattle.gx_wide.specs.WideTexts.{message_text, tail_of}
+use Rattle.gx_object.specs.Lines.{◌>>=◌, field, ident_field, name_field, stripped}
 use Rattle.gx_object.specs.Commits.{commit_parts_of, encoding_field, parent_lines, parents_of}
-use Rattle.gx_object.proofs.Fields.{bind_some, refused_some, field_spelled, field_again, ident_spelled, ident_again, name_spelled, name_field_again, stripped_spelled, stripped_again}
+use Rattle.gx_object.proofs.Fields.{bind_some, field_spelled, ident_spelled, ident_again, name_spelled, name_field_again, stripped_again}
 use Rattle.gx_object.proofs.Parents.{parents_spelled, parents_again}
+use Rattle.gx_object.proofs.Tails.{tail_again, tail_spelled}
 
 -- ---- the encoding
 
@@ -18,45 +25,43 @@ pub record HasOptional (test : Option Bytes → Bool) (word bytes : Bytes) (p : 
   pub parts : bytes ≡ optional_line word p.0 ++ p.1
   pub proper : test p.0 ≡ true
 
-some_encoding : (x : Bytes) → nat_eq (length x) 0 ≡ false → is_line x ≡ true → is_optional_encoding (Some x) ≡ true
-some_encoding [] e h = cc
-some_encoding (b ∷ x) e h = h
+-- the line of an encoding begins with its word and a space
+front_of : (x r : Bytes) → line (codes "encoding") x ++ r ≡ codes "encoding " ++ (x ++ 10 ∷ r)
+front_of x r = simp append_assoc
 
-pub encoding_spelled : (bytes : Bytes) → HasOptional is_optional_encoding (codes "encoding") bytes (or_absent (encoding_field bytes) bytes)
+-- what is read at the front of headers is the encoding that they tell
+pub encoding_is : (headers : Bytes) → encoding_field headers ≡ encoding_in headers
 unfolding encoding_field
-encoding_spelled bytes = by (encoding_field bytes) refl
+encoding_is headers = by (starts_with nat_eq headers (codes "encoding ")) refl
   where
-    by : (o : Option (Bytes × Bytes)) → encoding_field bytes ≡ o → HasOptional is_optional_encoding (codes "encoding") bytes (or_absent o bytes)
-    by None e = record { parts = refl; proper = refl }
-    by (Some p) e = found p e
-      where
-        found : (p : Bytes × Bytes) → encoding_field bytes ≡ Some p → HasOptional is_optional_encoding (codes "encoding") bytes (Some p.0, p.1)
-        found p e =
-            let a = bind_some (field (codes "encoding") bytes) _ p e in
-            let r = refused_some (nat_eq (length a.0.0) 0) a.0 p a.2 in
-            let l = field_spelled (codes "encoding") bytes a.0 a.1 in
-            subst (λ (q : Bytes × Bytes). HasOptional is_optional_encoding (codes "encoding") bytes (Some q.0, q.1)) r.1
-            (record { parts = l.parts; proper = some_encoding a.0.0 r.0 l.rest })
+    of_cut : (o : Option (Bytes × Bytes)) → (o >>= λ a. cond (nat_eq (length a.0) 0) None (Some a.0)) ≡ unless_empty (unwrap_or o ([], [])).0
+    of_cut None = refl
+    of_cut (Some ([], r)) = refl
+    of_cut (Some ((b ∷ x), r)) = rw (ne_eqb (length (b ∷ x)) 0 (λ e. omega arith)) refl
 
-encoding_again : (o : Option Bytes) (m : Bytes) → is_optional_encoding o ≡ true → or_absent (encoding_field (optional_line (codes "encoding") o ++ (10 ∷ m))) (optional_line (codes "encoding") o ++ (10 ∷ m)) ≡ (o, 10 ∷ m)
-unfolding encoding_field field stripped
-encoding_again None m h = refl
-encoding_again (Some []) m h = absurd (false≢true h)
-encoding_again (Some (b ∷ x)) m h = some (b ∷ x) m h (ne_eqb (length (b ∷ x)) 0 (λ e. omega arith))
-  where
-    some : (x m : Bytes) → is_line x ≡ true → nat_eq (length x) 0 ≡ false → or_absent (encoding_field (line (codes "encoding") x ++ (10 ∷ m))) (line (codes "encoding") x ++ (10 ∷ m)) ≡ (Some x, 10 ∷ m)
-    some x m h e =
-        let read : encoding_field (line (codes "encoding") x ++ (10 ∷ m)) ≡ Some (x, 10 ∷ m) = rw (field_again (codes "encoding") x (10 ∷ m) h, e) refl in
-        ap (λ o. or_absent o (line (codes "encoding") x ++ (10 ∷ m))) read
+    after : (rest : Bytes) → encoding_field (codes "encoding " ++ rest) ≡ unless_empty (parts_at 10 rest).0
+    unfolding encoding_field field
+    after rest = rw (stripped_again (codes "encoding") (32 ∷ rest), stripped_again (32 ∷ []) rest) (of_cut (cut_at 10 rest))
+
+    none : starts_with nat_eq headers (codes "encoding ") ≡ false → (o : Option (Bytes × Bytes)) → field (codes "encoding") headers ≡ o → encoding_field headers ≡ None
+    unfolding encoding_field
+    none e None f = rw f refl
+    none e (Some p) f =
+        let l = field_spelled (codes "encoding") headers p f in
+        let starts = starts_is Decides-eqb headers (codes "encoding ") (starts_with nat_eq headers (codes "encoding ")) refl in
+        absurd (false≢true (sym e ∙ starts.1 (p.0 ++ 10 ∷ p.1) (l.parts ∙ front_of p.0 p.1)))
+
+    by : (t : Bool) → starts_with nat_eq headers (codes "encoding ") ≡ t → encoding_field headers ≡ cond t (unless_empty (parts_at 10 (drop 9 headers)).0) None
+    by true e = ap encoding_field ((starts_is Decides-eqb headers (codes "encoding ") (starts_with nat_eq headers (codes "encoding ")) refl).0 e) ∙ after (drop 9 headers)
+    by false e = none e (field (codes "encoding") headers) refl
 
 -- ---- the whole body
 
-text_flat : (t : CommitText) → text_lines t ≡ line (codes "author") t.author ++ (line (codes "committer") t.committer ++ (optional_line (codes "encoding") t.encoding ++ (10 ∷ t.message)))
+text_flat : (t : CommitText) → text_lines t ≡ line (codes "author") t.author ++ (line (codes "committer") t.committer ++ (t.headers ++ (10 ∷ t.message)))
 text_flat t =
     let author = line (codes "author") t.author in
     let committer = line (codes "committer") t.committer in
-    let encoding = optional_line (codes "encoding") t.encoding in
-    append_assoc (author ++ committer) encoding (10 ∷ t.message) ∙ append_assoc author committer (encoding ++ (10 ∷ t.message))
+    append_assoc (author ++ committer) t.headers (10 ∷ t.message) ∙ append_assoc author committer (t.headers ++ (10 ∷ t.message))
 
 commit_flat : (p : CommitParts) → commit_text p ≡ line (codes "tree") (hex p.tree) ++ (parent_lines p.parents ++ text_lines p.text)
 commit_flat p = append_assoc (line (codes "tree") (hex p.tree)) (parent_lines p.parents) (text_lines p.text)
@@ -67,23 +72,22 @@ commit_takes body p e =
     let tree = bind_some (name_field (codes "tree") body) _ p e in
     let author = bind_some (ident_field (codes "author") (parents_of tree.0.1).1) _ p tree.2 in
     let committer = bind_some (ident_field (codes "committer") author.0.1) _ p author.2 in
-    let last = or_absent (encoding_field committer.0.1) committer.0.1 in
-    let message = bind_some (stripped (10 ∷ []) last.1) _ p committer.2 in
+    let tail = bind_some (tail_of committer.0.1) _ p committer.2 in
+    let message = bind_some tail.0.1 _ p tail.2 in
     let n = name_spelled (codes "tree") body tree.0 tree.1 in
     let ps = parents_spelled tree.0.1 in
     let a = ident_spelled (codes "author") (parents_of tree.0.1).1 author.0 author.1 in
     let c = ident_spelled (codes "committer") author.0.1 committer.0 committer.1 in
-    let o = encoding_spelled committer.0.1 in
-    let m = stripped_spelled (10 ∷ []) last.1 message.0 message.1 in
-    let text : CommitText = record { author = author.0.0; committer = committer.0.0; encoding = last.0; message = message.0 } in
+    let t = tail_spelled true committer.0.1 tail.0 tail.1 in
+    let text : CommitText = record { author = author.0.0; committer = committer.0.0; headers = tail.0.0; message = message.0 } in
     let made : CommitParts = record { tree = tree.0.0; parents = (parents_of tree.0.1).0; text = text } in
     let is : made ≡ p = cc in
-    let ending : committer.0.1 ≡ optional_line (codes "encoding") last.0 ++ (10 ∷ message.0) = o.parts ∙ ap (λ r. optional_line (codes "encoding") last.0 ++ r) m in
+    let ending : committer.0.1 ≡ tail.0.0 ++ (10 ∷ message.0) = t.parts ∙ ap (λ m. tail.0.0 ++ message_text m) message.1 in
     let lines : (parents_of tree.0.1).1 ≡ text_lines text =
     a.parts ∙ ap (λ r. line (codes "author") author.0.0 ++ r) (c.parts ∙ ap (λ r. line (codes "committer") committer.0.0 ++ r) ending) ∙ sym (text_flat text) in
     let whole : body ≡ commit_text made =
     n.parts ∙ ap (λ r. line (codes "tree") (hex tree.0.0) ++ r) (ps.parts ∙ ap (λ r. parent_lines made.parents ++ r) lines) ∙ sym (commit_flat made) in
-    subst (λ (q : CommitParts). IsCommitText q body) is (whole, n.name, ps.names, and_from _ _ (and_from _ _ a.ident c.ident) o.proper)
+    subst (λ (q : CommitParts). IsCommitText q body) is (whole, n.name, ps.names, and_from _ _ (and_from _ _ a.ident c.ident) t.lines)
 
 no_parent : (t : CommitText) → name_field (codes "parent") (text_lines t) ≡ None
 unfolding name_field field stripped
@@ -95,7 +99,7 @@ commit_again body p h =
     let t = p.text in
     let idents = and_parts (is_ident t.author && is_ident t.committer) _ h.3 in
     let ident = and_parts (is_ident t.author) _ idents.0 in
-    let ending = optional_line (codes "encoding") t.encoding ++ (10 ∷ t.message) in
+    let ending = t.headers ++ (10 ∷ t.message) in
     let later = line (codes "committer") t.committer ++ ending in
     let start = h.0 ∙ commit_flat p in
     let author : ident_field (codes "author") (text_lines t) ≡ Some (t.author, later) = ap (ident_field (codes "author")) (text_flat t) ∙ ident_again (codes "author") t.author later ident.0 in
@@ -105,8 +109,7 @@ commit_again body p h =
       parents_again p.parents (text_lines t) h.2 (no_parent t),
       author,
       ident_again (codes "committer") t.committer ending ident.1,
-      encoding_again t.encoding t.message idents.1,
-      stripped_again (10 ∷ []) t.message,
+      tail_again true t.headers (Some t.message) idents.1,
     ) refl
 
 pub commit_found : {E : Type 0} (body : Bytes) (r : Result CommitParts E) → commit_parts_of body ≡ result_ok r → IfOk r (λ p. IsCommitText p body)

@@ -1,17 +1,16 @@
--- Further headers and a message: what is read stands there, and what stands there is read.
+-- Headers and a message: what is read stands there, and what stands there is read.
 use Rattle.std.proofs.Common.{◌≡◌, ℕ, ◌-◌, ◌<◌, ◌⊎◌, inl, inr, Bool, true, false, cond, not, [], ◌∷◌, ◌++◌, length, take, Option, None, Some, refl, sym, ap, subst, ◌∙◌, arith, append_assoc, append-nil, length-append}
 use Rattle.std.specs.Prelude.{codes, nat_eq, ◌&&◌}
 use Rattle.std.specs.Option.{option_map}
-use Rattle.std.proofs.lemmas.Bool.{and_from, and_parts, eqb-true, false≢true, ne_eqb, not-true, not_from_false}
+use Rattle.std.proofs.lemmas.Bool.{and_from, and_parts, eqb-true, false≢true, not-true, not_from_false}
 use Rattle.std.proofs.lemmas.List.{take_at}
 use Rattle.gx_model.specs.Texts.{Bytes, cut_at, is_line}
-use Rattle.gx_model.specs.Histories.Values.{is_optional_encoding, is_optional_line}
+use Rattle.gx_model.specs.Texts.Headers.{are_lines}
+use Rattle.gx_model.specs.Histories.Values.{is_optional_line}
 use Rattle.gx_model.specs.Objects.{line, optional_line}
 use Rattle.gx_model.proofs.Texts.Cuts.{cut_spelled, map_some}
-use Rattle.gx_wide.specs.WideTexts.{IsEncodingApart, IsTaggerApart, are_lines, message_text, tail_from, tail_of, with_byte}
+use Rattle.gx_wide.specs.WideTexts.{IsTaggerApart, message_text, tail_from, tail_of, with_byte}
 use Rattle.gx_object.specs.Lines.{field, or_absent}
-use Rattle.gx_object.specs.Commits.{encoding_field}
-use Rattle.gx_object.proofs.Commits.{HasOptional, encoding_spelled}
 use Rattle.gx_object.proofs.Fields.{cut_line, field_again, field_spelled}
 
 -- ---- headers and a message
@@ -99,49 +98,6 @@ line_ahead word x r = simp append_assoc
 no_message_word : (b : ℕ) (w r : Bytes) (m : Option Bytes) → nat_eq b 10 ≡ false → message_text m ≡ b ∷ (w ++ (10 ∷ r)) → ⊥
 no_message_word b w r None h e = cc
 no_message_word b w r (Some m) h e = let same : 10 ≡ b = cc in false≢true (sym h ∙ ap (λ x. nat_eq x 10) (sym same))
-
--- ---- encodings
-
-encoding_read : (x r : Bytes) → is_optional_encoding (Some x) ≡ true → encoding_field (line (codes "encoding") x ++ r) ≡ Some (x, r)
-unfolding encoding_field
-encoding_read [] r h = absurd (false≢true h)
-encoding_read (b ∷ x) r h = rw (field_again (codes "encoding") (b ∷ x) r h, ne_eqb (length (b ∷ x)) 0 (λ e. omega arith)) refl
-
--- where no encoding is read, none stands first among the headers
-pub encoding_apart : (o : Option (Bytes × Bytes)) (bytes : Bytes) (t : Bytes × Option Bytes) → encoding_field bytes ≡ o → HasTail true (or_absent o bytes).1 t
-    → IsEncodingApart (or_absent o bytes).0 t.0
-encoding_apart (Some q) bytes t e h = tt
-encoding_apart None bytes t e h = λ x rest is first.
-    let whole : bytes ≡ line (codes "encoding") x ++ (rest ++ message_text t.1) =
-    h.parts ∙ ap (λ y. y ++ message_text t.1) first ∙ append_assoc (line (codes "encoding") x) rest (message_text t.1) in
-    let read = ap encoding_field whole ∙ encoding_read x (rest ++ message_text t.1) is in
-    cc
-
-encoding_line : (x : Bytes) → is_optional_encoding (Some x) ≡ true → is_line (codes "encoding" ++ 32 ∷ x) ≡ true
-encoding_line [] h = absurd (false≢true h)
-encoding_line (b ∷ x) h = h
-
--- where none stands first among the headers, none is read
-encoding_none : (h : Bytes) (m : Option Bytes) → are_lines true h ≡ true → IsEncodingApart None h → encoding_field (h ++ message_text m) ≡ None
-encoding_none h m lines apart = by (encoding_field (h ++ message_text m)) refl (encoding_spelled (h ++ message_text m))
-  where
-    by : (o : Option (Bytes × Bytes)) → encoding_field (h ++ message_text m) ≡ o
-        → HasOptional is_optional_encoding (codes "encoding") (h ++ message_text m) (or_absent (encoding_field (h ++ message_text m)) (h ++ message_text m)) → encoding_field (h ++ message_text m) ≡ None
-    by None e k = e
-    by (Some q) e k =
-        let found = subst (λ o. HasOptional is_optional_encoding (codes "encoding") (h ++ message_text m) (or_absent o (h ++ message_text m))) e k in
-        let whole : h ++ message_text m ≡ (codes "encoding" ++ 32 ∷ q.0) ++ (10 ∷ q.1) = found.parts ∙ line_ahead (codes "encoding") q.0 q.1 in
-        elim (lines_front true h (message_text m) (codes "encoding" ++ 32 ∷ q.0) q.1 lines (encoding_line q.0 found.proper) whole) [
-          | inl none ↦
-              let alone : message_text m ≡ (codes "encoding" ++ 32 ∷ q.0) ++ (10 ∷ q.1) = ap (λ y. y ++ message_text m) (sym none) ∙ whole in
-              absurd (no_message_word 101 (codes "ncoding" ++ 32 ∷ q.0) q.1 m refl alone)
-          | inr first ↦ absurd (apart q.0 first.0 found.proper (first.1 ∙ sym (line_ahead (codes "encoding") q.0 first.0)))
-        ]
-
-pub encoding_again : (o : Option Bytes) (h : Bytes) (m : Option Bytes) → is_optional_encoding o ≡ true → are_lines true h ≡ true → IsEncodingApart o h
-    → or_absent (encoding_field (optional_line (codes "encoding") o ++ (h ++ message_text m))) (optional_line (codes "encoding") o ++ (h ++ message_text m)) ≡ (o, h ++ message_text m)
-encoding_again None h m is lines apart = ap (λ o. or_absent o (h ++ message_text m)) (encoding_none h m lines apart)
-encoding_again (Some x) h m is lines apart = ap (λ o. or_absent o (line (codes "encoding") x ++ (h ++ message_text m))) (encoding_read x (h ++ message_text m) is)
 
 -- ---- taggers
 

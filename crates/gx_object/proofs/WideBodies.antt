@@ -12,22 +12,17 @@ use Rattle.gx_model.specs.Objects.{hex, line, optional_line}
 use Rattle.gx_model.specs.Objects.Naming.{kind_word}
 use Rattle.gx_wide.specs.WideTexts.{HasWideForm, HasWideTagForm, IsWideCommitText, IsWideTagText, WideCommitParts, WideTagParts, WideText, kind_of_word, message_text, tail_of, wide_commit_text, wide_tag_text, wide_text_lines}
 use Rattle.gx_object.specs.Lines.{field, name_field, or_absent, stripped}
-use Rattle.gx_object.specs.Commits.{encoding_field, parent_lines, parents_of}
+use Rattle.gx_object.specs.Commits.{parent_lines, parents_of}
 use Rattle.gx_object.specs.WideBodies.{any_commit_of, any_tag_of, kind_field}
-use Rattle.gx_object.proofs.Commits.{encoding_spelled}
 use Rattle.gx_object.proofs.Fields.{bind_some, field_spelled, field_again, name_spelled, name_field_again}
 use Rattle.gx_object.proofs.Parents.{parents_spelled, parents_again}
-use Rattle.gx_object.proofs.Tails.{encoding_again, encoding_apart, tagger_again, tagger_apart, tail_again, tail_spelled}
+use Rattle.gx_object.proofs.Tails.{tagger_again, tagger_apart, tail_again, tail_spelled}
 
 -- ---- commits
 
 text_flat : (t : WideText) → wide_text_lines t
-    ≡ line (codes "author") t.author ++ (line (codes "committer") t.committer ++ (optional_line (codes "encoding") t.encoding ++ (t.further ++ message_text t.message)))
-text_flat t =
-    let author = line (codes "author") t.author in
-    let committer = line (codes "committer") t.committer in
-    let encoding = optional_line (codes "encoding") t.encoding in
-    append_assoc (author ++ committer) encoding (t.further ++ message_text t.message) ∙ append_assoc author committer (encoding ++ (t.further ++ message_text t.message))
+    ≡ line (codes "author") t.author ++ (line (codes "committer") t.committer ++ (t.headers ++ message_text t.message))
+text_flat t = append_assoc (line (codes "author") t.author) (line (codes "committer") t.committer) (t.headers ++ message_text t.message)
 
 commit_flat : (p : WideCommitParts) → wide_commit_text p ≡ line (codes "tree") (hex p.tree) ++ (parent_lines p.parents ++ wide_text_lines p.text)
 commit_flat p = append_assoc (line (codes "tree") (hex p.tree)) (parent_lines p.parents) (wide_text_lines p.text)
@@ -38,30 +33,20 @@ commit_takes body p e =
     let tree = bind_some (name_field (codes "tree") body) _ p e in
     let author = bind_some (field (codes "author") (parents_of tree.0.1).1) _ p tree.2 in
     let committer = bind_some (field (codes "committer") author.0.1) _ p author.2 in
-    let last = or_absent (encoding_field committer.0.1) committer.0.1 in
-    let tail = bind_some (tail_of last.1) _ p committer.2 in
+    let tail = bind_some (tail_of committer.0.1) _ p committer.2 in
     let n = name_spelled (codes "tree") body tree.0 tree.1 in
     let ps = parents_spelled tree.0.1 in
     let a = field_spelled (codes "author") (parents_of tree.0.1).1 author.0 author.1 in
     let c = field_spelled (codes "committer") author.0.1 committer.0 committer.1 in
-    let o = encoding_spelled committer.0.1 in
-    let t = tail_spelled true last.1 tail.0 tail.1 in
-    let text : WideText = record { author = author.0.0; committer = committer.0.0; encoding = last.0; further = tail.0.0; message = tail.0.1 } in
+    let t = tail_spelled true committer.0.1 tail.0 tail.1 in
+    let text : WideText = record { author = author.0.0; committer = committer.0.0; headers = tail.0.0; message = tail.0.1 } in
     let made : WideCommitParts = record { tree = tree.0.0; parents = (parents_of tree.0.1).0; text = text } in
     let is : made ≡ p = cc in
-    let end = tail.0.0 ++ message_text tail.0.1 in
-    let ending : committer.0.1 ≡ optional_line (codes "encoding") last.0 ++ end = o.parts ∙ ap (λ r. optional_line (codes "encoding") last.0 ++ r) t.parts in
     let lines : (parents_of tree.0.1).1 ≡ wide_text_lines text =
-    a.parts ∙ ap (λ r. line (codes "author") author.0.0 ++ r) (c.parts ∙ ap (λ r. line (codes "committer") committer.0.0 ++ r) ending) ∙ sym (text_flat text) in
+    a.parts ∙ ap (λ r. line (codes "author") author.0.0 ++ r) (c.parts ∙ ap (λ r. line (codes "committer") committer.0.0 ++ r) t.parts) ∙ sym (text_flat text) in
     let whole : body ≡ wide_commit_text made =
     n.parts ∙ ap (λ r. line (codes "tree") (hex tree.0.0) ++ r) (ps.parts ∙ ap (λ r. parent_lines made.parents ++ r) lines) ∙ sym (commit_flat made) in
-    let form : HasWideForm text = record {
-      author = a.rest;
-      committer = c.rest;
-      encoding = o.proper;
-      further = t.lines;
-      apart = encoding_apart (encoding_field committer.0.1) committer.0.1 tail.0 refl t;
-    } in
+    let form : HasWideForm text = record { author = a.rest; committer = c.rest; headers = t.lines } in
     subst (λ (q : WideCommitParts). IsWideCommitText q body) is (whole, n.name, ps.names, form)
 
 no_parent : (t : WideText) → name_field (codes "parent") (wide_text_lines t) ≡ None
@@ -73,18 +58,16 @@ unfolding any_commit_of
 commit_again body p h =
     let t = p.text in
     let form = h.3 in
-    let end = t.further ++ message_text t.message in
-    let coded = optional_line (codes "encoding") t.encoding ++ end in
-    let later = line (codes "committer") t.committer ++ coded in
+    let end = t.headers ++ message_text t.message in
+    let later = line (codes "committer") t.committer ++ end in
     let author : field (codes "author") (wide_text_lines t) ≡ Some (t.author, later) = ap (field (codes "author")) (text_flat t) ∙ field_again (codes "author") t.author later form.author in
     ap any_commit_of (h.0 ∙ commit_flat p)
     ∙ rw (
       name_field_again (codes "tree") p.tree (parent_lines p.parents ++ wide_text_lines t) h.1,
       parents_again p.parents (wide_text_lines t) h.2 (no_parent t),
       author,
-      field_again (codes "committer") t.committer coded form.committer,
-      encoding_again t.encoding t.further t.message form.encoding form.further form.apart,
-      tail_again true t.further t.message form.further,
+      field_again (codes "committer") t.committer end form.committer,
+      tail_again true t.headers t.message form.headers,
     ) refl
 
 pub commit_found : {X E : Type 0} (view : X → WideCommitParts) (body : Bytes) (o : Option X) (r : Result X E) → o ≡ result_ok r → option_map view o ≡ any_commit_of body

@@ -4,7 +4,8 @@ use Rattle.std.specs.List.{flat_map, list_all}
 use Rattle.std.specs.Option.{option_map}
 use Rattle.gx_model.specs.Texts.{Bytes}
 use Rattle.gx_model.specs.Objects.{CommitParts, hex, is_name, line}
-use Rattle.gx_object.specs.Lines.{◌>>=◌, field, ident_field, name_field, or_absent, stripped}
+use Rattle.gx_wide.specs.WideTexts.{tail_of}
+use Rattle.gx_object.specs.Lines.{◌>>=◌, field, ident_field, name_field}
 use Rattle.gx_object.specs.declared.name.Name.{Name}
 
 -- the lines of the parents
@@ -39,24 +40,21 @@ pub record AreParents (bytes : Bytes) : Type 0 where
   pub lines : bytes ≡ parent_lines (parents_of bytes).0
   pub names : IsTrue (list_all is_name (parents_of bytes).0)
 
--- a line with an encoding, which isn't empty
-unfoldable pub encoding_field : Bytes → Option (Bytes × Bytes)
-encoding_field bytes = do
-  a ← field (codes "encoding") bytes
-  if nat_eq (length a.0) 0 then None else Some a
-
--- the encoding, where a line at the front has one, and what follows it
-abbrev pub encoding_and_rest : Bytes → Option Bytes × Bytes
-encoding_and_rest bytes = or_absent (encoding_field bytes) bytes
+-- the encoding that a line at the front has, which isn't empty
+unfoldable pub encoding_field : Bytes → Option Bytes
+encoding_field headers = do
+  a ← field (codes "encoding") headers
+  if nat_eq (length a.0) 0 then None else Some a.0
 
 unfoldable pub commit_parts_of : Bytes → Option CommitParts
 commit_parts_of body = do
   tree ← name_field (codes "tree") body
   author ← ident_field (codes "author") (parents_of tree.1).1
   committer ← ident_field (codes "committer") author.1
-  message ← stripped (10 ∷ []) (encoding_and_rest committer.1).1
+  tail ← tail_of committer.1
+  message ← tail.1
   Some (record {
     tree = tree.0;
     parents = (parents_of tree.1).0;
-    text = record { author = author.0; committer = committer.0; encoding = (encoding_and_rest committer.1).0; message = message };
+    text = record { author = author.0; committer = committer.0; headers = tail.0; message = message };
   })

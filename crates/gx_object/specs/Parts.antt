@@ -1,9 +1,10 @@
 -- The parts of commits and tags without where they lie in memory.
-use Rattle.std.specs.Prelude.{◌≡◌, Option, Result, IsOkAnd}
+use Rattle.std.specs.Prelude.{◌≡◌, ◌++◌, Option, Result, IsOkAnd}
 use Rattle.std.specs.Borrow.{Bor}
 use Rattle.std.specs.Option.{option_copied, option_map}
 use Rattle.gx_model.specs.Objects.{CommitParts, TagParts}
 use Rattle.gx_model.specs.Texts.{Bytes}
+use Rattle.gx_model.specs.Texts.Headers.{encoding_header}
 use Rattle.gx_text.specs.Idents.{ident_bytes}
 use Rattle.gx_object.specs.Commits.{bytes_of_names, parents_of}
 use Rattle.gx_object.specs.declared.name.Name.{Name}
@@ -25,7 +26,7 @@ commit_parts p = record {
   text = record {
     author = ident_bytes p.author;
     committer = ident_bytes p.committer;
-    encoding = option_copied p.encoding;
+    headers = encoding_header (option_copied p.encoding) ++ p.further.now;
     message = p.message.now;
   };
 }
@@ -34,14 +35,14 @@ abbrev pub tag_parts : GivenTag → TagParts
 tag_parts p = record { object = p.object.bytes; name = p.name.now; tagger = option_map ident_bytes p.tagger; message = p.message.now }
 
 -- what a commit's body was cut into, where the parents' lines stand uncut
-abbrev pub shown_commit : Name → Bor Bytes → Bor Bytes → Bor Bytes → Option (Bor Bytes) → Bor Bytes → CommitParts
-shown_commit tree parents author committer encoding message = record {
+abbrev pub shown_commit : Name → Bor Bytes → Bor Bytes → Bor Bytes → Bor Bytes → Bor Bytes → CommitParts
+shown_commit tree parents author committer headers message = record {
   tree = tree.bytes;
   parents = (parents_of parents.now).0;
   text = record {
     author = author.now;
     committer = committer.now;
-    encoding = option_copied encoding;
+    headers = headers.now;
     message = message.now;
   };
 }

@@ -5,7 +5,7 @@ use Rattle.gx_model.specs.declared.objects.Kind.{Kind}
 use Rattle.gx_model.specs.Texts.{Bytes}
 use Rattle.gx_wide.specs.WideTexts.{WideCommitParts, WideTagParts, kind_of_word, tail_of}
 use Rattle.gx_object.specs.Lines.{◌>>=◌, field, name_field, or_absent}
-use Rattle.gx_object.specs.Commits.{bytes_of_names, encoding_and_rest, parents_of}
+use Rattle.gx_object.specs.Commits.{bytes_of_names, parents_of}
 use Rattle.gx_object.specs.declared.any_commit.AnyCommit.{AnyCommit}
 use Rattle.gx_object.specs.declared.any_commit.AnyCommitParts.{AnyCommitParts}
 use Rattle.gx_object.specs.declared.any_tag.AnyTag.{AnyTag}
@@ -15,11 +15,11 @@ any_commit_of body = do
   tree ← name_field (codes "tree") body
   author ← field (codes "author") (parents_of tree.1).1
   committer ← field (codes "committer") author.1
-  tail ← tail_of (encoding_and_rest committer.1).1
+  tail ← tail_of committer.1
   Some (record {
     tree = tree.0;
     parents = (parents_of tree.1).0;
-    text = record { author = author.0; committer = committer.0; encoding = (encoding_and_rest committer.1).0; further = tail.0; message = tail.1 };
+    text = record { author = author.0; committer = committer.0; headers = tail.0; message = tail.1 };
   })
 
 -- the kind that a tag tells of its object, and what follows the line
@@ -47,7 +47,7 @@ abbrev pub shown_any_commit : AnyCommit → WideCommitParts
 shown_any_commit c = record {
   tree = c.tree.bytes;
   parents = c.parents;
-  text = record { author = c.author.now; committer = c.committer.now; encoding = option_copied c.encoding; further = c.further.now; message = option_copied c.message };
+  text = record { author = c.author.now; committer = c.committer.now; headers = c.headers.now; message = option_copied c.message };
 }
 
 abbrev pub given_any_commit : AnyCommitParts → WideCommitParts
@@ -57,8 +57,7 @@ given_any_commit p = record {
   text = record {
     author = p.author.now;
     committer = p.committer.now;
-    encoding = option_copied p.encoding;
-    further = p.further.now;
+    headers = p.headers.now;
     message = option_copied p.message;
   };
 }

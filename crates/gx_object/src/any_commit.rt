@@ -1,4 +1,4 @@
-//! The bodies of all commits that Git has: with any further headers, and with a message or none.
+//! The bodies of all commits that Git has: by anybody that a line can name, and with a message or none.
 //! Source: gitglossary(7), "commit object", and gitformat-signature(5).
 
 ghost use Rattle.std.specs.Prelude.{◌≡◌, length, slice_get, IfOk, List};
@@ -6,8 +6,8 @@ ghost use Rattle.std.specs.Option.{option_map};
 ghost use Rattle.gx_wide.specs.WideTexts.{HasWideForm, IsWideCommitText};
 ghost use Rattle.gx_object.specs.WideBodies.{Reads, any_commit_of, given_any_commit, shown_any_commit};
 
-use crate::commit::{PARENT_LINE, append_parents, parent_at, split_encoding, split_parents};
-use crate::line::{append_line, append_optional_line, cut_line, cut_name};
+use crate::commit::{PARENT_LINE, append_parents, parent_at, split_parents};
+use crate::line::{append_line, cut_line, cut_name};
 use crate::tail::{append_message, split_tail};
 use crate::{BadObject, Name};
 use std::alloc::{AllocError, Allocator};
@@ -22,9 +22,8 @@ pub struct AnyCommitParts<'a> {
     pub author: &'a [u8],
     /// Who committed it and when, by any line.
     pub committer: &'a [u8],
-    pub encoding: Option<&'a [u8]>,
     /// Lines that aren't empty, each with its line feed.
-    pub further: &'a [u8],
+    pub headers: &'a [u8],
     pub message: Option<&'a [u8]>,
 }
 
@@ -41,8 +40,7 @@ pub fn encode_any_commit<A: Allocator + Copy>(
     append_parents(&mut body, parts.parents)?;
     append_line(&mut body, b"author", parts.author)?;
     append_line(&mut body, b"committer", parts.committer)?;
-    append_optional_line(&mut body, b"encoding", parts.encoding)?;
-    body.extend_from_slice(parts.further)?;
+    body.extend_from_slice(parts.headers)?;
     append_message(&mut body, parts.message)?;
     Ok(body)
 }
@@ -88,8 +86,7 @@ pub struct AnyCommit<'a> {
     pub parents: ParentNames<'a>,
     pub author: &'a [u8],
     pub committer: &'a [u8],
-    pub encoding: Option<&'a [u8]>,
-    pub further: &'a [u8],
+    pub headers: &'a [u8],
     pub message: Option<&'a [u8]>,
 }
 
@@ -111,15 +108,13 @@ fn read_any_commit(body: &[u8]) -> Option<AnyCommit<'_>>
     let (lines, rest) = split_parents(rest);
     let (author, rest) = cut_line(rest, b"author")?;
     let (committer, rest) = cut_line(rest, b"committer")?;
-    let (encoding, rest) = split_encoding(rest);
-    let (further, message) = split_tail(rest)?;
+    let (headers, message) = split_tail(rest)?;
     Some(AnyCommit {
         tree,
         parents: ParentNames { lines },
         author,
         committer,
-        encoding,
-        further,
+        headers,
         message,
     })
 }

@@ -2,27 +2,31 @@
 
 ghost use Rattle.std.specs.Prelude.{◌≡◌, length, slice_get, IsTrue, IfOk, OnOk};
 ghost use Rattle.std.specs.List.{list_all};
-ghost use Rattle.std.specs.Option.{option_copied, option_map};
-ghost use Rattle.gx_model.specs.Histories.Values.{is_optional_encoding};
+ghost use Rattle.std.specs.Option.{option_map};
 ghost use Rattle.gx_model.specs.Objects.{IsCommitText, is_name};
+ghost use Rattle.gx_model.specs.Texts.Headers.{encoding_in, is_headers};
 ghost use Rattle.gx_text.specs.Buffers.{GrowsBy};
-ghost use Rattle.gx_object.specs.Commits.{FindsParent, bytes_of_names, commit_parts_of, encoding_and_rest, encoding_field, parent_lines, parents_of};
+ghost use Rattle.gx_object.specs.Commits.{FindsParent, bytes_of_names, commit_parts_of, encoding_field, parent_lines, parents_of};
 ghost use Rattle.gx_object.specs.Parts.{FindsEach, commit_parts};
 
-use crate::line::{append_line, append_optional_line, cut_ident, cut_line, cut_name, strip};
+use crate::line::{append_line, append_optional_line, cut_ident, cut_line, cut_name};
+use crate::tail::split_tail;
 use crate::{BadObject, Name};
 use gx_text::Ident;
 use std::alloc::{AllocError, Allocator};
 use std::marker::Model;
 
-/// The parts of a commit, to be encoded. Where there is an encoding, it is not empty and holds no line feed.
+/// The parts of a commit, to be encoded. Its headers are the line of the encoding, where there is one, and further ones.
 #[derive(Clone, Copy)]
 pub struct CommitParts<'a> {
     pub tree: Name,
     pub parents: &'a [Name],
     pub author: Ident<'a>,
     pub committer: Ident<'a>,
+    /// Not empty, and without a line feed.
     pub encoding: Option<&'a [u8]>,
+    /// Lines that aren't empty, each with its line feed.
+    pub further: &'a [u8],
     pub message: &'a [u8],
 }
 
@@ -31,7 +35,7 @@ pub fn encode_commit<A: Allocator + Copy>(
     alloc: A,
     parts: &CommitParts<'_>,
 ) -> Result<Vec<u8, A>, AllocError>
-    requires { IsTrue (is_optional_encoding (commit_parts parts.now).text.encoding) }
+    requires { IsTrue (is_headers (commit_parts parts.now).text.headers) }
     ensures { IfOk result (λ body. IsCommitText (commit_parts parts.now) body.items) }
 {
     let mut body = Vec::new(alloc);
@@ -40,6 +44,7 @@ pub fn encode_commit<A: Allocator + Copy>(
     append_line(&mut body, b"author", parts.author.bytes())?;
     append_line(&mut body, b"committer", parts.committer.bytes())?;
     append_optional_line(&mut body, b"encoding", parts.encoding)?;
+    body.extend_from_slice(parts.further)?;
     body.push(b'\n')?;
     body.extend_from_slice(parts.message)?;
     Ok(body)
@@ -61,14 +66,14 @@ pub(crate) fn append_parents<A: Allocator + Copy>(
 /// The length of a parent's line: a word, a space, 40 digits and a line feed.
 pub(crate) const PARENT_LINE: usize = 48;
 
-/// A commit's body, seen as its parts. Its readers take no memory, and each costs the same for every body.
+/// A commit's body, seen as its parts. Its readers take no memory, and each costs the same for every body, but for `encoding`.
 #[derive(Drop)]
 pub struct CommitView<'a> {
     tree: Name,
     parents: &'a [u8],
     author: &'a [u8],
     committer: &'a [u8],
-    encoding: Option<&'a [u8]>,
+    headers: &'a [u8],
     message: &'a [u8],
 }
 
@@ -79,7 +84,7 @@ impl<'a> Model for CommitView<'a> {
 
     ghost Value = { CommitParts };
 
-    ghost view = { λ v. shown_commit v.tree v.parents v.author v.committer v.encoding v.message };
+    ghost view = { λ v. shown_commit v.tree v.parents v.author v.committer v.headers v.message };
 
     ghost invariant = { λ v. AreParents v.parents.now };
 }
@@ -120,11 +125,19 @@ impl<'a> CommitView<'a> {
         self.committer
     }
 
-    /// The encoding of the message, where it is told.
-    pub fn encoding(&self) -> Option<&'a [u8]>
-        ensures { option_map (λ e. e.now) result ≡ self.now.text.encoding }
+    /// The header lines between the committer and the message, each with its line feed. Source: gitformat-signature(5).
+    pub fn headers(&self) -> &'a [u8]
+        ensures { result.now ≡ self.now.text.headers }
     {
-        self.encoding
+        self.headers
+    }
+
+    /// The encoding of the message, where the first header tells one. Cost: that header's length. Source: git-commit(1),
+    /// "Discussion".
+    pub fn encoding(&self) -> Option<&'a [u8]>
+        ensures { option_map (λ e. e.now) result ≡ encoding_in self.now.text.headers }
+    {
+        cut_encoding(self.headers)
     }
 
     /// The message.
@@ -153,14 +166,14 @@ fn read_commit(body: &[u8]) -> Option<CommitView<'_>>
     let (parents, rest) = split_parents(rest);
     let (author, rest) = cut_ident(rest, b"author")?;
     let (committer, rest) = cut_ident(rest, b"committer")?;
-    let (encoding, rest) = split_encoding(rest);
-    let message = strip(rest, b"\n")?;
+    let (headers, end) = split_tail(rest)?;
+    let message = end?;
     Some(CommitView {
         tree,
         parents,
         author,
         committer,
-        encoding,
+        headers,
         message,
     })
 }
@@ -178,26 +191,16 @@ pub(crate) fn split_parents(bytes: &[u8]) -> (&[u8], &[u8])
     (&bytes[..bytes.len() - rest.len()], rest)
 }
 
-/// What the line of an encoding has, where there is one, and what follows.
-pub(crate) fn split_encoding(bytes: &[u8]) -> (Option<&[u8]>, &[u8])
-    ensures text { option_copied result.0 ≡ (encoding_and_rest bytes.now).0 }
-    ensures rest { result.1.now ≡ (encoding_and_rest bytes.now).1 }
-{
-    match cut_encoding(bytes) {
-        Some((encoding, rest)) => (Some(encoding), rest),
-        None => (None, bytes),
-    }
-}
-
+/// What a line of an encoding has at the front of headers.
 #[tactic(auto, unfolding(crate::specs::Commits::encoding_field))]
-fn cut_encoding(bytes: &[u8]) -> Option<(&[u8], &[u8])>
-    ensures { option_map (λ p. (p.0.now, p.1.now)) result ≡ encoding_field bytes.now }
+fn cut_encoding(headers: &[u8]) -> Option<&[u8]>
+    ensures { option_map (λ e. e.now) result ≡ encoding_field headers.now }
 {
-    let (encoding, rest) = cut_line(bytes, b"encoding")?;
+    let (encoding, _rest) = cut_line(headers, b"encoding")?;
     if encoding.is_empty() {
         None
     } else {
-        Some((encoding, rest))
+        Some(encoding)
     }
 }
 

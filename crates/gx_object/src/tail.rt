@@ -1,4 +1,4 @@
-//! What stands in a commit's or a tag's body behind the headers that Git reads itself. Source: gitformat-signature(5).
+//! What stands in a commit's body behind its committer, and in a tag's behind its tagger. Source: gitformat-signature(5).
 
 ghost use Rattle.std.specs.Prelude.{◌≡◌};
 ghost use Rattle.std.specs.Option.{option_copied, option_map};
@@ -8,7 +8,7 @@ ghost use Rattle.gx_wide.specs.WideTexts.{message_text, tail_of};
 use gx_text::cut;
 use std::alloc::{AllocError, Allocator};
 
-/// The further headers and the message, where there is one. Nothing where the last header has no end.
+/// The headers and the message, where there is one. Nothing where the last header has no end.
 pub(crate) fn split_tail(bytes: &[u8]) -> Option<(&[u8], Option<&[u8]>)>
     ensures { option_map (λ p. (p.0.now, option_copied p.1)) result ≡ tail_of bytes.now }
 {

@@ -1,6 +1,10 @@
 //! Commits with further headers, as Git has them. The bodies are those of gitformat-signature(5), shortened.
 
-use gx_object::{AnyCommitParts, Name, decode_any_commit, decode_commit, encode_any_commit};
+use gx_object::{
+    AnyCommitParts, CommitParts, Name, decode_any_commit, decode_commit, encode_any_commit,
+    encode_commit,
+};
+use gx_text::Ident;
 use std::alloc::Global;
 use std::test::Fail;
 
@@ -30,8 +34,7 @@ fn body_of(alloc: Global, ends: &[&[u8]]) -> Vec<u8> {
 fn has(
     alloc: Global,
     ends: &[&[u8]],
-    encoding: Option<&[u8]>,
-    further: &[u8],
+    headers: &[u8],
     message: Option<&[u8]>,
 ) -> bool {
     let body = body_of(alloc, ends);
@@ -46,8 +49,7 @@ fn has(
         parents: &[parent],
         author: commit.author,
         committer: commit.committer,
-        encoding: commit.encoding,
-        further: commit.further,
+        headers: commit.headers,
         message: commit.message,
     };
     let Ok(again) = encode_any_commit(alloc, &parts) else {
@@ -56,8 +58,7 @@ fn has(
     commit.parents.len() == 1
         && commit.tree == Name { bytes: [31; 20] }
         && commit.committer == b"nobody".as_slice()
-        && commit.encoding == encoding
-        && commit.further == further
+        && commit.headers == headers
         && commit.message == message
         && again.as_slice() == body.as_slice()
 }
@@ -74,46 +75,120 @@ fn signature_is_kept(rt: HostRuntime) -> Result<(), Fail> {
         has(
             alloc,
             &[SIGNATURE, b"\nsigned\n"],
-            None,
             SIGNATURE,
             Some(b"signed\n")
         )
     );
-    assert!(rt; decode_commit(&body_of(alloc, &[SIGNATURE, b"\nsigned\n"])).is_err());
     Ok(())
 }
 
 #[test]
 fn message_may_be_absent(rt: HostRuntime) -> Result<(), Fail> {
     let alloc = rt.alloc();
-    assert!(rt; has(alloc, &[], None, b"", None));
-    assert!(rt; has(alloc, &[b"\n"], None, b"", Some(b"")));
-    assert!(rt; has(alloc, &[SIGNATURE], None, SIGNATURE, None));
+    assert!(rt; has(alloc, &[], b"", None));
+    assert!(rt; has(alloc, &[b"\n"], b"", Some(b"")));
+    assert!(rt; has(alloc, &[SIGNATURE], SIGNATURE, None));
+    Ok(())
+}
+
+const IDENTITY: &[u8] = b"A U Thor <author@example.com> 1465981137 +0000";
+
+/// The body of a commit by identities, with this end.
+fn own_body_of(alloc: Global, end: &[u8]) -> Vec<u8> {
+    let mut body = Vec::new(alloc);
+    let mut fits = true;
+    for part in [
+        b"tree 1f1f1f1f1f1f1f1f1f1f1f1f1f1f1f1f1f1f1f1f\nauthor ".as_slice(),
+        IDENTITY,
+        b"\ncommitter ",
+        IDENTITY,
+        b"\n",
+        end,
+    ] {
+        fits = fits && body.extend_from_slice(part).is_ok();
+    }
+    if fits { body } else { Vec::new(alloc) }
+}
+
+/// Whether a commit by identities with this end has these headers, this encoding and this message, and whether it is encoded by
+/// them, and by its encoding and further headers.
+fn has_own(
+    alloc: Global,
+    end: &[u8],
+    headers: &[u8],
+    encoding: Option<&[u8]>,
+    further: &[u8],
+    message: &[u8],
+) -> bool {
+    let body = own_body_of(alloc, end);
+    let Ok(commit) = decode_commit(&body) else {
+        return false;
+    };
+    let Ok(author) = Ident::read(commit.author()) else {
+        return false;
+    };
+    let whole = CommitParts {
+        tree: commit.tree(),
+        parents: &[],
+        author,
+        committer: author,
+        encoding: None,
+        further: commit.headers(),
+        message: commit.message(),
+    };
+    let Ok(again) = encode_commit(alloc, &whole) else {
+        return false;
+    };
+    let cut = CommitParts {
+        encoding,
+        further,
+        ..whole
+    };
+    let Ok(once_more) = encode_commit(alloc, &cut) else {
+        return false;
+    };
+    commit.headers() == headers
+        && commit.encoding() == encoding
+        && commit.message() == message
+        && again.as_slice() == body.as_slice()
+        && once_more.as_slice() == body.as_slice()
+}
+
+#[test]
+fn first_header_tells_the_encoding(rt: HostRuntime) -> Result<(), Fail> {
+    let alloc = rt.alloc();
+    assert!(rt; has_own(alloc, b"\nm", b"", None, b"", b"m"));
+    assert!(rt;
+        has_own(
+            alloc,
+            b"encoding x\nHG:extra y\n\n\nm\n",
+            b"encoding x\nHG:extra y\n",
+            Some(b"x"),
+            b"HG:extra y\n",
+            b"\nm\n"
+        )
+    );
+    assert!(rt;
+        has_own(
+            alloc,
+            b"HG:extra y\nencoding x\n\n",
+            b"HG:extra y\nencoding x\n",
+            None,
+            b"HG:extra y\nencoding x\n",
+            b""
+        )
+    );
+    assert!(rt; has_own(alloc, b"encoding \n\n", b"encoding \n", None, b"encoding \n", b""));
+    assert!(rt; has_own(alloc, b"encodings x\n\n", b"encodings x\n", None, b"encodings x\n", b""));
     Ok(())
 }
 
 #[test]
-fn encoding_stands_before_other_headers(rt: HostRuntime) -> Result<(), Fail> {
+fn commit_without_a_message_is_none_of_the_profile(rt: HostRuntime) -> Result<(), Fail> {
     let alloc = rt.alloc();
-    assert!(rt;
-        has(
-            alloc,
-            &[b"encoding x\nHG:extra y\n\nm"],
-            Some(b"x"),
-            b"HG:extra y\n",
-            Some(b"m")
-        )
-    );
-    assert!(rt;
-        has(
-            alloc,
-            &[b"HG:extra y\nencoding x\n\n"],
-            None,
-            b"HG:extra y\nencoding x\n",
-            Some(b"")
-        )
-    );
-    assert!(rt; has(alloc, &[b"encoding \n"], None, b"encoding \n", None));
+    assert!(rt; decode_commit(&own_body_of(alloc, b"")).is_err());
+    assert!(rt; decode_commit(&own_body_of(alloc, SIGNATURE)).is_err());
+    assert!(rt; decode_commit(&own_body_of(alloc, b"gpgsig x")).is_err());
     Ok(())
 }
 

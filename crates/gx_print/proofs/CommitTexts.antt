@@ -2,7 +2,7 @@
 use Rattle.std.proofs.Common.{◌≡◌, ◌-◌, arith, sym, ap, ◌∙◌, [], ◌∷◌, ◌++◌, take, length, length-append, append_assoc, codes}
 use Rattle.std.specs.List.{flat_map}
 use Rattle.std.proofs.Math.Seq.{take-append_seam}
-use Rattle.gx_model.specs.Objects.{CommitParts, commit_text, hex, line, optional_line}
+use Rattle.gx_model.specs.Objects.{CommitParts, commit_text, hex, line}
 use Rattle.gx_model.specs.Texts.{Bytes}
 use Rattle.gx_print.specs.Logs.{head_text}
 
@@ -17,7 +17,7 @@ front_of front behind =
 pub head_and_message : (parts : CommitParts) → commit_text parts ≡ head_text parts ++ parts.text.message
 head_and_message parts =
     let front = line (codes "tree") (hex parts.tree) ++ flat_map (λ name. line (codes "parent") (hex name)) parts.parents in
-    let lines = line (codes "author") parts.text.author ++ line (codes "committer") parts.text.committer ++ optional_line (codes "encoding") parts.text.encoding in
+    let lines = line (codes "author") parts.text.author ++ line (codes "committer") parts.text.committer ++ parts.text.headers in
     let message = parts.text.message in
     sym (append_assoc front (lines ++ 10 ∷ []) message ∙ ap (λ x. front ++ x) (append_assoc lines (10 ∷ []) message))
 

@@ -65,7 +65,7 @@ abbrev pub head_text : CommitParts → Bytes
 head_text parts = commit_text (record {
   tree = parts.tree;
   parents = parts.parents;
-  text = record { author = parts.text.author; committer = parts.text.committer; encoding = parts.text.encoding; message = [] };
+  text = record { author = parts.text.author; committer = parts.text.committer; headers = parts.text.headers; message = [] };
 })
 
 -- when a commit was written, and when it was made

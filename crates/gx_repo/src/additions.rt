@@ -5,7 +5,8 @@ ghost use Rattle.gx_model.specs.Records.RecordFaults.{content_fault};
 ghost use Rattle.gx_model.specs.Texts.RefNames.{is_tag_name};
 ghost use Rattle.gx_model.specs.Records.Sound.{Holds, IsLinked, IsNamedMap, Keeps};
 ghost use Rattle.gx_model.specs.Histories.{record_for};
-ghost use Rattle.gx_model.specs.Histories.Values.{blob_value, is_optional_encoding};
+ghost use Rattle.gx_model.specs.Histories.Values.{blob_value};
+ghost use Rattle.gx_model.specs.Texts.Headers.{is_headers};
 ghost use Rattle.gx_object.specs.Parts.{commit_parts, tag_parts};
 ghost use Rattle.gx_store.specs.Bodies.{bytes_of};
 ghost use Rattle.gx_tree.specs.Named.{IsAtHome, RemembersName, is_named};
@@ -146,7 +147,7 @@ impl<N: Namer, A: Allocator + Copy> Repo<N, A> {
     /// Cost: that of making the body, and that of `Store::put`, which copies one that isn't held, without spare room.
     /// Source: gitglossary(7), "commit object".
     pub fn add_commit(&mut self, parts: &CommitParts<'_>) -> Result<Name, StoreFault>
-        requires encoding { IsTrue (is_optional_encoding (commit_parts parts.now).text.encoding) }
+        requires headers { IsTrue (is_headers (commit_parts parts.now).text.headers) }
         requires tree { Holds self.now.1.records kinds.Tree (commit_parts parts.now).tree }
         requires parents { HoldsEach self.now.1.records kinds.Commit
             (commit_parts parts.now).parents }

@@ -77,9 +77,9 @@ no_stand_in nonce t h proper = by (name_behind (commit_front nonce) (text_lines 
 pub text_proper : (c : command.CommitParts) → IsProperCommit c → IsTrue (is_proper_text (text_made c))
 text_proper c h = by c.author h.author
   where
-    by : (author : Option Bytes) → IsTrue (is_optional_ident author) → IsTrue (is_proper_text (record { author = unwrap_or author c.committer; committer = c.committer; encoding = c.encoding; message = c.message }))
-    by None k = is_true _ (both _ _ (both _ _ (passes _ h.committer) (passes _ h.committer)) (passes _ h.encoding))
-    by (Some x) k = is_true _ (both _ _ (both _ _ (passes _ k) (passes _ h.committer)) (passes _ h.encoding))
+    by : (author : Option Bytes) → IsTrue (is_optional_ident author) → IsTrue (is_proper_text (record { author = unwrap_or author c.committer; committer = c.committer; headers = c.headers; message = c.message }))
+    by None k = is_true _ (both _ _ (both _ _ (passes _ h.committer) (passes _ h.committer)) (passes _ h.headers))
+    by (Some x) k = is_true _ (both _ _ (both _ _ (passes _ k) (passes _ h.committer)) (passes _ h.headers))
 
 -- ---- bodies
 

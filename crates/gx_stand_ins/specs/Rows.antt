@@ -32,7 +32,7 @@ on_main values tip = record { values = fold with_value [] values; refs = (codes 
 -- ---- the whole history: two commits
 
 abbrev text : Bytes → CommitText
-text message = record { author = codes "A <a@x> 1 +0000"; committer = codes "A <a@x> 1 +0000"; encoding = None; message = message }
+text message = record { author = codes "A <a@x> 1 +0000"; committer = codes "A <a@x> 1 +0000"; headers = []; message = message }
 
 -- two files and a submodule with this content of each file
 abbrev files : (Bytes → Bytes) → FileMap Bytes
@@ -73,7 +73,7 @@ commands =
       mark = None;
       author = None;
       committer = codes "A <a@x> 3 +0000";
-      encoding = None;
+      headers = [];
       message = codes "third";
       parent = Some (Named (codes "refs/heads/main^0"));
       merges = [];

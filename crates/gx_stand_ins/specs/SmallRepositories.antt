@@ -32,7 +32,7 @@ stand_in_maker = codes "stand-in <stand-in> 0 +0000"
 
 -- the texts of such a commit
 abbrev pub stand_in_text : Bytes → CommitText
-stand_in_text message = record { author = stand_in_maker; committer = stand_in_maker; encoding = None; message = message }
+stand_in_text message = record { author = stand_in_maker; committer = stand_in_maker; headers = []; message = message }
 
 -- what stands behind the line of the tree in a commit without parents that stands for another, before the name
 unfoldable pub commit_front : Bytes → Bytes

@@ -1,29 +1,26 @@
--- What has no further headers is wide.
-use Rattle.std.proofs.Common.{◌≡◌, true, false, List, [], ◌∷◌, ◌++◌, Option, None, Some, refl, inl, inr}
+-- What has identities and a message is wide.
+use Rattle.std.proofs.Common.{◌≡◌, true, false, List, [], ◌∷◌, ◌++◌, Option, None, Some, refl, ap, ◌∙◌, append_assoc, inl, inr}
 use Rattle.std.specs.Prelude.{◌&&◌, codes, nat_eq}
-use Rattle.std.specs.List.{AllByRecursion, starts_with}
+use Rattle.std.specs.List.{AllByRecursion, flat_map, starts_with}
 use Rattle.std.proofs.lemmas.Bool.{and_parts}
 use Rattle.gx_model.specs.declared.objects.Kind.{Kind}
 use Rattle.gx_model.specs.declared.objects.Kind.TheVariants as kind
 use Rattle.gx_model.specs.Texts.{Bytes}
+use Rattle.gx_model.specs.Texts.Headers.{is_headers}
 use Rattle.gx_model.specs.Texts.Idents.{is_ident}
 use Rattle.gx_model.specs.Texts.RefNames.{tag_ref}
 use Rattle.gx_model.specs.Histories.{Record}
-use Rattle.gx_model.specs.Histories.Values.{is_optional_ident, is_optional_encoding, is_optional_line}
-use Rattle.gx_model.specs.Objects.{CommitParts, IsCommitText, IsNamer, IsTagText, TagParts}
+use Rattle.gx_model.specs.Histories.Values.{is_optional_ident, is_optional_line}
+use Rattle.gx_model.specs.Objects.{CommitParts, IsCommitText, IsNamer, IsTagText, TagParts, commit_text, hex, line}
 use Rattle.gx_model.specs.Records.Sound.{AnyByRecursion, IsLinked, IsLinkedAfter, IsTarget}
 use Rattle.gx_model.proofs.Texts.LineTexts.{ident_is_line, tag_is_line}
 use Rattle.gx_wide.specs.WideLaws.{BodiesAreWide, SoundIsWide}
 use Rattle.gx_wide.specs.WideSound.{AreWideLinkedAfter, IsWideLinked, IsWideTarget}
-use Rattle.gx_wide.specs.WideTexts.{HasWideForm, HasWideTagForm, IsEncodingApart, IsTaggerApart, IsWideCommitText, IsWideTagText, widened_commit, widened_tag}
+use Rattle.gx_wide.specs.WideTexts.{HasWideForm, HasWideTagForm, IsTaggerApart, IsWideCommitText, IsWideTagText, wide_commit_text, widened_commit, widened_tag}
 
 -- ---- bodies
 
--- nothing isn't a line of an encoding or of a tagger
-apart : (encoding : Option Bytes) → IsEncodingApart encoding []
-apart None = λ x rest h e. cc
-apart (Some x) = tt
-
+-- nothing isn't a line of a tagger
 tagger_apart : (tagger : Option Bytes) → IsTaggerApart tagger []
 tagger_apart None = λ x rest h e. cc
 tagger_apart (Some x) = tt
@@ -32,19 +29,24 @@ optional_is_line : (tagger : Option Bytes) → is_optional_ident tagger ≡ true
 optional_is_line None h = refl
 optional_is_line (Some x) h = ident_is_line x h
 
+-- the lines of a commit, grouped otherwise
+commit_grouped : (parts : CommitParts) → commit_text parts ≡ wide_commit_text (widened_commit parts)
+commit_grouped parts =
+    let t = parts.text in
+    ap (λ lines. line (codes "tree") (hex parts.tree) ++ flat_map (λ name. line (codes "parent") (hex name)) parts.parents ++ lines)
+    (append_assoc (line (codes "author") t.author ++ line (codes "committer") t.committer) t.headers (10 ∷ t.message))
+
 commit_is_wide : (parts : CommitParts) (body : Bytes) → IsCommitText parts body → IsWideCommitText (widened_commit parts) body
 commit_is_wide parts body h =
     let t = parts.text in
-    let idents = and_parts (is_ident t.author && is_ident t.committer) (is_optional_encoding t.encoding) h.3 in
+    let idents = and_parts (is_ident t.author && is_ident t.committer) (is_headers t.headers) h.3 in
     let each = and_parts (is_ident t.author) (is_ident t.committer) idents.0 in
     let form : HasWideForm (widened_commit parts).text = record {
       author = ident_is_line t.author each.0;
       committer = ident_is_line t.committer each.1;
-      encoding = idents.1;
-      further = refl;
-      apart = apart t.encoding;
+      headers = idents.1;
     } in
-    (h.0, h.1, h.2, form)
+    (h.0 ∙ commit_grouped parts, h.1, h.2, form)
 
 tag_is_wide : (parts : TagParts) (body : Bytes) → IsTagText parts body → IsWideTagText (widened_tag parts) body
 tag_is_wide parts body h =

@@ -4,6 +4,7 @@ use Rattle.std.specs.Prelude.{◌≡◌, ℕ, true, false, Bool, List, [], ◌�
 use Rattle.gx_model.specs.declared.objects.Kind.{Kind}
 use Rattle.gx_model.specs.declared.objects.Kind.TheVariants as kind
 use Rattle.gx_model.specs.Texts.{Bytes, cut_at}
+use Rattle.gx_model.specs.Texts.Headers.{encoding_in}
 use Rattle.gx_model.specs.Texts.Idents.{is_ident}
 use Rattle.gx_model.specs.Texts.Numbers.{number_text}
 use Rattle.gx_model.specs.Streams.Spelling.{text_of_lines}
@@ -33,12 +34,12 @@ committer = codes "committer nobody"
 abbrev commit_of : List Bytes → Bytes
 commit_of lines = text_of_lines (root ∷ author ∷ committer ∷ lines)
 
--- its encoding, its further headers and its message
+-- its headers, the encoding that they tell, and its message
 abbrev Told : Type 0
-Told = Option Bytes × Bytes × Option Bytes
+Told = Bytes × Option Bytes × Option Bytes
 
 abbrev told_by : WideText → Told
-told_by text = (text.encoding, text.further, text.message)
+told_by text = (text.headers, encoding_in text.headers, text.message)
 
 abbrev told : Bytes → Told
 told body = told_by (wide_commit_parts_in body).text
@@ -50,16 +51,16 @@ abbrev signed : Bytes
 signed = commit_of (signature ++ [] ∷ codes "m" ∷ [])
 
 pub record CommitRows : Type 0 where
-  pub signature_is_kept : told signed ≡ (None, text_of_lines signature, Some (codes "m" ++ 10 ∷ []))
+  pub signature_is_kept : told signed ≡ (text_of_lines signature, None, Some (codes "m" ++ 10 ∷ []))
   pub signed_is_one : is_wide_commit_body signed ≡ true
-  pub no_message : told (commit_of []) ≡ (None, [], None)
+  pub no_message : told (commit_of []) ≡ ([], None, None)
   pub no_message_is_one : is_wide_commit_body (commit_of []) ≡ true
-  pub empty_message : told (commit_of ([] ∷ [])) ≡ (None, [], Some [])
-  pub encoding_first : told (commit_of (codes "encoding x" ∷ codes "HG:extra y" ∷ [] ∷ [])) ≡ (Some (codes "x"), codes "HG:extra y" ++ 10 ∷ [], Some [])
+  pub empty_message : told (commit_of ([] ∷ [])) ≡ ([], None, Some [])
+  pub encoding_first : told (commit_of (codes "encoding x" ∷ codes "HG:extra y" ∷ [] ∷ [])) ≡ (codes "encoding x" ++ 10 ∷ codes "HG:extra y" ++ 10 ∷ [], Some (codes "x"), Some [])
   -- an encoding that Git doesn't read: behind another header, or empty
-  pub encoding_behind : told (commit_of (codes "HG:extra y" ∷ codes "encoding x" ∷ [] ∷ [])) ≡ (None, codes "HG:extra y" ++ 10 ∷ codes "encoding x" ++ 10 ∷ [], Some [])
+  pub encoding_behind : told (commit_of (codes "HG:extra y" ∷ codes "encoding x" ∷ [] ∷ [])) ≡ (codes "HG:extra y" ++ 10 ∷ codes "encoding x" ++ 10 ∷ [], None, Some [])
   pub encoding_behind_is_one : is_wide_commit_body (commit_of (codes "HG:extra y" ∷ codes "encoding x" ∷ [] ∷ [])) ≡ true
-  pub empty_encoding : told (commit_of (codes "encoding " ∷ [])) ≡ (None, codes "encoding " ++ 10 ∷ [], None)
+  pub empty_encoding : told (commit_of (codes "encoding " ∷ [])) ≡ (codes "encoding " ++ 10 ∷ [], None, None)
   pub empty_encoding_is_one : is_wide_commit_body (commit_of (codes "encoding " ∷ [])) ≡ true
   -- the last header has no end; there is no author; a tree in upper case
   pub no_end : is_wide_commit_body (commit_of [] ++ codes "gpgsig x") ≡ false

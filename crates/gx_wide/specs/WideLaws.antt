@@ -7,7 +7,7 @@ use Rattle.gx_model.specs.Records.Sound.{IsSound}
 use Rattle.gx_wide.specs.WideSound.{IsWide}
 use Rattle.gx_wide.specs.WideTexts.{IsWideCommitText, IsWideTagText, widened_commit, widened_tag}
 
--- a body without further headers is a wide one of the same parts
+-- the body of a commit by identities with a message, or of a tag of a commit without further headers, is a wide one of the same parts
 pub record BodiesAreWide : Type 0 where
   pub commits : (parts : CommitParts) (body : Bytes) → IsCommitText parts body → IsWideCommitText (widened_commit parts) body
   pub tags : (parts : TagParts) (body : Bytes) → IsTagText parts body → IsWideTagText (widened_tag parts) body

@@ -1,28 +1,20 @@
--- Commits and tags as Git has them: with any further headers behind those that it reads itself, with a message or none, by anybody
--- that a line can name; and tags of anything. Source: gitglossary(7), "commit object" and "tag object", gitformat-signature(5), on
--- `gpgsig` and `mergetag`, and git-commit(1), "Discussion", on `encoding`.
+-- Commits and tags as Git has them: with a message or none, by anybody that a line can name; tags of anything, with any further
+-- headers behind those that Git reads itself. Source: gitglossary(7), "commit object" and "tag object", and gitformat-signature(5), on
+-- `gpgsig` and `mergetag`.
 use Rattle.std.specs.Prelude.{◌≡◌, ℕ, ◌+◌, Bool, true, not, ◌&&◌, ◌==◌, nat_eq, nat_lt, if◌then◌else◌, List, [], ◌∷◌, ◌++◌, length, codes, Option, None, Some, IsTrue, ⊤}
 use Rattle.std.specs.List.{flat_map, list_all, starts_with}
 use Rattle.std.specs.Option.{option_map, unwrap_or}
 use Rattle.gx_model.specs.declared.objects.Kind.{Kind}
 use Rattle.gx_model.specs.declared.objects.Kind.TheVariants as kinds
 use Rattle.gx_model.specs.Texts.{Bytes, cut_at, is_line, same_bytes}
+use Rattle.gx_model.specs.Texts.Headers.{is_headers}
 use Rattle.gx_model.specs.Texts.Idents.{on_some}
-use Rattle.gx_model.specs.Histories.Values.{CommitText, is_optional_encoding, is_optional_line}
+use Rattle.gx_model.specs.Histories.Values.{CommitText, is_optional_line}
 use Rattle.gx_model.specs.Objects.{CommitParts, TagParts, hex, is_name, line, optional_line, unhex}
 use Rattle.gx_model.specs.Objects.Naming.{kind_word}
 use Rattle.gx_model.specs.Records.HistoryOf.{commit_parts_in, field, parents_in_to}
 
 -- ---- what stands behind the headers that Git reads itself
-
--- lines that aren't empty, each with its LF; or what is left of them behind the first byte of one
-abbrev pub are_lines : Bool → Bytes → Bool
-are_lines is_start [] = is_start
-are_lines is_start (b ∷ bs) = not (is_start && b == 10) && are_lines (b == 10) bs
-
--- further headers, with the lines that continue them: lines that aren't empty, each with its LF
-abbrev pub is_headers : Bytes → Bool
-is_headers = are_lines true
 
 -- a message stands behind an empty line; where there is none, there is no such line
 abbrev pub message_text : Option Bytes → Bytes
@@ -42,22 +34,17 @@ tail_from is_start (b ∷ bs) = if is_start && b == 10 then Some ([], Some bs) e
 abbrev pub tail_of : Bytes → Option (Bytes × Option Bytes)
 tail_of = tail_from true
 
--- the first line begins with a word and a space, and more stands behind these
-abbrev pub has_more : Bytes → Bytes → Bool
-has_more word headers = on_some (cut_at 10 headers) (λ parts. starts_with nat_eq parts.0 (word ++ 32 ∷ []) && nat_lt (length word + 1) (length parts.0))
-
 -- the first line begins with a word and a space
 abbrev pub has_word : Bytes → Bytes → Bool
 has_word word headers = on_some (cut_at 10 headers) (λ parts. starts_with nat_eq parts.0 (word ++ 32 ∷ []))
 
 -- ---- commits
 
--- who made a commit, and when, each by any line; and what they say of it
+-- who made a commit, and when, each by any line; the header lines behind them, and what they say of it
 pub record WideText : Type 0 where
   pub author : Bytes
   pub committer : Bytes
-  pub encoding : Option Bytes
-  pub further : Bytes
+  pub headers : Bytes
   pub message : Option Bytes
 
 -- the parts of a commit's body
@@ -69,26 +56,18 @@ pub record WideCommitParts : Type 0 where
 -- the lines of a commit behind its parents, and its message
 abbrev pub wide_text_lines : WideText → Bytes
 wide_text_lines text =
-    line (codes "author") text.author ++ line (codes "committer") text.committer ++ optional_line (codes "encoding") text.encoding
-    ++ (text.further ++ message_text text.message)
+    line (codes "author") text.author ++ line (codes "committer") text.committer ++ (text.headers ++ message_text text.message)
 
 -- the body of a commit
 abbrev pub wide_commit_text : WideCommitParts → Bytes
 wide_commit_text parts =
     line (codes "tree") (hex parts.tree) ++ flat_map (λ name. line (codes "parent") (hex name)) parts.parents ++ wide_text_lines parts.text
 
--- where no encoding is told, no line of one stands first among the further headers
-abbrev pub IsEncodingApart : Option Bytes → Bytes → Type 0
-IsEncodingApart None further = (x rest : Bytes) → IsTrue (is_optional_encoding (Some x)) → further ≡ line (codes "encoding") x ++ rest → ⊥
-IsEncodingApart (Some encoding) further = ⊤
-
 -- the texts of a commit have their forms
 pub record HasWideForm (text : WideText) : Type 0 where
   pub author : IsTrue (is_line text.author)
   pub committer : IsTrue (is_line text.committer)
-  pub encoding : IsTrue (is_optional_encoding text.encoding)
-  pub further : IsTrue (is_headers text.further)
-  pub apart : IsEncodingApart text.encoding text.further
+  pub headers : IsTrue (is_headers text.headers)
 
 -- this is the body of a commit with these parts
 abbrev pub IsWideCommitText : WideCommitParts → Bytes → Type 0
@@ -143,11 +122,10 @@ abbrev pub wide_text_in : Bytes → WideText
 wide_text_in text =
     let author = field 7 text in
     let committer = field 10 author.1 in
-    let encoding = optional_field (has_more (codes "encoding") committer.1) 9 committer.1 in
-    let tail = tail_in encoding.1 in
-    record { author = author.0; committer = committer.0; encoding = encoding.0; further = tail.0; message = tail.1 }
+    let tail = tail_in committer.1 in
+    record { author = author.0; committer = committer.0; headers = tail.0; message = tail.1 }
 
--- the parts of a commit's body: its tree and its parents stand as in a body without further headers
+-- the parts of a commit's body: its tree and its parents stand as in one by identities
 abbrev pub wide_commit_parts_in : Bytes → WideCommitParts
 wide_commit_parts_in body =
     let tree = field 5 body in
@@ -176,16 +154,14 @@ wide_tag_parts_in body =
       message = tail.1;
     }
 
--- whether no line of an encoding stands first where none is told, and none of a tagger
+-- whether no line of a word stands first where nothing is told by it
 abbrev pub is_apart : (Bytes → Bool) → Option Bytes → Bytes → Bool
 is_apart is_first None further = not (is_first further)
 is_apart is_first (Some told) further = true
 
 -- whether the texts of a commit have their forms
 abbrev pub is_wide_text : WideText → Bool
-is_wide_text text =
-    is_line text.author && is_line text.committer && is_optional_encoding text.encoding && is_headers text.further
-    && is_apart (has_more (codes "encoding")) text.encoding text.further
+is_wide_text text = is_line text.author && is_line text.committer && is_headers text.headers
 
 -- whether the texts of a tag have their forms
 abbrev pub is_wide_tag : WideTagParts → Bool
@@ -204,11 +180,11 @@ is_wide_tag_body body =
     let parts : WideTagParts = wide_tag_parts_in body in
     same_bytes body (wide_tag_text parts) && is_name parts.object && is_wide_tag parts
 
--- ---- of the parts that have no further headers
+-- ---- of the parts that have identities and a message
 
--- the texts of a commit without further headers
+-- the texts of a commit by identities, with a message
 abbrev pub widened_text : CommitText → WideText
-widened_text text = record { author = text.author; committer = text.committer; encoding = text.encoding; further = []; message = Some text.message }
+widened_text text = record { author = text.author; committer = text.committer; headers = text.headers; message = Some text.message }
 
 -- the parts of such a commit
 abbrev pub widened_commit : CommitParts → WideCommitParts

@@ -10,7 +10,7 @@ use Rattle.gx_model.specs.Histories.Values.{Commit, Value, blob_value, files_of,
 use Rattle.gx_model.specs.Histories.{History, IsHistory, IsIn}
 use Rattle.gx_model.specs.Export.{all_written, blob_commands, command_items, commit_on, contents, reached_commits, ref_command, reset_before, with_blobs, with_commit}
 use Rattle.gx_model.specs.Changes.{changes_commands, changes_text, closed_by, commit_changes, commit_ref, commit_with_changes, commits_with_changes, named_in, own_files, sending_commands, with_changes}
-use Rattle.gx_model.specs.Laws.ExportLaws.{HasNoNullGitlink, HaveNoNullGitlink, HoldsWhat, IsReadable, IsReadableCommit, values_with_commit}
+use Rattle.gx_model.specs.Laws.ExportLaws.{AreSayable, HasSayable, HoldsWhat, IsReadable, IsReadableCommit, values_with_commit}
 use Rattle.gx_model.proofs.Changes.ChangeReplays.{all_by_mark, parents_written}
 use Rattle.gx_model.proofs.Changes.ChangeSteps.{HaveBlobs, have_blobs, same_written}
 use Rattle.gx_model.proofs.Export.CommitSteps.{leaves_of}
@@ -31,7 +31,7 @@ module _ (name : Kind → Bytes → Bytes) (refs : Refs) where
     pub commits : AllByRecursion IsReadableCommit cs
     pub count : length (fold with_commit ws cs) ≤ length ws + length (flat_map command_items (commits_with_changes name refs ws cs))
 
-  commits_read : (ws vs : List Value) (before cs : List Commit) → HoldsWhat ws vs before → FollowsAll before cs → HaveBlobs ws → BlobsFit ws → HaveNoNullGitlink cs → CommandsFit (commits_with_changes name refs ws cs) → AreRead ws cs
+  commits_read : (ws vs : List Value) (before cs : List Commit) → HoldsWhat ws vs before → FollowsAll before cs → HaveBlobs ws → BlobsFit ws → AreSayable cs → CommandsFit (commits_with_changes name refs ws cs) → AreRead ws cs
   commits_read ws vs before [] h f b t r g = record { commits = tt; count = omega arith }
   commits_read ws vs before (c ∷ cs) h f b t r g =
       let xs = contents (own_files c) in
@@ -59,8 +59,9 @@ module _ (name : Kind → Bytes → Bytes) (refs : Refs) where
       record {
         commits = (
           record {
+            headers = r.0.headers;
             message = message_in_fits on (named_in name us) (commit_changes us c) us c (fit_left (command_items last) [] own);
-            files = files_fit (files_of c) (leaves_of (files_of c) (first (is_content (files_of c)) (is_proper_text (text_of c)) (passes _ f.0))) r.0 all;
+            files = files_fit (files_of c) (leaves_of (files_of c) (first (is_content (files_of c)) (is_proper_text (text_of c)) (passes _ f.0))) r.0.files all;
           },
           again.commits,
         );
@@ -76,7 +77,7 @@ module _ (name : Kind → Bytes → Bytes) where
   inner_count true cs = omega (arith, count_append cs (command.Done ∷ []))
   inner_count false cs = omega arith
 
-  pub changes_readable : (closed : Bool) (h : History) → IsHistory h → HasNoNullGitlink h → length (changes_text name closed h) < 2 ^ 64 → IsReadable h
+  pub changes_readable : (closed : Bool) (h : History) → IsHistory h → HasSayable h → length (changes_text name closed h) < 2 ^ 64 → IsReadable h
   changes_readable closed h x r lt =
       let cs = reached_commits h in
       let inner = sending_commands name cs h.refs in

@@ -97,7 +97,7 @@ module _ (name : Kind → Bytes → Bytes) where
       spelled_append (commit_with_changes name refs ws c) (commits_with_changes name refs (with_changes ws c) cs)
       (spelled_append (blob_commands ws xs) _ (blobs_spelled ws xs (contents_fit (own_files c) read) (omega arith))
       (spelled_append (reset_before on ps) _ (reset_spelled on ps ref) (
-        commit_spelled on (named_in name us) (commit_changes us c) us c ref fits r.0.message text (all_named us ps (omega arith) (all_still ws xs ps k))
+        commit_spelled on (named_in name us) (commit_changes us c) us c ref fits r.0.message text r.0.headers (all_named us ps (omega arith) (all_still ws xs ps k))
             (own_spelled us c (omega arith) (base_parts ws vs before c h f.1) content read (blobs_have ws xs)),
         tt,
       )))

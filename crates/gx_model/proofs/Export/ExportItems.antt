@@ -7,17 +7,19 @@ use Rattle.std.proofs.lemmas.Grind.{flat_map-append}
 use Rattle.gx_model.specs.declared.objects.Mode.{Mode}
 use Rattle.gx_model.specs.declared.objects.Mode.TheVariants.{File, Exec, Link, Gitlink, Dir}
 use Rattle.gx_model.specs.Texts.{Bytes}
+use Rattle.gx_model.specs.Texts.Headers.{encoding_in}
 use Rattle.gx_model.specs.Texts.Idents.{is_ident}
 use Rattle.gx_model.specs.Texts.Paths.{Path, is_file_path, path_text, printed}
 use Rattle.gx_model.specs.Histories.Files.{FileMap, are_file_paths}
-use Rattle.gx_model.specs.Histories.Values.{Commit, Value, blob_value, commit_value, files_of, is_content, is_leaf, is_proper, is_proper_text, list_of, parents_of, text_of}
+use Rattle.gx_model.specs.Histories.Values.{Commit, IsEncodingAlone, Value, blob_value, commit_value, files_of, is_content, is_leaf, is_proper, is_proper_text, list_of, parents_of, text_of}
 use Rattle.gx_model.specs.Texts.Digits.{is_lower_digit, is_name_text}
 use Rattle.gx_model.specs.Histories.{History, IsHistory, IsIn}
 use Rattle.gx_model.specs.Streams.Items.{Line}
 use Rattle.gx_model.specs.Streams.Commands as command
 use Rattle.gx_model.specs.Streams.Commands.{Change, Clear, Command, CommitParts, Modify, Object}
 use Rattle.gx_model.specs.Export.{all_written, blob_commands, carrier, change_items, command_items, commit_command, commit_commands, contents, file_change, first_parent_mark, from_line, export_items, inner_commands, item_text, last_reset, mode_digits, one_commit, other_parent_marks, reached_commits, ref_command, root_reset, with_blobs, with_commit, word_line_if}
-use Rattle.gx_model.specs.Laws.ExportLaws.{ExportsAreItems, IsOne, IsSpelledChange, IsSpelledCommit, between}
+use Rattle.gx_model.specs.Laws.ExportLaws.{ExportsAreItems, HaveEncodingsAlone, IsOne, IsSpelledChange, IsSpelledCommit, between}
+use Rattle.gx_model.proofs.Texts.HeaderTexts.{encoding_told}
 use Rattle.gx_model.proofs.Texts.PathTests.{first, is_true, second}
 use Rattle.gx_model.proofs.Histories.FileMapEdits.{parts_of}
 use Rattle.gx_model.proofs.Export.KeptCommits.{FollowsAll, each_one, one_of_all, snoc_all}
@@ -42,7 +44,7 @@ commit_with ws c f = record {
   mark = Some (suc (length ws));
   author = Some (text_of c).author;
   committer = (text_of c).committer;
-  encoding = (text_of c).encoding;
+  headers = (text_of c).headers;
   message = (text_of c).message;
   parent = first_parent_mark ws (list_of (parents_of c));
   merges = other_parent_marks ws (list_of (parents_of c));
@@ -52,9 +54,9 @@ commit_with ws c f = record {
 abbrev AreWritten : List Value → List Commit → Type 0
 AreWritten ws ps = AllByRecursion (λ p. IsIn ws (commit_value p)) ps
 
-pub spelled_with : (ws : List Value) (c : Commit) (f : FileMap Bytes) → suc (length ws) < 2 ^ 64 → length (text_of c).message < 2 ^ 64 → T (is_proper (commit_value c)) → AreWritten ws (list_of (parents_of c))
+pub spelled_with : (ws : List Value) (c : Commit) (f : FileMap Bytes) → suc (length ws) < 2 ^ 64 → length (text_of c).message < 2 ^ 64 → T (is_proper (commit_value c)) → IsEncodingAlone (text_of c).headers → AreWritten ws (list_of (parents_of c))
     → AllByRecursion IsSpelledChange (map (file_change ws) f) → IsSpelledCommit (commit_with ws c f)
-spelled_with ws c f lt m p h g =
+spelled_with ws c f lt m p alone h g =
     let text = second (is_content (files_of c)) (is_proper_text (text_of c)) p in
     record {
       ref = carrier_is_ref;
@@ -62,7 +64,7 @@ spelled_with ws c f lt m p h g =
       author = is_true _ (first _ _ (first _ _ text));
       has_author = refl;
       committer = is_true _ (second (is_ident (text_of c).author) _ (first _ _ text));
-      encoding = is_true _ (second (is_ident (text_of c).author && is_ident (text_of c).committer) _ text);
+      headers = alone;
       message = m;
       parent = parent_spelled ws (list_of (parents_of c)) (omega arith) h;
       merges = others_spelled ws (list_of (parents_of c)) (omega arith) h;
@@ -76,7 +78,7 @@ items_with c cs h g = (
   items_append _ _ (mark_spelled c.mark h.mark)
       (items_append (word_line_if (codes "author") c.author) _ (author_spelled c.author h.has_author h.author) (
         record { line = ident_is_line c.committer h.committer; no_comment = refl; no_data = refl },
-        items_append (word_line_if (codes "encoding") c.encoding) _ (encoding_spelled c.encoding h.encoding) (
+        items_append (word_line_if (codes "encoding") (encoding_in c.headers)) _ (encoding_spelled (encoding_in c.headers) (encoding_told c.headers h.headers).proper) (
           h.message,
           items_append (from_line c.parent) _ (from_spelled c.parent h.parent)
               (items_append (map merge_item c.merges) _ (merges_spelled c.merges h.merges) (items_append (flat_map change_items cs) (Line [] ∷ []) g (plain_line, tt))),
@@ -140,9 +142,9 @@ now_written ws before c h =
     let xs = contents (files_of c) in
     snoc_all (λ d. IsIn (with_commit ws c) (commit_value d)) before c (each_one (λ d. IsIn ws (commit_value d)) (λ d. IsIn (with_commit ws c) (commit_value d)) (λ d i. inr (blobs_keep ws xs (commit_value d) i)) before h) (inl refl)
 
-commits_items : (ws : List Value) (before cs : List Commit) → AreWritten ws before → FollowsAll before cs → AllByRecursion IsFitting cs → length (fold with_commit ws cs) < 2 ^ 64 → AreItems (flat_map command_items (commit_commands ws cs))
-commits_items ws before [] h f r lt = tt
-commits_items ws before (c ∷ cs) h f r lt =
+commits_items : (ws : List Value) (before cs : List Commit) → AreWritten ws before → FollowsAll before cs → AllByRecursion IsFitting cs → HaveEncodingsAlone cs → length (fold with_commit ws cs) < 2 ^ 64 → AreItems (flat_map command_items (commit_commands ws cs))
+commits_items ws before [] h f r alone lt = tt
+commits_items ws before (c ∷ cs) h f r alone lt =
     let xs = contents (files_of c) in
     let us = with_blobs ws xs in
     let fits : suc (length us) < 2 ^ 64 = omega (arith, more_commits (with_commit ws c) cs) in
@@ -150,12 +152,12 @@ commits_items ws before (c ∷ cs) h f r lt =
     let content = first (is_content (files_of c)) (is_proper_text (text_of c)) p in
     let paths = (parts_of (files_of c) (map_of (files_of c) content)).paths in
     let lines = file_items us (files_of c) (omega arith) paths (leaves_of (files_of c) content) (blobs_have ws xs) in
-    let twin = spelled_with us c [] fits r.0.message p (parents_written ws before c h f.1) tt in
+    let twin = spelled_with us c [] fits r.0.message p alone.0 (parents_written ws before c h f.1) tt in
     let own = items_with (commit_with us c []) (Clear ∷ map (file_change us) (files_of c)) twin (items_append (change_items Clear) _ (change_spelled Clear tt) lines) in
     two_parts (one_commit ws c) (commit_commands (with_commit ws c) cs)
     (two_parts (blob_commands ws xs) _ (all_spelled (blob_commands ws xs) (blobs_spelled ws xs r.0.contents (omega arith)))
     (two_parts (root_reset (list_of (parents_of c))) (commit_command us c ∷ []) (all_spelled (root_reset (list_of (parents_of c))) (root_spelled (list_of (parents_of c)))) (items_append (command_items (commit_command us c)) [] own tt)))
-    (commits_items (with_commit ws c) (before ++ c ∷ []) cs (now_written ws before c h) f.3 r.1 lt)
+    (commits_items (with_commit ws c) (before ++ c ∷ []) cs (now_written ws before c h) f.3 r.1 alone.1 lt)
 
 -- ---- the whole
 
@@ -163,6 +165,7 @@ commits_items ws before (c ∷ cs) h f r lt =
 pub record AreExported (h : History) (cs : List Commit) : Type 0 where
   pub follows : FollowsAll [] cs
   pub peeled : ArePeeled (all_written cs) h.refs
+  pub alone : HaveEncodingsAlone cs
   pub fits : length (flat_map item_text (flat_map command_items (between (inner_commands cs h.refs)))) < 2 ^ 64
 
 module _ (h : History) (is : IsHistory h) (cs : List Commit) (known : AreExported h cs) where
@@ -198,12 +201,12 @@ module _ (h : History) (is : IsHistory h) (cs : List Commit) (known : AreExporte
   export_is_items = (
     record { line = refl; no_comment = refl; no_data = refl },
     two_parts inner (command.Done ∷ [])
-        (two_parts (commit_commands [] cs) behind_commits (commits_items [] [] cs tt known.follows fitting marks_fit) refs_items)
+        (two_parts (commit_commands [] cs) behind_commits (commits_items [] [] cs tt known.follows fitting known.alone marks_fit) refs_items)
         (record { line = refl; no_comment = refl; no_data = refl }, tt),
   )
 
 -- ---- read again
 
 pub exports_read : ExportsAreItems
-exports_read h is short =
-    items_read (export_items h) (export_is_items h is (reached_commits h) (record { follows = all_follow h is; peeled = peeled_ones h is; fits = short }))
+exports_read h is alone short =
+    items_read (export_items h) (export_is_items h is (reached_commits h) (record { follows = all_follow h is; peeled = peeled_ones h is; alone = alone; fits = short }))

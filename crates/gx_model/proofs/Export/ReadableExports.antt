@@ -10,10 +10,11 @@ use Rattle.std.specs.List.{flat_map, fold, AllByRecursion, cons_option}
 use Rattle.std.specs.Prelude.{T}
 use Rattle.gx_model.specs.Streams.Commands.{Change, Clear, Command, CommitIsh}
 use Rattle.gx_model.specs.Export.{all_written, blob_commands, carrier, command_items, commit_command, commit_commands, commit_on, contents, export_items, file_change, export_text, inner_commands, item_text, last_reset, marked_in, one_commit, reached_commits, ref_by, ref_command, root_reset, with_blobs, with_commit, word_line_if}
-use Rattle.gx_model.specs.Laws.ExportLaws.{HasNoNullGitlink, HaveNoNullGitlink, IsNotNull, IsReadable, IsReadableCommit, IsReadableFile, IsReadableTarget}
+use Rattle.gx_model.specs.Laws.ExportLaws.{AreSayable, HasSayable, IsNotNull, IsReadable, IsReadableCommit, IsReadableFile, IsReadableTarget}
 use Rattle.gx_model.specs.Histories.Files.{FileMap}
 use Rattle.gx_model.specs.Histories.{History, IsHistory, IsIn, Target, at_commit, at_tag, is_in}
 use Rattle.gx_model.specs.Streams.Items.{Data, Item, Line}
+use Rattle.gx_model.specs.Texts.Headers.{encoding_in}
 use Rattle.gx_model.specs.Texts.Paths.{Path}
 use Rattle.gx_model.specs.Texts.{Bytes}
 use Rattle.gx_model.specs.Histories.Values.{Commit, Value, blob_value, commit_value, files_of, is_content, is_leaf, is_proper_text, list_of, parents_of, text_of, unless_gitlink}
@@ -96,7 +97,7 @@ blobs_fit ws (x ∷ xs) h f =
     ] refl f
 
 pub message_in_fits : (r : Bytes) (names : Commit → CommitIsh) (changes : List Change) (ws : List Value) (c : Commit) → AllFit (command_items (commit_on r names changes ws c)) → length (text_of c).message < 2 ^ 64
-message_in_fits r names changes ws c h = (fit_right (word_line_if (codes "encoding") (text_of c).encoding) _ h.1.1.1.1).0
+message_in_fits r names changes ws c h = (fit_right (word_line_if (codes "encoding") (encoding_in (text_of c).headers)) _ h.1.1.1.1).0
 
 pub message_fits : (ws : List Value) (c : Commit) → AllFit (command_items (commit_command ws c)) → length (text_of c).message < 2 ^ 64
 message_fits ws c h = message_in_fits carrier (λ p. marked_in ws (commit_value p)) (Clear ∷ map (file_change ws) (files_of c)) ws c h
@@ -118,7 +119,7 @@ files_fit ((p, (m, x)) ∷ f) l h k = let r = file_fits p m x (contents f) (firs
 pub later_commit : (ws : List Value) (c : Commit) → BlobsFit ws → BlobsFit (commit_value c ∷ ws)
 later_commit ws c h y i = elim i [ inl e ↦ absurd cc | inr k ↦ h y k ]
 
-pub commits_fit : (ws : List Value) (before cs : List Commit) → BlobsFit ws → FollowsAll before cs → HaveNoNullGitlink cs → CommandsFit (commit_commands ws cs) → AllByRecursion IsReadableCommit cs
+pub commits_fit : (ws : List Value) (before cs : List Commit) → BlobsFit ws → FollowsAll before cs → AreSayable cs → CommandsFit (commit_commands ws cs) → AllByRecursion IsReadableCommit cs
 commits_fit ws before [] h f r g = tt
 commits_fit ws before (c ∷ cs) h f r g =
     let xs = contents (files_of c) in
@@ -127,8 +128,9 @@ commits_fit ws before (c ∷ cs) h f r g =
     let b = blobs_fit ws xs h (commands_left (blob_commands ws xs) _ mine) in
     let own = commands_right (root_reset (list_of (parents_of c))) _ (commands_right (blob_commands ws xs) _ mine) in (
       record {
+        headers = r.0.headers;
         message = message_fits us c (fit_left (command_items (commit_command us c)) [] own);
-        files = files_fit (files_of c) (leaves_of (files_of c) (first (is_content (files_of c)) (is_proper_text (text_of c)) (passes _ f.0))) r.0 b.now;
+        files = files_fit (files_of c) (leaves_of (files_of c) (first (is_content (files_of c)) (is_proper_text (text_of c)) (passes _ f.0))) r.0.files b.now;
       },
       commits_fit (with_commit ws c) (before ++ c ∷ []) cs (later_commit us c b.later) f.3 r.1 (commands_right (one_commit ws c) (commit_commands (with_commit ws c) cs) g),
     )
@@ -170,7 +172,7 @@ commits_count ws (c ∷ cs) =
     let one : 1 ≤ length (flat_map command_items (commit_command us c ∷ [])) = omega arith in
     omega (arith, a, b, d, one, blobs_count ws xs, commits_count (with_commit ws c) cs)
 
-pub formed_readable : (h : History) → IsHistory h → HasNoNullGitlink h → length (export_text h) < 2 ^ 64 → IsReadable h
+pub formed_readable : (h : History) → IsHistory h → HasSayable h → length (export_text h) < 2 ^ 64 → IsReadable h
 formed_readable h x r lt =
     let cs = reached_commits h in
     let inner = inner_commands cs h.refs in

@@ -9,6 +9,7 @@ use Rattle.gx_model.specs.declared.faults.Fault.TheVariants as faults
 use Rattle.gx_model.specs.declared.features.Feature.TheVariants as features
 use Rattle.gx_model.specs.declared.objects.Mode.TheVariants.{Gitlink}
 use Rattle.gx_model.specs.Texts.{Bytes, cut_at}
+use Rattle.gx_model.specs.Texts.Headers.{encoding_in}
 use Rattle.gx_model.specs.Texts.Idents.{is_ident}
 use Rattle.gx_model.specs.Texts.Paths.{Path, path_text, printed}
 use Rattle.gx_model.specs.Histories.Files.{FileMap}
@@ -21,6 +22,7 @@ use Rattle.gx_model.specs.Streams.Grammar.{change_at, changes_within, command_at
 use Rattle.gx_model.specs.Streams.Lines.{block_in, is_null, mark_number, rest_line_in, words_of}
 use Rattle.gx_model.specs.Export.{carrier, change_items, command_items, file_change, first_parent_mark, from_line, mode_digits, other_parent_marks, word_line_if}
 use Rattle.gx_model.specs.Laws.ExportLaws.{IsMark, IsNamedCommit, IsNamedCommitIf, IsSpelledChange, IsSpelledCommit}
+use Rattle.gx_model.proofs.Texts.HeaderTexts.{encoding_told}
 use Rattle.gx_model.proofs.Texts.PathTests.{first, is_true}
 use Rattle.gx_model.proofs.Streams.CommandFields.{all_hex, hex_no_colon, link_no_space, mark_read, not_inline, path_read}
 use Rattle.gx_model.proofs.Streams.ChangeItems.{clear_line, mode_words, modify_line, modify_read, no_block, remove_line, stream, words_at}
@@ -122,7 +124,7 @@ module _ (ws : List Value) (c : Commit) (good : FileMap Bytes) (p : Path) (x : B
   links = from_line (first_parent_mark ws (list_of (parents_of c))) ++ (map merge_item (other_parent_marks ws (list_of (parents_of c))) ++ cut_changes (map (file_change ws) good) (null_line x p) more)
 
   abbrev behind : List Item
-  behind = Line (codes "mark" ++ 32 ∷ 58 ∷ decimal (suc (length ws))) ∷ Line (codes "author" ++ 32 ∷ (text_of c).author) ∷ Line (codes "committer" ++ 32 ∷ (text_of c).committer) ∷ (word_line_if (codes "encoding") (text_of c).encoding ++ Data (text_of c).message ∷ links)
+  behind = Line (codes "mark" ++ 32 ∷ 58 ∷ decimal (suc (length ws))) ∷ Line (codes "author" ++ 32 ∷ (text_of c).author) ∷ Line (codes "committer" ++ 32 ∷ (text_of c).committer) ∷ (word_line_if (codes "encoding") (encoding_in (text_of c).headers) ++ Data (text_of c).message ∷ links)
 
   lines_are : command_items (command.Commit (commit_with ws c (good ++ (p, (Gitlink, x)) ∷ after))) ++ rest ≡ Line (codes "commit" ++ 32 ∷ carrier) ∷ behind
   lines_are =
@@ -133,14 +135,14 @@ module _ (ws : List Value) (c : Commit) (good : FileMap Bytes) (p : Path) (x : B
       ap (λ (qs : List Change). flat_map change_items (Clear ∷ qs) ++ Line [] ∷ rest) (map-append (file_change ws) good ((p, (Gitlink, x)) ∷ after))
       ∙ changes_cut (Clear ∷ map (file_change ws) good) (map (file_change ws) after) x p (Line [] ∷ rest) in
       ap (λ (t : List Item). Line (codes "commit" ++ 32 ∷ carrier) ∷ Line (codes "mark" ++ 32 ∷ 58 ∷ decimal (suc (length ws))) ∷ Line (codes "author" ++ 32 ∷ (text_of c).author) ∷ Line (codes "committer" ++ 32 ∷ (text_of c).committer) ∷ t)
-      (commit_regroup (text_of c).encoding (text_of c).message parent merges cs rest ∙ ap (λ (t : List Item). word_line_if (codes "encoding") (text_of c).encoding ++ Data (text_of c).message ∷ (from_line parent ++ (map merge_item merges ++ t))) split)
+      (commit_regroup (encoding_in (text_of c).headers) (text_of c).message parent merges cs rest ∙ ap (λ (t : List Item). word_line_if (codes "encoding") (encoding_in (text_of c).headers) ++ Data (text_of c).message ∷ (from_line parent ++ (map merge_item merges ++ t))) split)
 
   pub commit_refused : (n : ℕ) (before : List Command) → commands_within (suc n) before (command_items (command.Commit (commit_with ws c (good ++ (p, (Gitlink, x)) ∷ after))) ++ rest) Finished ≡ stops (Some faults.Unsupported)
   commit_refused n before =
       let fail = links_fail (first_parent_mark ws (list_of (parents_of c))) (other_parent_marks ws (list_of (parents_of c))) (map (file_change ws) good) (null_line x p) more (λ t. line_fails x p t named null) spelled.parent spelled.merges spelled.changes in
       fails_at n before _ 99 (codes "ommit" ++ 32 ∷ carrier) behind lines_are
       (λ early. commit_first early carrier (stream behind) carrier_is_ref
-      ∙ commit_fails carrier (suc (length ws)) (text_of c).author (text_of c).committer (text_of c).encoding (text_of c).message links spelled.mark spelled.author spelled.committer spelled.encoding fail)
+      ∙ commit_fails carrier (suc (length ws)) (text_of c).author (text_of c).committer (encoding_in (text_of c).headers) (text_of c).message links spelled.mark spelled.author spelled.committer (encoding_told (text_of c).headers spelled.headers).proper fail)
 
 pub starts_commit : (c : CommitParts) (rest : List Item) → Starts (command_items (command.Commit c) ++ rest)
 unfolding item_after_in cut_at

@@ -13,14 +13,14 @@ use Rattle.gx_model.specs.Texts.{Bytes}
 use Rattle.gx_model.specs.Faults.{◌>>=◌}
 use Rattle.gx_model.specs.Texts.Paths.{is_file_path}
 use Rattle.gx_model.specs.Histories.Files.{FileMap, are_file_paths}
-use Rattle.gx_model.specs.Histories.Values.{Commit, Value, blob_value, commit_value, files_of, is_content, is_leaf, is_proper, is_proper_text, list_of, parents_of, text_of}
+use Rattle.gx_model.specs.Histories.Values.{Commit, IsEncodingAlone, Value, blob_value, commit_value, files_of, is_content, is_leaf, is_proper, is_proper_text, list_of, parents_of, text_of}
 use Rattle.gx_model.specs.Histories.{History, IsHistory, IsIn, Target, no_history}
 use Rattle.gx_model.specs.Streams.Items.{Finished, Item, Line, items_of}
 use Rattle.gx_model.specs.Streams.Commands as command
 use Rattle.gx_model.specs.Streams.Commands.{Command}
 use Rattle.gx_model.specs.Streams.Grammar.{commands_of, commands_within, stops}
 use Rattle.gx_model.specs.Export.{all_written, blob_commands, command_items, commit_command, commit_commands, contents, export_commands, export_text, file_change, inner_commands, item_text, last_reset, reached_commits, ref_command, root_reset, with_blobs, with_commit}
-use Rattle.gx_model.specs.Laws.ExportLaws.{AnyReaches, carried, exported_report, HaveNoNullGitlink, IsSpelledChange, IsSpelledCommit, between, state_at, steps, values_with_blobs}
+use Rattle.gx_model.specs.Laws.ExportLaws.{AnyReaches, AreSayable, carried, exported_report, HaveEncodingsAlone, HaveNoNullGitlink, IsSpelledChange, IsSpelledCommit, between, state_at, steps, values_with_blobs}
 use Rattle.gx_model.specs.Streams.Gitlinks.{CommandsBeforeNullAreReplayed, NullGitlinksAreRefused, NullGitlinksEndCommands}
 use Rattle.gx_model.specs.Replay.{Outcome, Report, State, final, finished, is_fast_forward, report, refused, replayed, replayed_text, start, step}
 use Rattle.gx_model.proofs.Texts.PathTests.{first, is_true, second}
@@ -30,7 +30,7 @@ use Rattle.gx_model.proofs.Streams.ItemTexts.{items_read}
 use Rattle.gx_model.proofs.Streams.ChangeItems.{stream}
 use Rattle.gx_model.proofs.Export.CommitSteps.{all_at, are_leaves, blobs_have, blobs_replayed, front_of, leaves_of, map_of, rest_of, steps-append}
 use Rattle.gx_model.proofs.Export.ExportSteps.{all_follow, all_forward, all_replayed, commits_keep, commits_replayed, last_carried, export_replayed, none_held, peeled_ones, reach_held, values_after}
-use Rattle.gx_model.proofs.ObjectTexts.OneTree.{all_right}
+use Rattle.gx_model.proofs.ObjectTexts.OneTree.{all_left, all_right}
 use Rattle.gx_model.proofs.Export.ReadableExports.{CommandsFit, commands_left, commits_fit}
 use Rattle.gx_model.proofs.Export.SpelledExports.{AreSpelled, blobs_spelled, commits_spelled, dataref_spelled, more_blobs, more_commits, root_spelled, spelled_append}
 use Rattle.gx_model.proofs.Replay.NullGitlinks.{AreNotNull, all_join}
@@ -90,6 +90,11 @@ module _ (name : Kind → Bytes → Bytes) where
       by (Err g) again q = absurd cc
 
 -- ---- the whole
+
+-- commits without a gitlink of forty zeros, and without headers but those of encodings
+all_sayable : (cs : List Commit) → HaveNoNullGitlink cs → HaveEncodingsAlone cs → AreSayable cs
+all_sayable [] h k = tt
+all_sayable (c ∷ cs) h k = (record { files = h.0; headers = k.0 }, all_sayable cs h.1 k.1)
 
 -- the files before the first gitlink of forty zeros can be spelled
 good_spelled : (ws : List Value) (good es : FileMap Bytes) → length ws < 2 ^ 64 → T (are_file_paths (good ++ es)) → T (are_leaves (good ++ es)) → AreNotNull good → AllByRecursion (λ y. IsIn ws (blob_value y)) (contents (good ++ es))
@@ -209,7 +214,7 @@ module _ (h : History) (is : IsHistory h) (before : List Commit) (bad : Commit) 
     front_spelled =
         let xs = contents (files_of bad) in
         let fit = commands_left (commit_commands [] before) _ (subst CommandsFit (commands_split [] before (bad ∷ after)) (commits_lengths h is all known)) in
-        let readable = commits_fit [] [] before (λ y i. absurd i) follows_before clean fit in
+        let readable = commits_fit [] [] before (λ y i. absurd i) follows_before (all_sayable before clean (all_left (λ made. IsEncodingAlone (text_of made).headers) before (bad ∷ after) known.alone)) fit in
         spelled_append (commit_commands [] before) _ (commits_spelled [] [] before tt follows_before readable (omega (arith, marks_bad, more_blobs written xs)))
         (spelled_append (blob_commands written xs) _ (blobs_spelled written xs own_fits.contents (omega (arith, marks_bad))) (root_spelled (list_of (parents_of bad))))
 
@@ -227,7 +232,7 @@ module _ (h : History) (is : IsHistory h) (before : List Commit) (bad : Commit) 
         let parents = parents_written written before bad (commits_keep [] [] [] before none_held follows_before).commits follows_bad.1 in
         let paths = subst (λ f. T (are_file_paths f)) file.are (parts_of (files_of bad) (map_of (files_of bad) bad_content)).paths in
         let bytes = subst (λ f. AllByRecursion (λ y. IsIn with_own (blob_value y)) (contents f)) file.are (blobs_have written (contents (files_of bad))) in
-        spelled_with with_own bad file.good marks_bad own_fits.message bad_is_proper parents
+        spelled_with with_own bad file.good marks_bad own_fits.message bad_is_proper (all_right (λ made. IsEncodingAlone (text_of made).headers) before (bad ∷ after) known.alone).0 parents
         (good_spelled with_own file.good ((file.path, (Gitlink, file.digits)) ∷ file.rest) (omega (arith, marks_bad)) paths bad_leaves file.not_null bytes)
 
     bad_fails : (n : ℕ) (earlier : List Command) → commands_within (suc n) earlier bad_items Finished ≡ stops (Some faults.Unsupported)
@@ -270,26 +275,26 @@ module _ (h : History) (is : IsHistory h) (before : List Commit) (bad : Commit) 
 at_commits : (h : History) (P : List Commit → Type 0) (cs : List Commit) → reached_commits h ≡ cs → P cs → P (reached_commits h)
 at_commits h P cs e k = subst P (sym e) k
 
-exported : (h : History) → IsHistory h → length (export_text h) < 2 ^ 64 → AreExported h (reached_commits h)
-exported h is short = record { follows = all_follow h is; peeled = peeled_ones h is; fits = short }
+exported : (h : History) → IsHistory h → HaveEncodingsAlone (reached_commits h) → length (export_text h) < 2 ^ 64 → AreExported h (reached_commits h)
+exported h is alone short = record { follows = all_follow h is; peeled = peeled_ones h is; alone = alone; fits = short }
 
 pub nulls_end : NullGitlinksEndCommands
-nulls_end h is some short = by (first_commit (reached_commits h))
+nulls_end h is some alone short = by (first_commit (reached_commits h))
   where
     by : HaveNoNullGitlink (reached_commits h) ⊎ FirstCommit (reached_commits h) → ReadsBefore (reached_commits h) h.refs
     by (inl none) = absurd (some none)
     by (inr r) =
-        let known = subst (AreExported h) r.are (exported h is short) in
+        let known = subst (AreExported h) r.are (exported h is alone short) in
         at_commits h (λ cs. ReadsBefore cs h.refs) (r.before ++ r.bad ∷ r.after) r.are
         (commands_before h is r.before r.bad r.after r.file r.clean known.follows known)
 
 pub nulls_refused : NullGitlinksAreRefused
-nulls_refused name h is some short = by (first_commit (reached_commits h))
+nulls_refused name h is some alone short = by (first_commit (reached_commits h))
   where
     by : HaveNoNullGitlink (reached_commits h) ⊎ FirstCommit (reached_commits h) → IsRefusedAt name (reached_commits h) h.refs
     by (inl none) = absurd (some none)
     by (inr r) =
-        let known = subst (AreExported h) r.are (exported h is short) in
+        let known = subst (AreExported h) r.are (exported h is alone short) in
         at_commits h (λ cs. IsRefusedAt name cs h.refs) (r.before ++ r.bad ∷ r.after) r.are
         (import_refused h is r.before r.bad r.after r.file r.clean known.follows known name)
 

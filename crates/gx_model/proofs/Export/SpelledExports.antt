@@ -14,7 +14,7 @@ use Rattle.gx_model.specs.Texts.Paths.{is_file_path}
 use Rattle.gx_model.specs.Texts.RefNames.{is_ref_name, is_tag_name}
 use Rattle.gx_model.specs.Replay.{finished, peeled_at, replayed, replayed_text, start}
 use Rattle.gx_model.specs.Texts.{Bytes}
-use Rattle.gx_model.specs.Histories.Values.{Commit, Value, blob_value, commit_value, files_of, is_content, is_leaf, is_proper, is_proper_text, list_of, parents_of, same_value, text_of, unless_gitlink}
+use Rattle.gx_model.specs.Histories.Values.{Commit, IsEncodingAlone, Value, blob_value, commit_value, files_of, is_content, is_leaf, is_proper, is_proper_text, list_of, parents_of, same_value, text_of, unless_gitlink}
 use Rattle.gx_model.specs.declared.objects.Kind.{Kind}
 use Rattle.gx_model.specs.declared.objects.Mode.{Mode}
 use Rattle.gx_model.specs.declared.objects.Mode.TheVariants.{Dir, Exec, File, Gitlink, Link}
@@ -115,15 +115,15 @@ pub root_spelled : (ps : List Commit) → AreSpelled (root_reset ps)
 root_spelled ps = reset_spelled carrier ps carrier_is_ref
 
 -- a commit whose ref is a ref name, whose parents are named by marks, and whose changes can be spelled
-pub commit_spelled : (r : Bytes) (names : Commit → CommitIsh) (changes : List Change) (ws : List Value) (c : Commit) → is_ref_name r ≡ true → suc (length ws) < 2 ^ 64 → length (text_of c).message < 2 ^ 64 → T (is_proper_text (text_of c))
+pub commit_spelled : (r : Bytes) (names : Commit → CommitIsh) (changes : List Change) (ws : List Value) (c : Commit) → is_ref_name r ≡ true → suc (length ws) < 2 ^ 64 → length (text_of c).message < 2 ^ 64 → T (is_proper_text (text_of c)) → IsEncodingAlone (text_of c).headers
     → AllByRecursion (λ p. IsNamedCommit (names p)) (list_of (parents_of c)) → AllByRecursion IsSpelledChange changes → IsSpelled (commit_on r names changes ws c)
-commit_spelled r names changes ws c e lt fits text named spelled = record {
+commit_spelled r names changes ws c e lt fits text alone named spelled = record {
   ref = e;
   mark = (omega arith, lt);
   author = is_true _ (first _ _ (first _ _ text));
   has_author = refl;
   committer = is_true _ (second (is_ident (text_of c).author) _ (first _ _ text));
-  encoding = is_true _ (second (is_ident (text_of c).author && is_ident (text_of c).committer) _ text);
+  headers = alone;
   message = fits;
   parent = first_named names (list_of (parents_of c)) named;
   merges = others_named names (list_of (parents_of c)) named;
@@ -135,7 +135,7 @@ own_commit_spelled : (ws : List Value) (c : Commit) → suc (length ws) < 2 ^ 64
 own_commit_spelled ws c lt r p h g =
     let content = first (is_content (files_of c)) (is_proper_text (text_of c)) p in
     let paths = (parts_of (files_of c) (map_of (files_of c) content)).paths in
-    commit_spelled carrier (λ p. marked_in ws (commit_value p)) (Clear ∷ map (file_change ws) (files_of c)) ws c carrier_is_ref lt r.message (second (is_content (files_of c)) (is_proper_text (text_of c)) p)
+    commit_spelled carrier (λ p. marked_in ws (commit_value p)) (Clear ∷ map (file_change ws) (files_of c)) ws c carrier_is_ref lt r.message (second (is_content (files_of c)) (is_proper_text (text_of c)) p) r.headers
     (all_marks ws (list_of (parents_of c)) (omega arith) h)
     (tt, changes_spelled ws (files_of c) (omega arith) paths (leaves_of (files_of c) content) r.files g)
 

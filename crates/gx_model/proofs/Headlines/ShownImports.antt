@@ -29,7 +29,7 @@ use Rattle.gx_model.specs.Records.Lookups.{first_named}
 use Rattle.gx_model.specs.Revisions.{Revision}
 use Rattle.gx_model.specs.Revisions.Denotation.{Shown, denoted, file_shown, files_in, first_ref, looked_up, object, of_file, ref_names, shown_value, submodule}
 use Rattle.gx_model.specs.Revisions.Ranges.{listed}
-use Rattle.gx_model.specs.Streams.Gitlinks.{HoldsNoNullGitlink}
+use Rattle.gx_model.specs.Streams.Gitlinks.{HoldsSayable}
 use Rattle.gx_model.specs.Streams.Grammar.{commands_of}
 use Rattle.gx_model.specs.Streams.Items.{items_of}
 use Rattle.gx_model.specs.Replay.{imported_asked}
@@ -241,8 +241,8 @@ module _ (name : Kind → Bytes → Bytes) (namer : IsNamer name) where
         reached = again;
       }
 
-  -- a history without gitlinks of forty zeros is shown by each repository that has its records, and comes back
-  pub shows : (h : History) → IsHistory h → HoldsNoNullGitlink h → (r : Records) → HasRecordsOf name r h → ShowsAndComesBack name r h
+  -- a history that a stream can say is shown by each repository that has its records, and comes back
+  pub shows : (h : History) → IsHistory h → HoldsSayable h → (r : Records) → HasRecordsOf name r h → ShowsAndComesBack name r h
   unfolding imported_asked
   shows h is none r has =
       let s : StandsFor name r h = record { history = is; records = has.records; distinct = has.distinct; refs = has.refs } in (

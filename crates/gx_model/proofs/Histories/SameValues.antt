@@ -58,18 +58,18 @@ option_same (Some x) = is_same x x refl
 -- texts of commits that the test finds equal are one
 pub text_is : (t u : CommitText) → T (same_text_of t u) → t ≡ u
 text_is t u h =
-    let h3 = first (same_bytes t.author u.author && same_bytes t.committer u.committer && option_eq same_bytes t.encoding u.encoding) _ h in
+    let h3 = first (same_bytes t.author u.author && same_bytes t.committer u.committer && same_bytes t.headers u.headers) _ h in
     let h2 = first (same_bytes t.author u.author && same_bytes t.committer u.committer) _ h3 in
     λ i. record {
       author = same_is t.author u.author (first _ _ h2) i;
       committer = same_is t.committer u.committer (second _ _ h2) i;
-      encoding = option_is t.encoding u.encoding (second _ _ h3) i;
+      headers = same_is t.headers u.headers (second _ _ h3) i;
       message = same_is t.message u.message (second _ _ h) i;
     }
 
 -- the text of a commit passes the test with itself
 pub text_same : (t : CommitText) → T (same_text_of t t)
-text_same t = both _ _ (both _ _ (both _ _ (is_same _ t.author refl) (is_same _ t.committer refl)) (option_same t.encoding)) (is_same _ t.message refl)
+text_same t = both _ _ (both _ _ (both _ _ (is_same _ t.author refl) (is_same _ t.committer refl)) (is_same _ t.headers refl)) (is_same _ t.message refl)
 
 mutual
   -- commits that the test finds equal are one

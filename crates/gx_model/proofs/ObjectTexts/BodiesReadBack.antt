@@ -7,11 +7,13 @@ use Rattle.std.proofs.lemmas.Bool.Decides.{nat_tests}
 use Rattle.gx_model.specs.declared.objects.Mode.{Mode}
 use Rattle.gx_model.specs.declared.objects.Mode.TheVariants.{File, Exec, Link, Gitlink, Dir}
 use Rattle.gx_model.specs.Texts.{Bytes}
+use Rattle.gx_model.specs.Texts.Headers.{headers_in}
 use Rattle.gx_model.specs.Texts.Paths.{is_component}
 use Rattle.gx_model.specs.Histories.Values.{CommitText, is_optional_line, is_proper_text}
 use Rattle.gx_model.specs.Texts.{is_line}
 use Rattle.gx_model.specs.Objects.{Entry, tree_text, entry_text, mode_text, hex, hex_digit, digit_value, unhex, line, optional_line, text_lines, CommitParts, commit_text, TagParts, tag_text, is_name, is_canonical, IsTreeText, IsCommitText, IsTagText}
 use Rattle.gx_model.specs.Records.HistoryOf.{sides_at, mode_in, entry_in, after_entry, entries_in_to, entries_in, field, parents_in_to, optional_in, text_in, commit_parts_in, tag_parts_in}
+use Rattle.gx_model.proofs.Texts.HeaderTexts.{headers_cut}
 use Rattle.gx_model.proofs.Texts.PathTests.{component_free, first, is_true, second}
 use Rattle.gx_model.proofs.ObjectTexts.EntryTexts.{is_free, AreNamed, entry_flat, mode_free, starts_some}
 use Rattle.gx_model.proofs.Records.OneHistory.{line_flat, text_flat, hex_line}
@@ -160,10 +162,6 @@ author_law x r h = ap (field 7) (line_flat (codes "author") x r) ∙ line_cut x 
 committer_law : (x r : Bytes) → T (is_line x) → field 10 (line (codes "committer") x ++ r) ≡ (x, r)
 committer_law x r h = ap (field 10) (line_flat (codes "committer") x r) ∙ line_cut x r h
 
-encoding_law : (o : Option Bytes) (m : Bytes) → T (is_optional_line o) → optional_in 8 (optional_line (codes "encoding") o ++ (10 ∷ m)) ≡ (o, m)
-encoding_law None m h = refl
-encoding_law (Some x) m h = ap (optional_in 8) (line_flat (codes "encoding") x (10 ∷ m)) ∙ ap (λ (q : Bytes × Bytes). let p : Option Bytes × Bytes = (Some q.0, drop 1 q.1) in p) (line_cut x (10 ∷ m) h)
-
 tagger_law : (o : Option Bytes) (m : Bytes) → T (is_optional_line o) → optional_in 6 (optional_line (codes "tagger") o ++ (10 ∷ m)) ≡ (o, m)
 tagger_law None m h = refl
 tagger_law (Some x) m h = ap (optional_in 6) (line_flat (codes "tagger") x (10 ∷ m)) ∙ ap (λ (q : Bytes × Bytes). let p : Option Bytes × Bytes = (Some q.0, drop 1 q.1) in p) (line_cut x (10 ∷ m) h)
@@ -173,8 +171,8 @@ text_law t f =
     let g = text_lines_of t f in
     let a = ap (field 7) (text_flat t) ∙ author_law t.author _ g.author in
     let c = ap (λ (q : Bytes × Bytes). field 10 q.1) a ∙ committer_law t.committer _ g.committer in
-    let o = ap (λ (q : Bytes × Bytes). optional_in 8 q.1) c ∙ encoding_law t.encoding t.message g.encoding in
-    λ i. record { author = (a i).0; committer = (c i).0; encoding = (o i).0; message = (o i).1 }
+    let o = ap (λ (q : Bytes × Bytes). headers_in q.1) c ∙ headers_cut t.headers t.message g.headers in
+    λ i. record { author = (a i).0; committer = (c i).0; headers = (o i).0; message = (o i).1 }
 
 abbrev parent_lines_of : List Bytes → Bytes
 parent_lines_of ns = flat_map (λ n. line (codes "parent") (hex n)) ns

@@ -10,7 +10,7 @@ use Rattle.gx_model.specs.Histories.{History, IsHistory}
 use Rattle.gx_model.specs.Revisions.Ranges.{Word, listing}
 use Rattle.gx_model.specs.Export.{blob_commands, command_items, commit_on, contents, ref_by, reset_before, with_blobs}
 use Rattle.gx_model.specs.Changes.{all_changes, carrier_reset, commit_changes, commit_ref, commit_with_changes, commits_with_changes, named_in, own_files, range_commands, range_text, sending_commands, set_refs, with_changes}
-use Rattle.gx_model.specs.Laws.ExportLaws.{HaveNoNullGitlink, IsNotNull, IsReadableTarget}
+use Rattle.gx_model.specs.Laws.ExportLaws.{AreSayable, IsNotNull, IsReadableTarget}
 use Rattle.gx_model.specs.Laws.RangeLaws.{IsReadableChange, IsReadableRange}
 use Rattle.gx_model.proofs.Changes.ChangeSteps.{differs}
 use Rattle.gx_model.proofs.Export.CommitSteps.{leaves_of}
@@ -28,7 +28,7 @@ module _ (name : Kind → Bytes → Bytes) (refs : Refs) where
     pub commits : AllByRecursion IsReadableChange cs
     pub count : length (fold with_changes ws cs) ≤ length ws + length (flat_map command_items (commits_with_changes name refs ws cs))
 
-  commits_read : (ws : List Value) (cs : List Commit) → AllByRecursion (λ c. T (is_proper (commit_value c))) cs → BlobsFit ws → HaveNoNullGitlink cs → CommandsFit (commits_with_changes name refs ws cs) → AreRead ws cs
+  commits_read : (ws : List Value) (cs : List Commit) → AllByRecursion (λ c. T (is_proper (commit_value c))) cs → BlobsFit ws → AreSayable cs → CommandsFit (commits_with_changes name refs ws cs) → AreRead ws cs
   commits_read ws [] p t r g = record { commits = tt; count = omega arith }
   commits_read ws (c ∷ cs) p t r g =
       let xs = contents (own_files c) in
@@ -42,14 +42,14 @@ module _ (name : Kind → Bytes → Bytes) (refs : Refs) where
       let blobs = blobs_fit ws xs t (commands_left (blob_commands ws xs) _ mine) in
       let own = commands_right (reset_before on ps) _ (commands_right (blob_commands ws xs) _ mine) in
       let leaves = all_filter (λ e. is_leaf e.1.0 e.1.1) (differs c) (files_of c) (leaves_of (files_of c) (first (is_content (files_of c)) (is_proper_text (text_of c)) p.0)) in
-      let links = all_left (λ file. IsNotNull file.1.0 file.1.1) (differs c) (files_of c) r.0 in
+      let links = all_left (λ file. IsNotNull file.1.0 file.1.1) (differs c) (files_of c) r.0.files in
       let again = commits_read (with_changes ws c) cs p.1 (later_commit us c blobs.later) r.1 (commands_right one rest g) in
       let a = count_append one rest in
       let d = count_append (blob_commands ws xs) (reset_before on ps ++ (last ∷ [])) in
       let e = count_append (reset_before on ps) (last ∷ []) in
       let made : 1 ≤ length (flat_map command_items (last ∷ [])) = omega arith in
       record {
-        commits = (record { message = message_in_fits on (named_in name us) (commit_changes us c) us c (fit_left (command_items last) [] own); files = files_fit (own_files c) leaves links blobs.now }, again.commits);
+        commits = (record { headers = r.0.headers; message = message_in_fits on (named_in name us) (commit_changes us c) us c (fit_left (command_items last) [] own); files = files_fit (own_files c) leaves links blobs.now }, again.commits);
         count = omega (arith, a, d, e, made, blobs_count ws xs, again.count);
       }
 
@@ -57,7 +57,7 @@ module _ (name : Kind → Bytes → Bytes) (closed : Bool) (h : History) (words 
   refs_read : (ws : List Value) (rs : Refs) → CommandsFit (map (ref_by (named_in name ws)) rs) → AllByRecursion (λ r. IsReadableTarget r.1) rs
   refs_read ws rs g = targets_fit (named_in name ws) rs g
 
-  pub range_readable : HaveNoNullGitlink (reverse (listing h words)) → length (range_text name closed h words) < 2 ^ 64 → IsReadableRange h words
+  pub range_readable : AreSayable (reverse (listing h words)) → length (range_text name closed h words) < 2 ^ 64 → IsReadableRange h words
   range_readable r lt =
       let cs = reverse (listing h words) in
       let set = set_refs h words in

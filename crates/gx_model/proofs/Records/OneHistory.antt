@@ -16,6 +16,7 @@ use Rattle.gx_model.specs.Histories.{IsIn, IsClosedAfter, Target, at_commit, at_
 use Rattle.gx_model.proofs.Texts.PathTests.{both, first, second, is_true, not_by, is_same}
 use Rattle.gx_model.proofs.ObjectTexts.EntryTexts.{split_at}
 use Rattle.gx_model.proofs.ObjectTexts.OneTree.{one_tree}
+use Rattle.gx_model.proofs.Texts.HeaderTexts.{one_headers}
 use Rattle.gx_model.proofs.Texts.HexDigits.{one_hex}
 use Rattle.gx_model.proofs.Texts.PlainTexts.{text_lines_of, tag_line, optional_ident_line}
 
@@ -45,10 +46,10 @@ one_optional b w (Some x) (Some y) m n h f g e =
     (ap Some k.0, l)
 
 -- the lines of a commit's text, grouped to the right
-pub text_flat : (t : CommitText) → text_lines t ≡ line (codes "author") t.author ++ (line (codes "committer") t.committer ++ (optional_line (codes "encoding") t.encoding ++ (10 ∷ t.message)))
+pub text_flat : (t : CommitText) → text_lines t ≡ line (codes "author") t.author ++ (line (codes "committer") t.committer ++ (t.headers ++ (10 ∷ t.message)))
 text_flat t =
-    append_assoc (line (codes "author") t.author ++ line (codes "committer") t.committer) (optional_line (codes "encoding") t.encoding) (10 ∷ t.message)
-    ∙ append_assoc (line (codes "author") t.author) (line (codes "committer") t.committer) (optional_line (codes "encoding") t.encoding ++ (10 ∷ t.message))
+    append_assoc (line (codes "author") t.author ++ line (codes "committer") t.committer) t.headers (10 ∷ t.message)
+    ∙ append_assoc (line (codes "author") t.author) (line (codes "committer") t.committer) (t.headers ++ (10 ∷ t.message))
 
 one_text : (t u : CommitText) → T (is_proper_text t) → T (is_proper_text u) → text_lines t ≡ text_lines u → t ≡ u
 one_text t u f g e =
@@ -56,8 +57,8 @@ one_text t u f g e =
     let g2 = text_lines_of u g in
     let a = one_line (codes "author") t.author u.author _ _ f2.author g2.author (sym (text_flat t) ∙ e ∙ text_flat u) in
     let c = one_line (codes "committer") t.committer u.committer _ _ f2.committer g2.committer a.1 in
-    let o = one_optional 101 (codes "ncoding") t.encoding u.encoding t.message u.message (λ k. omega arith) f2.encoding g2.encoding c.1 in
-    λ i. record { author = a.0 i; committer = c.0 i; encoding = o.0 i; message = o.1 i }
+    let o = one_headers t.headers u.headers t.message u.message f2.headers g2.headers c.1 in
+    λ i. record { author = a.0 i; committer = c.0 i; headers = o.0 i; message = o.1 i }
 
 -- digits are a line
 pub hex_line : (x : Bytes) → T (is_line (hex x))

@@ -1,4 +1,5 @@
--- What each step of a replay makes of a state without gitlinks of forty zeros.
+-- What each step of a replay makes of a state that a stream can say: without gitlinks of forty zeros, and without headers but those
+-- of encodings.
 use Rattle.std.proofs.Common.{◌≡◌, ℕ, suc, ◌+◌, Bool, true, false, cond, List, [], ◌∷◌, map, Option, None, Some, Result, Ok, Err, refl, ap, subst, ◌∙◌, arith}
 use Rattle.std.specs.Prelude.{IfOk, IfSome, ◌&&◌, ◌==◌, length}
 use Rattle.std.proofs.lemmas.Grind.{common_steps}
@@ -27,8 +28,8 @@ use Rattle.gx_model.specs.Streams.Commands as command
 use Rattle.gx_model.specs.Streams.Commands.{Asks, Blob, Change, Checkpoint, Clear, Command, CommitIsh, CommitParts, Copy, DataRef, Done, Inline, Mark, Marked, Modify, Named, Object, OptionLine, Progress, Remove, Rename, Reset, TagParts}
 use Rattle.gx_model.specs.Streams.Grammar.{commands_of}
 use Rattle.gx_model.specs.Streams.Lines.{is_null}
-use Rattle.gx_model.specs.Laws.ExportLaws.{IsNotNull}
-use Rattle.gx_model.specs.Streams.Gitlinks.{BringsNoNullGitlink, GivesNoNullGitlink, HoldsNoNullGitlink, HoldsTellsHas, RefusalsKeepNone, ReplaysKeepNone, TextsBringNone}
+use Rattle.gx_model.specs.Laws.ExportLaws.{IsNotNull, IsSayable}
+use Rattle.gx_model.specs.Streams.Gitlinks.{BringsSayable, GivesNoNullGitlink, HoldsSayable, HoldsTellsHas, RefusalsKeepNone, ReplaysKeepNone, TextsBringNone}
 use Rattle.gx_model.specs.Replay.{Outcome, State, added, all_changed, all_committed, at, blob_bytes, changed, checkpointed, commit_alone, committed, committed_for, content, ended, final, finished, first_parent, is_fast_forward, marked, on_branch, refused, replayed, report, start, starting_files, step, step_checkpoint, step_commit, step_reset, step_tag, text_made, with_branch, with_first_parent}
 use Rattle.gx_model.proofs.Replay.GivenCommits.{IsStateOf, MayBeOf, OfCommit, all_committed_kept, all_each, alone_kept, committed_kept, first_kept, for_branch, with_first_kept}
 use Rattle.gx_model.proofs.Export.KeptCommits.{all_in}
@@ -37,14 +38,14 @@ use Rattle.gx_model.proofs.Replay.NullGitlinks.{AreNotNull, IsFree, IsFreeValue,
 
 -- ---- states
 
--- no commit that a state holds has one
+-- a stream can say each commit that a state holds
 pub record IsFreeState (s : State) : Type 0 where
   pub values : AllByRecursion IsFreeValue s.history.values
   pub refs : AllByRecursion (λ ref. IsFreeValue (value_at ref.1)) s.history.refs
   pub marks : AllByRecursion (λ mark. IsFreeValue mark.1) s.marks
   pub branches : AllByRecursion (λ branch. IfSome branch.1 IsFree) s.branches
   pub tags : AllByRecursion (λ made. IsFree made.1.target) s.tags
-  pub kept : HoldsNoNullGitlink s.kept.history
+  pub kept : HoldsSayable s.kept.history
 
 free_value : (v : Value) → IsFreeValue v → OfCommit IsFree v
 free_value (blob_value x) h = tt
@@ -55,7 +56,7 @@ free_value (tag_value t) h = h
 free_elders : (c : Commit) → IsFree c → AllByRecursion IsFree (list_of (parents_of c))
 free_elders c h = free_list (parents_of c) (free_parents c h)
 
--- so no commit that names give has one
+-- so it can say each that names give
 free_commits_of : (s : State) → IsFreeState s → IsStateOf IsFree s
 free_commits_of s h = record {
   values = all_each IsFreeValue (OfCommit IsFree) free_value s.history.values h.values;
@@ -64,8 +65,8 @@ free_commits_of s h = record {
   branches = h.branches;
 }
 
--- a replay that begins with a history of which no commit has one
-pub start_free : (h : History) → IsHistory h → HoldsNoNullGitlink h → IsFreeState (start h)
+-- a replay that begins with a history whose commits it can say
+pub start_free : (h : History) → IsHistory h → HoldsSayable h → IsFreeState (start h)
 start_free h is none =
     let values = all_free [] h.values tt is.closed none in
     record { values = values; refs = by h.refs values is.held; marks = tt; branches = tt; tags = tt; kept = none }
@@ -74,8 +75,8 @@ start_free h is none =
     by [] values k = tt
     by (r ∷ rs) values k = (all_in IsFreeValue h.values (value_at r.1) values k.0, by rs values k.1)
 
--- no commit of its history has one
-pub none_held : (s : State) → IsFreeState s → HoldsNoNullGitlink s.history
+-- it can say each commit of its history
+pub none_held : (s : State) → IsFreeState s → HoldsSayable s.history
 none_held s h = none_null s.history.values h.values
 
 with_value_free : (vs : List Value) (v : Value) → AllByRecursion IsFreeValue vs → IsFreeValue v → AllByRecursion IsFreeValue (with_value vs v)
@@ -226,15 +227,15 @@ module _ (name : Kind → Bytes → Bytes) where
   starting_free None h = tt
   starting_free (Some c) h = free_files c h
 
-  commit_step : (s : State) (c : CommitParts) → IsFreeState s → AllByRecursion GivesNoNullGitlink c.changes → IfOk (step_commit name s c) IsFreeState
+  commit_step : (s : State) (c : CommitParts) → IsFreeState s → BringsSayable (command.Commit c) → IfOk (step_commit name s c) IsFreeState
   commit_step s c h k =
       let kept = free_commits_of s h in
       then_if (MayBeOf IsFree) IsFreeState (first_parent name s c) _ (first_kept IsFree free_elders name s c kept)
       (λ o first. then_if (AllByRecursion IsFree) IsFreeState (all_committed name c.ref s c.merges) _ (all_committed_kept IsFree free_elders name c.ref s c.merges kept)
-      (λ cs others. then_if FilesFree IsFreeState (all_changed name s (starting_files o) c.changes) _ (all_changed_free s (starting_files o) c.changes h (starting_free o first) k)
+      (λ cs others. then_if FilesFree IsFreeState (all_changed name s (starting_files o) c.changes) _ (all_changed_free s (starting_files o) c.changes h (starting_free o first) k.0)
       (λ r both.
       let made = commit r.1 (commits_of (with_first_parent o cs)) (text_made c) in
-      let free : IsFree made = (both.1, free_commits (with_first_parent o cs) (with_first_kept IsFree free_elders name o cs first others)) in
+      let free : IsFree made = ((both.1, k.1), free_commits (with_first_parent o cs) (with_first_kept IsFree free_elders name o cs first others)) in
       on_branch_free c.ref (Some made) (marked c.mark (commit_value made) (added (commit_value made) r.0))
       (marked_free c.mark (commit_value made) (added (commit_value made) r.0) (added_free (commit_value made) r.0 both.0 free) free) free)))
 
@@ -251,7 +252,7 @@ module _ (name : Kind → Bytes → Bytes) where
   reset_step s b (Some x) h =
       then_if IsFree IsFreeState (committed_for name b s x) _ (for_branch IsFree free_elders name b s x (free_commits_of s h)) (λ c k. on_branch_free b (Some c) s h k)
 
-  pub step_free : (s : State) (c : Command) → IsFreeState s → BringsNoNullGitlink c → IfOk (step name s c) IsFreeState
+  pub step_free : (s : State) (c : Command) → IsFreeState s → BringsSayable c → IfOk (step name s c) IsFreeState
   step_free s (Blob b) h k = marked_free b.mark (blob_value b.bytes) (added (blob_value b.bytes) s) (added_free (blob_value b.bytes) s h tt) tt
   step_free s (command.Commit c) h k = commit_step s c h k
   step_free s (command.Tag t) h k = tag_step s t h
@@ -268,8 +269,8 @@ module _ (name : Kind → Bytes → Bytes) where
 
   -- the history that an outcome gives, or keeps
   abbrev IsFreeOutcome : Outcome → Type 0
-  IsFreeOutcome (finished h x r) = HoldsNoNullGitlink h
-  IsFreeOutcome (refused n f x kept) = HoldsNoNullGitlink kept.history
+  IsFreeOutcome (finished h x r) = HoldsSayable h
+  IsFreeOutcome (refused n f x kept) = HoldsSayable kept.history
 
   end_free : (n : ℕ) (s : State) (end : Option Fault) → IsFreeState s → IsFreeOutcome (ended n s end)
   end_free n s (Some e) h = h.kept
@@ -279,7 +280,7 @@ module _ (name : Kind → Bytes → Bytes) where
       by true = none_held s h
       by false = h.kept
 
-  replayed_free : (n : ℕ) (s : State) (cs : List Command) (end : Option Fault) → IsFreeState s → AllByRecursion BringsNoNullGitlink cs → IsFreeOutcome (replayed name n s cs end)
+  replayed_free : (n : ℕ) (s : State) (cs : List Command) (end : Option Fault) → IsFreeState s → AllByRecursion BringsSayable cs → IsFreeOutcome (replayed name n s cs end)
   replayed_free n s [] end h all = end_free n s end h
   replayed_free n s (c ∷ cs) end h all = by (step name s c) (step_free s c h all.0) (λ t free. replayed_free (n + 1) t cs end free all.1)
     where
@@ -300,4 +301,4 @@ none_from_text name h k given fails text counts is none e =
     none_kept name h k commands.list commands.fault 0 text counts is none (none_brought (items_of given fails)) e
 
 pub none_reached : HoldsTellsHas
-none_reached h none = all_pass (λ made. AllByRecursion (λ file. IsNotNull file.1.0 file.1.1) (files_of made)) _ (filter_map commit_of h.values) none
+none_reached h none = all_pass IsSayable _ (filter_map commit_of h.values) none

@@ -148,7 +148,7 @@ module _ (name : Kind → Bytes → Bytes) where
   parents_held vs ws g (c ∷ cs) h = (g (commit_value c) h.0, parents_held vs ws g cs h.1)
 
   text_proper : (c : CommitParts) → IsProperCommit c → T (is_proper_text (text_made c))
-  text_proper c h = both (is_ident (unwrap_or c.author c.committer) && is_ident c.committer) _ (both (is_ident (unwrap_or c.author c.committer)) _ (by c.author h.author) (passes _ h.committer)) (passes _ h.encoding)
+  text_proper c h = both (is_ident (unwrap_or c.author c.committer) && is_ident c.committer) _ (both (is_ident (unwrap_or c.author c.committer)) _ (by c.author h.author) (passes _ h.committer)) (passes _ h.headers)
     where
       by : (o : Option Bytes) → IsTrue (is_optional_ident o) → T (is_ident (unwrap_or o c.committer))
       by None k = passes _ h.committer

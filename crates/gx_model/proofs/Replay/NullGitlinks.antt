@@ -1,4 +1,4 @@
--- What commands make of a history without gitlinks of forty zeros.
+-- What commands make of a history that a stream can say: it has no gitlinks of forty zeros, and no headers but those of encodings.
 use Rattle.std.proofs.Common.{Bool, true, false, cond, List, [], ◌∷◌, ◌++◌, map, Option, None, Some, Result, Ok, Err, sym, subst}
 use Rattle.std.specs.Prelude.{IfOk, IfSome, ⊤}
 use Rattle.std.specs.declared.cmp.Ordering.TheVariants.{Less, Equal, Greater}
@@ -11,10 +11,10 @@ use Rattle.gx_model.specs.Faults.{unless, ◌>>=◌}
 use Rattle.gx_model.specs.Texts.Paths.{Path, path_cmp}
 use Rattle.gx_model.specs.Histories.Files.{FileMap, under}
 use Rattle.gx_model.specs.Histories.Edits.{copied, copy_fault, modified, moved, renamed, with_all, without, without_line}
-use Rattle.gx_model.specs.Histories.Values.{Commit, Commits, Value, blob_value, commit, commit_of, commit_value, commits_of, files_of, list_of, more, none, parents_of, tag_value, tree_value}
+use Rattle.gx_model.specs.Histories.Values.{Commit, Commits, IsEncodingAlone, Value, blob_value, commit, commit_of, commit_value, commits_of, files_of, list_of, more, none, parents_of, tag_value, tree_value}
 use Rattle.gx_model.specs.Histories.{IsClosedAfter, IsIn, is_in, with_one, with_tree}
 use Rattle.gx_model.specs.Records.Growth.{all_trees}
-use Rattle.gx_model.specs.Laws.ExportLaws.{HaveNoNullGitlink, IsNotNull}
+use Rattle.gx_model.specs.Laws.ExportLaws.{AreSayable, IsNotNull, IsSayable}
 use Rattle.gx_model.proofs.Records.GrownTrees.{trees_fold}
 use Rattle.gx_model.proofs.Export.KeptCommits.{all_in}
 
@@ -82,14 +82,14 @@ module _ {X : Type 0} (P : X → Type 0) where
       (with_all_leaves (moved s d (under s f)) (without_line d (without s f)) (moved_leaves s d (under s f) (all_pass (λ file. P file.1) _ f h))
       (all_pass (λ file. P file.1) _ (without s f) (all_pass (λ file. P file.1) _ f h)))
 
--- ---- commits without one, up to their first ancestors
+-- ---- commits that a stream can say, up to their first ancestors
 
 abbrev pub AreNotNull : FileMap Bytes → Type 0
 AreNotNull f = AllByRecursion (λ file. IsNotNull file.1.0 file.1.1) f
 
 abbrev mutual
   pub IsFree : Commit → Type 0
-  IsFree (commit files parents text) = AreNotNull files × AreFree parents
+  IsFree (commit files parents text) = (AreNotNull files × IsEncodingAlone text.headers) × AreFree parents
 
   pub AreFree : Commits → Type 0
   AreFree none = ⊤
@@ -102,7 +102,10 @@ IsFreeValue (commit_value c) = IsFree c
 IsFreeValue (tag_value t) = IsFree t.target
 
 pub free_files : (c : Commit) → IsFree c → AreNotNull (files_of c)
-free_files (commit files parents text) h = h.0
+free_files (commit files parents text) h = h.0.0
+
+pub free_sayable : (c : Commit) → IsFree c → IsSayable c
+free_sayable (commit files parents text) h = record { files = h.0.0; headers = h.0.1 }
 
 pub free_parents : (c : Commit) → IsFree c → AreFree (parents_of c)
 free_parents (commit files parents text) h = h.1
@@ -120,11 +123,11 @@ free_among : (vs : List Value) → AllByRecursion IsFreeValue vs → (cs : Commi
 free_among vs h none k = tt
 free_among vs h (more c cs) k = (all_in IsFreeValue vs (commit_value c) h k.0, free_among vs h cs k.1)
 
-free_made : (vs : List Value) → AllByRecursion IsFreeValue vs → (c : Commit) → AreNotNull (files_of c) → AllByRecursion (IsIn vs) (map commit_value (list_of (parents_of c))) → IsFree c
-free_made vs h (commit files parents text) n k = (n, free_among vs h parents k)
+free_made : (vs : List Value) → AllByRecursion IsFreeValue vs → (c : Commit) → IsSayable c → AllByRecursion (IsIn vs) (map commit_value (list_of (parents_of c))) → IsFree c
+free_made vs h (commit files parents text) n k = ((n.files, n.headers), free_among vs h parents k)
 
 -- the values of a history whose commits have none are free
-pub all_free : (before vs : List Value) → AllByRecursion IsFreeValue before → IsClosedAfter before vs → HaveNoNullGitlink (filter_map commit_of vs) → AllByRecursion IsFreeValue vs
+pub all_free : (before vs : List Value) → AllByRecursion IsFreeValue before → IsClosedAfter before vs → AreSayable (filter_map commit_of vs) → AllByRecursion IsFreeValue vs
 all_free before [] h k n = tt
 all_free before (blob_value x ∷ vs) h k n = (tt, all_free (before ++ blob_value x ∷ []) vs (all_join IsFreeValue before (blob_value x ∷ []) h (tt, tt)) k.2 n)
 all_free before (tree_value f ∷ vs) h k n = (tt, all_free (before ++ tree_value f ∷ []) vs (all_join IsFreeValue before (tree_value f ∷ []) h (tt, tt)) k.2 n)
@@ -136,11 +139,11 @@ all_free before (tag_value t ∷ vs) h k n =
     (free, all_free (before ++ tag_value t ∷ []) vs (all_join IsFreeValue before (tag_value t ∷ []) h (free, tt)) k.2 n)
 
 -- and the other way round
-pub none_null : (vs : List Value) → AllByRecursion IsFreeValue vs → HaveNoNullGitlink (filter_map commit_of vs)
+pub none_null : (vs : List Value) → AllByRecursion IsFreeValue vs → AreSayable (filter_map commit_of vs)
 none_null [] h = tt
 none_null (blob_value x ∷ vs) h = none_null vs h.1
 none_null (tree_value f ∷ vs) h = none_null vs h.1
-none_null (commit_value c ∷ vs) h = (free_files c h.0, none_null vs h.1)
+none_null (commit_value c ∷ vs) h = (free_sayable c h.0, none_null vs h.1)
 none_null (tag_value t ∷ vs) h = none_null vs h.1
 
 -- ---- values that are added

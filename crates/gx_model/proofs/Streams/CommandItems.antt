@@ -10,6 +10,7 @@ use Rattle.std.proofs.lemmas.Grind.{flat_map-append}
 use Rattle.std.proofs.lemmas.Slice.Eq.{bytes_eq-Decides}
 use Rattle.gx_model.specs.declared.features.Feature.TheVariants as features
 use Rattle.gx_model.specs.Texts.{Bytes, cut_at, lacks}
+use Rattle.gx_model.specs.Texts.Headers.{encoding_header, encoding_in}
 use Rattle.gx_model.specs.Texts.RefNames.{is_ref_name, is_tag_name}
 use Rattle.gx_model.specs.Texts.Idents.{is_ident}
 use Rattle.gx_model.specs.Faults.{Given, ◌>>=◌}
@@ -22,6 +23,7 @@ use Rattle.gx_model.specs.Histories.Values.{is_optional_encoding, is_optional_id
 use Rattle.std.specs.Option.{unwrap_or}
 use Rattle.gx_model.specs.Export.{reset_items, commit_ish_text, change_items, command_items, from_line, word_line_if}
 use Rattle.gx_model.specs.Laws.ExportLaws.{IsMark, IsNamedCommit, IsNamedCommitIf, IsSpelledChange, IsSpelled, HasMark, between}
+use Rattle.gx_model.proofs.Texts.HeaderTexts.{encoding_told}
 use Rattle.gx_model.proofs.Streams.CommandFields.{mark_read, commit_ish_digits, commit_ish_read}
 use Rattle.gx_model.proofs.Streams.ChangeItems.{changes_read, no_block, stream, words_at}
 
@@ -124,7 +126,7 @@ commit_end message parent ms cs rest = Data message ∷ (from_line parent ++ (ma
 commit_read : (ref : Bytes) (n : ℕ) (author committer : Bytes) (encoding : Option Bytes) (message : Bytes) (parent : Option CommitIsh) (ms : List CommitIsh) (cs : List Change) (rest : List Item)
     → IsMark n → is_ident author ≡ true → is_ident committer ≡ true → is_optional_encoding encoding ≡ true → IsNamedCommitIf parent → AllByRecursion IsNamedCommit ms → AllByRecursion IsSpelledChange cs
     → commit_at ref (stream (Line (codes "mark" ++ 32 ∷ 58 ∷ decimal n) ∷ Line (codes "author" ++ 32 ∷ author) ∷ Line (codes "committer" ++ 32 ∷ committer) ∷ (word_line_if (codes "encoding") encoding ++ commit_end message parent ms cs rest)))
-    ≡ Ok (command.Commit (record { ref = ref; mark = Some n; author = Some author; committer = committer; encoding = encoding; message = message; parent = parent; merges = ms; changes = cs }), stream rest)
+    ≡ Ok (command.Commit (record { ref = ref; mark = Some n; author = Some author; committer = committer; headers = encoding_header encoding; message = message; parent = parent; merges = ms; changes = cs }), stream rest)
 unfolding commit_at rest_line_in block_in unsigned_in cut_at
 commit_read ref n author committer None message parent ms cs rest a b c d e f g =
     rw (mark_read n a, ident_read author b, ident_read committer c, links_read parent ms cs rest e f g) refl
@@ -207,15 +209,16 @@ read_first (command.Blob b) rest h k = by b.mark b.bytes h where
     goes_on = refl;
   }
 read_first (command.Commit c) rest h k = by c.mark c.author h.mark h.has_author h.author where
-  by : (m : Option ℕ) (a : Option Bytes) → HasMark m → is_some a ≡ true → is_ident (unwrap_or a []) ≡ true → IsReadFirst (command.Commit (record { ref = c.ref; mark = m; author = a; committer = c.committer; encoding = c.encoding; message = c.message; parent = c.parent; merges = c.merges; changes = c.changes })) rest
+  by : (m : Option ℕ) (a : Option Bytes) → HasMark m → is_some a ≡ true → is_ident (unwrap_or a []) ≡ true → IsReadFirst (command.Commit (record { ref = c.ref; mark = m; author = a; committer = c.committer; headers = c.headers; message = c.message; parent = c.parent; merges = c.merges; changes = c.changes })) rest
   by None a hm ha hi = absurd hm
   by (Some n) None hm ha hi = absurd cc
   by (Some n) (Some a) hm ha hi = record {
     letter = 99;
     letters = codes "ommit" ++ 32 ∷ c.ref;
-    more = Line (codes "mark" ++ 32 ∷ 58 ∷ decimal n) ∷ Line (codes "author" ++ 32 ∷ a) ∷ Line (codes "committer" ++ 32 ∷ c.committer) ∷ (word_line_if (codes "encoding") c.encoding ++ commit_end c.message c.parent c.merges c.changes rest);
-    items = ap (λ t. Line (codes "commit" ++ 32 ∷ c.ref) ∷ Line (codes "mark" ++ 32 ∷ 58 ∷ decimal n) ∷ Line (codes "author" ++ 32 ∷ a) ∷ Line (codes "committer" ++ 32 ∷ c.committer) ∷ t) (commit_regroup c.encoding c.message c.parent c.merges c.changes rest);
-    read = λ early. commit_first early c.ref _ h.ref ∙ commit_read c.ref n a c.committer c.encoding c.message c.parent c.merges c.changes rest hm hi h.committer h.encoding h.parent h.merges h.changes;
+    more = Line (codes "mark" ++ 32 ∷ 58 ∷ decimal n) ∷ Line (codes "author" ++ 32 ∷ a) ∷ Line (codes "committer" ++ 32 ∷ c.committer) ∷ (word_line_if (codes "encoding") (encoding_in c.headers) ++ commit_end c.message c.parent c.merges c.changes rest);
+    items = ap (λ t. Line (codes "commit" ++ 32 ∷ c.ref) ∷ Line (codes "mark" ++ 32 ∷ 58 ∷ decimal n) ∷ Line (codes "author" ++ 32 ∷ a) ∷ Line (codes "committer" ++ 32 ∷ c.committer) ∷ t) (commit_regroup (encoding_in c.headers) c.message c.parent c.merges c.changes rest);
+    read = λ early. commit_first early c.ref _ h.ref ∙ commit_read c.ref n a c.committer (encoding_in c.headers) c.message c.parent c.merges c.changes rest hm hi h.committer (encoding_told c.headers h.headers).proper h.parent h.merges h.changes
+        ∙ ap (λ hs. Ok (command.Commit (record { ref = c.ref; mark = Some n; author = Some a; committer = c.committer; headers = hs; message = c.message; parent = c.parent; merges = c.merges; changes = c.changes }), stream rest)) (encoding_told c.headers h.headers).alone;
     goes_on = refl;
   }
 read_first (command.Tag t) rest h k = by t.mark h.mark where

@@ -20,15 +20,12 @@ use Rattle.gx_model.specs.Streams.Grammar.{AtBlock, AtMark, AtName, Where, blob_
 use Rattle.gx_model.specs.Streams.Lines.{Read, after, any_text, bare, block, commit_ish_of, encoding_of, feature_of, ident_of, is_null, is_word, last_path, mark_of, mode_of, needed, optional, read_needed, read_some, ref_of, rest_line, rest_of, source_path, tag_of, words_of, Words, colon_number}
 use Rattle.gx_model.specs.Texts.Digits.{is_any_name_text}
 use Rattle.gx_model.specs.Replay.ProperReplays.{IsProperChange, IsProperCommand, IsWholePath, StreamsAreProper}
+use Rattle.gx_model.proofs.Texts.HeaderTexts.{encoding_is_headers}
 use Rattle.gx_model.proofs.Texts.PathTests.{both, is_true}
 use Rattle.gx_model.proofs.Texts.PathTexts.{text_of_parts}
 use Rattle.gx_model.proofs.Replay.NullGitlinks.{then_if}
-use Rattle.gx_model.proofs.Streams.ReadGitlinks.{end_given, if_either, then_any}
-
--- what a test lets through
-if_passes : {A : Type 0} (Q : A → Type 0) (b : Bool) (r : Given A) (f : Fault) → (b ≡ true → IfOk r Q) → IfOk (cond b r (Err f)) Q
-if_passes Q true r f h = h refl
-if_passes Q false r f h = tt
+use Rattle.gx_model.proofs.Streams.ReadGitlinks.{end_given}
+use Rattle.gx_model.proofs.Streams.ReadLines.{IsEncodingRead, IsIdentRead, encoding_given, ident_given, if_either, if_passes, maybe_encoding, maybe_ident, needed_given, optional_given, then_any}
 
 -- ---- paths
 
@@ -164,49 +161,6 @@ changes_given (suc n) (Line l ∷ more) s = by (change_at (words_of l) (after mo
     by None e h again = rw e tt
     by (Some r) e h again = rw e (more_given r (λ t. changes_within n t.items t) h again)
 
--- ---- lines that are read
-
-module _ {A : Type 0} (Q : A → Type 0) (name : Bytes) (read : Bytes → Given A) (reads : (bs : Bytes) → IfOk (read bs) Q) where
-  abbrev IfRead : Option A × Stream → Type 0
-  IfRead x = IfSome x.0 Q
-
-  abbrev IsRead : A × Stream → Type 0
-  IsRead x = Q x.0
-
-  optional_given : (s : Stream) → IfOk (optional name read s) IfRead
-  optional_given s = then_any IfRead (rest_line name s) _ (λ r. then_if (λ o. IfSome o Q) IfRead (read_some read r.0) _ (by r.0) (λ x h. h))
-    where
-      by : (o : Option Bytes) → IfOk (read_some read o) (λ o. IfSome o Q)
-      by None = tt
-      by (Some bs) = then_if Q (λ o. IfSome o Q) (read bs) _ (reads bs) (λ x h. h)
-
-  needed_given : (s : Stream) → IfOk (needed name read s) IsRead
-  needed_given s = then_any IsRead (rest_line name s) _ (λ r. then_if Q IsRead (read_needed read r.0) _ (by r.0) (λ x h. h))
-    where
-      by : (o : Option Bytes) → IfOk (read_needed read o) Q
-      by None = tt
-      by (Some bs) = reads bs
-
-abbrev IsIdentRead : Bytes → Type 0
-IsIdentRead x = IsTrue (is_ident x)
-
-abbrev IsEncodingRead : Bytes → Type 0
-IsEncodingRead x = IsTrue (is_optional_encoding (Some x))
-
-ident_given : (bs : Bytes) → IfOk (ident_of bs) IsIdentRead
-ident_given bs = if_passes IsIdentRead (is_ident bs) (Ok bs) faults.BadIdent (λ h. h)
-
-encoding_given : (bs : Bytes) → IfOk (encoding_of bs) IsEncodingRead
-encoding_given bs = if_passes IsEncodingRead (is_optional_encoding (Some bs)) (Ok bs) faults.BadLine (λ h. h)
-
-maybe_ident : (o : Option Bytes) → IfSome o IsIdentRead → IsTrue (is_optional_ident o)
-maybe_ident None h = refl
-maybe_ident (Some x) h = h
-
-maybe_encoding : (o : Option Bytes) → IfSome o IsEncodingRead → IsTrue (is_optional_encoding o)
-maybe_encoding None h = refl
-maybe_encoding (Some x) h = h
-
 -- ---- commands
 
 abbrev Brings : Command × Stream → Type 0
@@ -248,7 +202,7 @@ commit_given ref s is =
     (λ plain. then_if (λ x. IfSome x.0 IsEncodingRead) Brings (optional (codes "encoding") encoding_of plain.1) _ (optional_given IsEncodingRead (codes "encoding") encoding_of encoding_given plain.1)
     (λ encoding e. then_any Brings (block encoding.1) _
     (λ message. then_if LinksGive Brings (links_at message.1) _ (links_given message.1)
-    (λ links h. record { ref = is; author = maybe_ident author.0 a; committer = c; encoding = maybe_encoding encoding.0 e; changes = h }))))))))
+    (λ links h. record { ref = is; author = maybe_ident author.0 a; committer = c; headers = encoding_is_headers encoding.0 (maybe_encoding encoding.0 e); changes = h }))))))))
 
 early_given : (b : Bool) (r : Read Command) → IfOk r Brings → IfOk (if_early b r) Brings
 early_given true r h = h

@@ -1,4 +1,4 @@
--- The commands that are read of a stream bring no gitlink of forty zeros.
+-- No command of a stream gives a gitlink of forty zeros, or a header that isn't that of an encoding.
 use Rattle.std.proofs.Common.{◌≡◌, ℕ, zero, suc, Bool, true, false, cond, List, [], ◌∷◌, ◌++◌, Option, None, Some, Ok, Err, refl, codes}
 use Rattle.std.specs.Prelude.{IfOk, IfSome, ◌||◌, ⊤}
 use Rattle.std.specs.List.{AllByRecursion, list_all}
@@ -14,20 +14,9 @@ use Rattle.gx_model.specs.Streams.Commands.{Change, Command, CommitIsh, DataRef,
 use Rattle.gx_model.specs.Streams.Grammar.{AtBlock, AtMark, AtName, Where, blob_at, bytes_from, change_at, changes, changes_within, command_at, commands_within, commit_at, if_early, is_done, is_option, item_after, links_at, merges, modify_at, part_of, reset_at, stops, suits, tag_at, two_paths, unsigned, where_by, where_of, with_command}
 use Rattle.gx_model.specs.Streams.Lines.{Read, after, any_text, at_end, bare, block, commit_ish_of, encoding_of, feature_of, ident_of, is_null, is_word, last_path, mark_of, mode_of, needed, optional, ref_of, rest_of, tag_of, words_of, Words, colon_number}
 use Rattle.gx_model.specs.Texts.Digits.{is_any_name_text}
-use Rattle.gx_model.specs.Streams.Gitlinks.{BringsNoNullGitlink, GivesNoNullGitlink, StreamsBringNone}
+use Rattle.gx_model.specs.Streams.Gitlinks.{BringsSayable, GivesNoNullGitlink, StreamsBringNone}
 use Rattle.gx_model.proofs.Replay.NullGitlinks.{then_if}
-
-any_ok : {A : Type 0} (r : Given A) → IfOk r (λ x. ⊤)
-any_ok (Ok x) = tt
-any_ok (Err e) = tt
-
--- what holds after a step of which nothing is asked
-pub then_any : {A B : Type 0} (Q : B → Type 0) (r : Given A) (f : A → Given B) → ((x : A) → IfOk (f x) Q) → IfOk (r >>= f) Q
-then_any Q r f k = then_if (λ x. ⊤) Q r f (any_ok r) (λ x h. k x)
-
-pub if_either : {A : Type 0} (Q : A → Type 0) (b : Bool) (r s : Given A) → IfOk r Q → IfOk s Q → IfOk (cond b r s) Q
-if_either Q true r s h k = h
-if_either Q false r s h k = k
+use Rattle.gx_model.proofs.Streams.ReadLines.{IsEncodingRead, encoding_given, if_either, maybe_encoding, optional_given, then_any}
 
 -- ---- changes
 
@@ -115,7 +104,7 @@ changes_given (suc n) (Line l ∷ more) s = by (change_at (words_of l) (after mo
 -- ---- commands
 
 abbrev Brings : Command × Stream → Type 0
-Brings x = BringsNoNullGitlink x.0
+Brings x = BringsSayable x.0
 
 blob_given : (s : Stream) → IfOk (blob_at s) Brings
 unfolding blob_at
@@ -147,8 +136,10 @@ unfolding commit_at
 commit_given ref s =
     then_any Brings (optional (codes "mark") mark_of s) _ (λ mark. then_any Brings (optional (codes "original-oid") any_text mark.1) _
     (λ oid. then_any Brings (optional (codes "author") ident_of oid.1) _ (λ author. then_any Brings (needed (codes "committer") ident_of author.1) _
-    (λ committer. then_any Brings (unsigned committer.1) _ (λ plain. then_any Brings (optional (codes "encoding") encoding_of plain.1) _
-    (λ encoding. then_any Brings (block encoding.1) _ (λ message. then_if LinksGive Brings (links_at message.1) _ (links_given message.1) (λ links h. h))))))))
+    (λ committer. then_any Brings (unsigned committer.1) _
+    (λ plain. then_if (λ x. IfSome x.0 IsEncodingRead) Brings (optional (codes "encoding") encoding_of plain.1) _ (optional_given IsEncodingRead (codes "encoding") encoding_of encoding_given plain.1)
+    (λ encoding e. then_any Brings (block encoding.1) _
+    (λ message. then_if LinksGive Brings (links_at message.1) _ (links_given message.1) (λ links h. (h, encoding.0, maybe_encoding encoding.0 e, refl)))))))))
 
 early_given : (b : Bool) (r : Read Command) → IfOk r Brings → IfOk (if_early b r) Brings
 early_given true r h = h
@@ -169,7 +160,7 @@ command_given early w s =
     (if_either Brings (is_word w (codes "ls") || is_word w (codes "cat-blob") || is_word w (codes "get-mark") || is_word w (codes "alias")) _ _ tt tt)))))))))
 
 abbrev AllBring : List Command → Type 0
-AllBring cs = AllByRecursion BringsNoNullGitlink cs
+AllBring cs = AllByRecursion BringsSayable cs
 
 pub commands_given : (n : ℕ) (before : List Command) (items : List Item) (end : End) → AllBring (commands_within n before items end).list
 unfolding commands_within

@@ -121,7 +121,7 @@ command_spelled (command.Commit c) h = (
   items_append (mark_line c.mark) _ (mark_spelled c.mark h.mark)
       (items_append (word_line_if (codes "author") c.author) _ (author_spelled c.author h.has_author h.author) (
         record { line = ident_is_line c.committer h.committer; no_comment = refl; no_data = refl },
-        items_append (word_line_if (codes "encoding") c.encoding) _ (encoding_spelled c.encoding h.encoding) (
+        items_append (word_line_if (codes "encoding") (encoding_in c.headers)) _ (encoding_spelled (encoding_in c.headers) (encoding_told c.headers h.headers).proper) (
           h.message,
           items_append (from_line c.parent) _ (from_spelled c.parent h.parent)
               (items_append (map merge_item c.merges) _ (merges_spelled c.merges h.merges)

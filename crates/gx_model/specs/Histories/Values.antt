@@ -1,21 +1,22 @@
 -- What a history is made of: bytes, file maps, commits and tags. Source: gitglossary(7), "blob object", "tree object", "commit object" and "tag object".
-use Rattle.std.specs.Prelude.{ℕ, Bool, true, false, ◌&&◌, List, [], ◌∷◌, ◌++◌, map, Option, None, Some, is_none}
+use Rattle.std.specs.Prelude.{◌≡◌, ℕ, Bool, true, false, ◌&&◌, List, [], ◌∷◌, ◌++◌, map, Option, None, Some, is_none, IsTrue}
 use Rattle.std.specs.List.{filter, filter_map, list_all}
 use Rattle.std.specs.Option.{option_eq}
 use Rattle.gx_model.specs.declared.objects.Mode.{Mode}
 use Rattle.gx_model.specs.declared.objects.Mode.TheVariants.{File, Exec, Link, Gitlink, Dir}
 use Rattle.gx_model.specs.Texts.{Bytes, is_line, same_bytes}
 use Rattle.gx_model.specs.Texts.Digits.{is_name_text}
+use Rattle.gx_model.specs.Texts.Headers.{encoding_header, is_headers}
 use Rattle.gx_model.specs.Texts.RefNames.{is_tag_name}
 use Rattle.gx_model.specs.Texts.Idents.{is_ident}
 use Rattle.gx_model.specs.Texts.Paths.{same_path}
 use Rattle.gx_model.specs.Histories.Files.{FileMap, file_at, first_components, is_file_map, sub_map}
 
--- who made a commit, and when, and what they say of it
+-- who made a commit, and when, the header lines behind them, and what they say of it
 pub record CommitText : Type 0 where
   pub author : Bytes
   pub committer : Bytes
-  pub encoding : Option Bytes
+  pub headers : Bytes
   pub message : Bytes
 
 mutual
@@ -96,7 +97,7 @@ same_files _ _ = false
 
 -- whether the texts of two commits are equal
 abbrev pub same_text_of : CommitText → CommitText → Bool
-same_text_of text other = same_bytes text.author other.author && same_bytes text.committer other.committer && option_eq same_bytes text.encoding other.encoding && same_bytes text.message other.message
+same_text_of text other = same_bytes text.author other.author && same_bytes text.committer other.committer && same_bytes text.headers other.headers && same_bytes text.message other.message
 
 abbrev mutual
   -- whether two commits are equal
@@ -150,9 +151,13 @@ is_optional_encoding None = true
 is_optional_encoding (Some []) = false
 is_optional_encoding (Some (b ∷ x)) = is_line (b ∷ x)
 
+-- headers that a stream can say: that of an encoding, or none
+abbrev pub IsEncodingAlone : Bytes → Type 0
+IsEncodingAlone headers = (encoding : Option Bytes) × IsTrue (is_optional_encoding encoding) × (headers ≡ encoding_header encoding)
+
 -- the texts of a commit have their forms
 abbrev pub is_proper_text : CommitText → Bool
-is_proper_text text = is_ident text.author && is_ident text.committer && is_optional_encoding text.encoding
+is_proper_text text = is_ident text.author && is_ident text.committer && is_headers text.headers
 
 -- a value whose parts have their forms
 abbrev pub is_proper : Value → Bool

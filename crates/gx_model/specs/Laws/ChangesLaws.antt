@@ -12,7 +12,7 @@ use Rattle.gx_model.specs.Replay.{Report, finished, imported, replayed, replayed
 use Rattle.gx_model.specs.Export.{command_items, reached_commits}
 use Rattle.gx_model.specs.Changes.{changes_commands, changes_text, closed_by, sending_commands}
 use Rattle.gx_model.specs.Laws.Headline.{ComesBack, HasRecordsOf}
-use Rattle.gx_model.specs.Laws.ExportLaws.{HasNoNullGitlink, IsAgain, IsItem, IsReadable, IsSpelled}
+use Rattle.gx_model.specs.Laws.ExportLaws.{HasSayable, IsAgain, IsItem, IsReadable, IsSpelled}
 
 -- commands that can be spelled have items that can be, with and without `feature done` and `done`
 abbrev pub ClosedCommandsAreItems : Type 0
@@ -36,7 +36,7 @@ ChangesAreReplayed =
 
 -- lengths and marks fit where the text does
 abbrev pub ShortChangesAreReadable : Type 0
-ShortChangesAreReadable = (name : Kind → Bytes → Bytes) (closed : Bool) (h : History) → IsHistory h → HasNoNullGitlink h → length (changes_text name closed h) < 2 ^ 64 → IsReadable h
+ShortChangesAreReadable = (name : Kind → Bytes → Bytes) (closed : Bool) (h : History) → IsHistory h → HasSayable h → length (changes_text name closed h) < 2 ^ 64 → IsReadable h
 
 -- the commands of a history that can be read can be spelled
 abbrev pub ChangesAreSpelled : Type 0

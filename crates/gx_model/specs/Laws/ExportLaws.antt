@@ -18,7 +18,7 @@ use Rattle.gx_model.specs.Streams.Commands.{Change, Clear, Command, CommitIsh, C
 use Rattle.gx_model.specs.Streams.Grammar.{commands_of}
 use Rattle.gx_model.specs.Streams.Lines.{is_null}
 use Rattle.gx_model.specs.Histories.Files.{Leaf}
-use Rattle.gx_model.specs.Histories.Values.{Commit, Value, blob_value, commit_of, commit_value, files_of, is_content, is_optional_encoding, is_optional_ident, is_proper, list_of, parents_of, text_of}
+use Rattle.gx_model.specs.Histories.Values.{Commit, Value, blob_value, commit_of, commit_value, files_of, IsEncodingAlone, is_content, is_optional_ident, is_proper, list_of, parents_of, text_of}
 use Rattle.gx_model.specs.Texts.Digits.{is_name_text}
 use Rattle.gx_model.specs.Histories.{History, IsHistory, IsIn, IsWhole, Reaches, Target, at_commit, at_tag, is_in, no_history, value_at, with_one, with_value}
 use Rattle.gx_model.specs.Replay.{Report, State, finished, replayed, replayed_text, start, step}
@@ -40,10 +40,14 @@ IsItem (Data x) = length x < 2 ^ 64
 abbrev pub ItemsAreRead : Type 0
 ItemsAreRead = (is : List Item) → AllByRecursion IsItem is → items_of (flat_map item_text is) false ≡ record { items = is; end = Finished }
 
--- the text of any history's export is read as its items, whatever gitlinks it has
+-- the headers of these commits are those of encodings alone
+abbrev pub HaveEncodingsAlone : List Commit → Type 0
+HaveEncodingsAlone commits = AllByRecursion (λ made. IsEncodingAlone (text_of made).headers) commits
+
+-- the text of a history's export is read as its items, whatever gitlinks it has
 abbrev pub ExportsAreItems : Type 0
 ExportsAreItems =
-    (h : History) → IsHistory h → length (export_text h) < 2 ^ 64
+    (h : History) → IsHistory h → HaveEncodingsAlone (reached_commits h) → length (export_text h) < 2 ^ 64
     → items_of (export_text h) false ≡ record { items = export_items h; end = Finished }
 
 -- ---- commands
@@ -102,7 +106,7 @@ pub record IsSpelledCommit (c : CommitParts) : Type 0 where
   pub author : is_ident (unwrap_or c.author []) ≡ true
   pub has_author : is_some c.author ≡ true
   pub committer : is_ident c.committer ≡ true
-  pub encoding : is_optional_encoding c.encoding ≡ true
+  pub headers : IsEncodingAlone c.headers
   pub message : length c.message < 2 ^ 64
   pub parent : IsNamedCommitIf c.parent
   pub merges : AllByRecursion IsNamedCommit c.merges
@@ -251,12 +255,26 @@ HaveNoNullGitlink commits = AllByRecursion (λ made. AllByRecursion (λ file. Is
 abbrev pub HasNoNullGitlink : History → Type 0
 HasNoNullGitlink h = HaveNoNullGitlink (reached_commits h)
 
+-- a commit that a stream can say: it has no gitlink of forty zeros, and no header but that of an encoding
+pub record IsSayable (made : Commit) : Type 0 where
+  pub files : AllByRecursion (λ file. IsNotNull file.1.0 file.1.1) (files_of made)
+  pub headers : IsEncodingAlone (text_of made).headers
+
+-- a stream can say these commits
+abbrev pub AreSayable : List Commit → Type 0
+AreSayable commits = AllByRecursion IsSayable commits
+
+-- a stream can say the commits that refs reach
+abbrev pub HasSayable : History → Type 0
+HasSayable h = AreSayable (reached_commits h)
+
 -- a file that is no such gitlink, with a length below 2 ^ 64
 abbrev pub IsReadableFile : Path × Leaf Bytes → Type 0
 IsReadableFile e = IsNotNull e.1.0 e.1.1 × (length e.1.1 < 2 ^ 64)
 
 -- a commit that can be read again
 pub record IsReadableCommit (c : Commit) : Type 0 where
+  pub headers : IsEncodingAlone (text_of c).headers
   pub message : length (text_of c).message < 2 ^ 64
   pub files : AllByRecursion IsReadableFile (files_of c)
 
@@ -265,7 +283,7 @@ abbrev pub IsReadableTarget : Target → Type 0
 IsReadableTarget (at_commit c) = Unit {0}
 IsReadableTarget (at_tag t) = length t.message < 2 ^ 64
 
--- It has no gitlink of forty zeros, and lengths and marks are below 2 ^ 64.
+-- It has no gitlink of forty zeros and no headers but those of encodings, and lengths and marks are below 2 ^ 64.
 pub record IsReadable (h : History) : Type 0 where
   pub commits : AllByRecursion IsReadableCommit (reached_commits h)
   pub refs : AllByRecursion (λ r. IsReadableTarget r.1) h.refs
@@ -283,4 +301,4 @@ ExportIsImported =
 
 -- lengths and marks fit where the text does
 abbrev pub FormedIsReadable : Type 0
-FormedIsReadable = (h : History) → IsHistory h → HasNoNullGitlink h → length (export_text h) < 2 ^ 64 → IsReadable h
+FormedIsReadable = (h : History) → IsHistory h → HasSayable h → length (export_text h) < 2 ^ 64 → IsReadable h

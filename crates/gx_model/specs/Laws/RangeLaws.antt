@@ -5,7 +5,7 @@ use Rattle.std.specs.FinMap.Entries.{put}
 use Rattle.std.specs.List.{AllByRecursion, fold, list_any}
 use Rattle.gx_model.specs.declared.objects.Kind.{Kind}
 use Rattle.gx_model.specs.Texts.{Bytes, byte_cmp}
-use Rattle.gx_model.specs.Histories.Values.{Commit, Value, commit_value, text_of}
+use Rattle.gx_model.specs.Histories.Values.{Commit, IsEncodingAlone, Value, commit_value, text_of}
 use Rattle.gx_model.specs.Histories.{History, IsHistory, IsIn, IsWhole, Records, Target, at_commit, at_tag, value_at}
 use Rattle.gx_model.specs.Objects.{IsNamer}
 use Rattle.gx_model.specs.Records.{name_of}
@@ -15,7 +15,7 @@ use Rattle.gx_model.specs.Revisions.Denotation.{ref_at}
 use Rattle.gx_model.specs.Revisions.Ranges.{Word, listing, span}
 use Rattle.gx_model.specs.Replay.{Report, finished, is_forward, replayed, replayed_text, start}
 use Rattle.gx_model.specs.Changes.{all_changes, commit_ref, own_files, range_commands, range_text, sending_commands, set_refs}
-use Rattle.gx_model.specs.Laws.ExportLaws.{AnyReaches, HaveNoNullGitlink, IsReadableFile, IsReadableTarget, IsSpelled}
+use Rattle.gx_model.specs.Laws.ExportLaws.{AnyReaches, AreSayable, IsReadableFile, IsReadableTarget, IsSpelled}
 
 -- whether a range word excludes a commit
 abbrev pub is_excluded : List Word → Commit → Bool
@@ -70,10 +70,12 @@ RangesAreReplayed =
 
 -- a commit whose text and own files can be read again
 pub record IsReadableChange (c : Commit) : Type 0 where
+  pub headers : IsEncodingAlone (text_of c).headers
   pub message : length (text_of c).message < 2 ^ 64
   pub files : AllByRecursion IsReadableFile (own_files c)
 
--- What a range sends can be read again: it has no gitlink of forty zeros, and lengths and marks are below 2 ^ 64.
+-- What a range sends can be read again: it has no gitlink of forty zeros and no headers but those of encodings, and lengths and
+-- marks are below 2 ^ 64.
 pub record IsReadableRange (h : History) (words : List Word) : Type 0 where
   pub commits : AllByRecursion IsReadableChange (reverse (listing h words))
   pub refs : AllByRecursion (λ r. IsReadableTarget r.1) (set_refs h words)
@@ -82,7 +84,7 @@ pub record IsReadableRange (h : History) (words : List Word) : Type 0 where
 -- lengths and marks fit where the text does
 abbrev pub ShortRangesAreReadable : Type 0
 ShortRangesAreReadable =
-    (name : Kind → Bytes → Bytes) (closed : Bool) (h : History) (words : List Word) → IsHistory h → HaveNoNullGitlink (reverse (listing h words))
+    (name : Kind → Bytes → Bytes) (closed : Bool) (h : History) (words : List Word) → IsHistory h → AreSayable (reverse (listing h words))
     → length (range_text name closed h words) < 2 ^ 64 → IsReadableRange h words
 
 -- the commands of a range that can be read can be spelled

@@ -6,6 +6,7 @@ use Rattle.gx_model.specs.declared.objects.Kind.TheVariants as kind
 use Rattle.gx_model.specs.declared.objects.Mode.{Mode}
 use Rattle.gx_model.specs.declared.objects.Mode.TheVariants.{File, Exec, Link, Gitlink, Dir}
 use Rattle.gx_model.specs.Texts.{Bytes, same_bytes}
+use Rattle.gx_model.specs.Texts.Headers.{headers_in}
 use Rattle.gx_model.specs.Histories.Files.{FileMap}
 use Rattle.gx_model.specs.Histories.Values.{Commit, CommitText, Tag, Value, blob_value, commit, commit_value, commits_of, none, tag_value, tree_value}
 use Rattle.gx_model.specs.Objects.{CommitParts, Entry, TagParts, hex, mode_text, unhex}
@@ -66,8 +67,8 @@ abbrev pub text_in : Bytes → CommitText
 text_in text =
     let author = field 7 text in
     let committer = field 10 author.1 in
-    let encoding = optional_in 8 committer.1 in
-    record { author = author.0; committer = committer.0; encoding = encoding.0; message = encoding.1 }
+    let headers = headers_in committer.1 in
+    record { author = author.0; committer = committer.0; headers = headers.0; message = headers.1 }
 
 -- the parts of a commit body
 abbrev pub commit_parts_in : Bytes → CommitParts
@@ -98,7 +99,7 @@ files_of_tree _ = []
 
 -- texts that are all empty
 abbrev pub no_text : CommitText
-no_text = record { author = []; committer = []; encoding = None; message = [] }
+no_text = record { author = []; committer = []; headers = []; message = [] }
 
 -- the commit of a value that is one
 abbrev pub commit_of_value : Value → Commit

@@ -7,6 +7,7 @@ use Rattle.gx_model.specs.declared.objects.Kind.{Kind}
 use Rattle.gx_model.specs.declared.objects.Mode.{Mode}
 use Rattle.gx_model.specs.declared.objects.Mode.TheVariants.{Dir, Gitlink}
 use Rattle.gx_model.specs.Texts.{Bytes}
+use Rattle.gx_model.specs.Texts.Headers.{is_headers}
 use Rattle.gx_model.specs.Texts.RefNames.{is_ref_name, is_tag_name}
 use Rattle.gx_model.specs.Texts.Idents.{is_ident}
 use Rattle.gx_model.specs.Texts.Paths.{Path, is_component, is_short}
@@ -15,7 +16,7 @@ use Rattle.gx_model.specs.Streams.Commands as command
 use Rattle.gx_model.specs.Streams.Commands.{Change, Clear, Command, CommitParts, Copy, DataRef, Inline, Mark, Modify, Object, Remove, Rename, TagParts}
 use Rattle.gx_model.specs.Streams.Grammar.{commands_of}
 use Rattle.gx_model.specs.Texts.Digits.{is_any_name_text}
-use Rattle.gx_model.specs.Histories.Values.{is_optional_encoding, is_optional_ident}
+use Rattle.gx_model.specs.Histories.Values.{is_optional_ident}
 use Rattle.gx_model.specs.Histories.{History, IsHistory}
 use Rattle.gx_model.specs.Replay.{Kept, Report, finished, refused, replayed, replayed_text, start}
 
@@ -46,7 +47,7 @@ pub record IsProperCommit (c : CommitParts) : Type 0 where
   pub ref : IsTrue (is_ref_name c.ref)
   pub author : IsTrue (is_optional_ident c.author)
   pub committer : IsTrue (is_ident c.committer)
-  pub encoding : IsTrue (is_optional_encoding c.encoding)
+  pub headers : IsTrue (is_headers c.headers)
   pub changes : AllByRecursion IsProperChange c.changes
 
 -- a tag command whose parts have their forms

@@ -107,7 +107,7 @@ export = all_but_done ++ codes "done" ∷ []
 
 -- a commit whose one file is a gitlink of forty zeros, which no stream makes
 abbrev with_null : Commit
-with_null = commit ((codes "sub" ∷ [], (Gitlink, replicate 40 48)) ∷ []) none (record { author = codes "A <a@x> 1 +0000"; committer = codes "A <a@x> 1 +0000"; encoding = None; message = codes "m" })
+with_null = commit ((codes "sub" ∷ [], (Gitlink, replicate 40 48)) ∷ []) none (record { author = codes "A <a@x> 1 +0000"; committer = codes "A <a@x> 1 +0000"; headers = []; message = codes "m" })
 
 abbrev null_history : History
 null_history = record { values = with_value [] (commit_value with_null); refs = (codes "refs/heads/main", at_commit with_null) ∷ [] }

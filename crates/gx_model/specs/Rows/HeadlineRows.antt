@@ -30,7 +30,7 @@ abbrev held : ℕ → Kind → Bytes → Record
 held n of_kind body = record { name = called n; kind = of_kind; body = body }
 
 abbrev text : CommitText
-text = record { author = codes "A <a@x> 1 +0000"; committer = codes "A <a@x> 1 +0000"; encoding = None; message = codes "m" }
+text = record { author = codes "A <a@x> 1 +0000"; committer = codes "A <a@x> 1 +0000"; headers = []; message = codes "m" }
 
 abbrev commit_of : List ℕ → Bytes
 commit_of parents = commit_text (record { tree = called 1; parents = map called parents; text = text })
@@ -114,7 +114,7 @@ root ref mark =
       mark = Some mark;
       author = None;
       committer = codes "A <a@x> 1 +0000";
-      encoding = None;
+      headers = [];
       message = ref;
       parent = None;
       merges = [];

@@ -88,7 +88,7 @@ abbrev two_files : FileMap Bytes
 two_files = (codes "a" ∷ codes "test.txt" ∷ [], (File, version_1)) ∷ (codes "a0" ∷ [], (File, hello)) ∷ []
 
 abbrev two_files_made : Commit
-two_files_made = commit two_files none (record { author = codes "A <a@x> 1 +0000"; committer = codes "A <a@x> 1 +0000"; encoding = None; message = [] })
+two_files_made = commit two_files none (record { author = codes "A <a@x> 1 +0000"; committer = codes "A <a@x> 1 +0000"; headers = []; message = [] })
 
 -- the tree of main after a commit with these changes
 abbrev main_tree : List Bytes → Given Shown

@@ -21,7 +21,7 @@ abbrev entry : Mode → Bytes → ℕ → Entry
 entry mode component n = record { mode = mode; component = component; name = called n }
 
 abbrev text : CommitText
-text = record { author = codes "A <a@x> 1 +0000"; committer = codes "A <a@x> 1 +0000"; encoding = None; message = codes "m" }
+text = record { author = codes "A <a@x> 1 +0000"; committer = codes "A <a@x> 1 +0000"; headers = []; message = codes "m" }
 
 abbrev commit_of : ℕ → List ℕ → Bytes
 commit_of tree parents = commit_text (record { tree = called tree; parents = map called parents; text = text })

@@ -95,7 +95,7 @@ abbrev twice : History
 twice = history_of_lines (root_on (codes "refs/heads/x") ++ root_on (codes "refs/heads/y"))
 
 abbrev says : Bytes → CommitText
-says x = record { author = codes "A <a@x> 1 +0000"; committer = codes "A <a@x> 1 +0000"; encoding = None; message = x }
+says x = record { author = codes "A <a@x> 1 +0000"; committer = codes "A <a@x> 1 +0000"; headers = []; message = x }
 
 abbrev root : Commit
 root = commit [] none (says (codes "r"))

@@ -113,7 +113,7 @@ abbrev directory : Bytes → Kind × Bytes → Kind × Bytes
 directory c r = tree (entry Dir c (named r) ∷ [])
 
 abbrev text : CommitText
-text = record { author = codes "A <a@x> 1 +0000"; committer = codes "A <a@x> 1 +0000"; encoding = None; message = codes "m" }
+text = record { author = codes "A <a@x> 1 +0000"; committer = codes "A <a@x> 1 +0000"; headers = []; message = codes "m" }
 
 abbrev commit_with : Kind × Bytes → Kind × Bytes
 commit_with t = (kind.Commit, commit_text (record { tree = named t; parents = []; text = text }))

@@ -5,6 +5,7 @@
 use Rattle.std.specs.Prelude.{◌≡◌, IsTrue, ℕ, List, [], ◌∷◌, ◌++◌, codes, Option, Some, None, Result, Ok, Err}
 use Rattle.std.specs.List.{list_any, list_all}
 use Rattle.gx_model.specs.Texts.{Bytes}
+use Rattle.gx_model.specs.Texts.Headers.{encoding_header}
 use Rattle.gx_model.specs.Texts.Paths.{Path}
 use Rattle.gx_model.specs.Streams.Items.{Item, Line, Data, End, Finished, Failed}
 use Rattle.gx_model.specs.declared.faults.Fault.{Fault}
@@ -240,7 +241,7 @@ commit_command ref (mark, (oid, (author, (committer, (unsigned, (encoding, (mess
   mark = mark;
   author = author;
   committer = committer;
-  encoding = encoding;
+  headers = encoding_header encoding;
   message = message;
   parent = parent;
   merges = merges;

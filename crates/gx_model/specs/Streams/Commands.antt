@@ -35,13 +35,13 @@ pub record BlobParts : Type 0 where
   pub mark : Option ℕ
   pub bytes : Bytes
 
--- the parts of a commit command
+-- the parts of a commit command; a stream tells no header but that of an encoding
 pub record CommitParts : Type 0 where
   pub ref : Bytes
   pub mark : Option ℕ
   pub author : Option Bytes
   pub committer : Bytes
-  pub encoding : Option Bytes
+  pub headers : Bytes
   pub message : Bytes
   pub parent : Option CommitIsh
   pub merges : List CommitIsh

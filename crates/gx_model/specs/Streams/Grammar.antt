@@ -5,6 +5,7 @@ use Rattle.std.specs.List.{list_any, list_all}
 use Rattle.std.specs.Str.{bytes_eq}
 use Rattle.gx_model.specs.Texts.{Bytes}
 use Rattle.gx_model.specs.Texts.Digits.{is_any_name_text}
+use Rattle.gx_model.specs.Texts.Headers.{encoding_header}
 use Rattle.gx_model.specs.Texts.Paths.{Path}
 use Rattle.gx_model.specs.Faults.{Given, ◌>>=◌}
 use Rattle.gx_model.specs.Streams.Items.{Item, Line, Data, End, Finished, Failed, Stream}
@@ -164,7 +165,7 @@ commit_at ref s = do
   encoding ← optional (codes "encoding") encoding_of plain.1
   message ← block encoding.1
   links ← links_at message.1
-  Ok (Commit (record { ref = ref; mark = mark.0; author = author.0; committer = committer.0; encoding = encoding.0; message = message.0; parent = links.0.0; merges = links.0.1.0; changes = links.0.1.1 }), links.1)
+  Ok (Commit (record { ref = ref; mark = mark.0; author = author.0; committer = committer.0; headers = encoding_header encoding.0; message = message.0; parent = links.0.0; merges = links.0.1.0; changes = links.0.1.1 }), links.1)
 
 -- a tag command, behind its first line
 unfoldable pub tag_at : Bytes → Stream → Read Command

@@ -1,7 +1,7 @@
 use Rattle.std.proofs.Common.{ap, refl, subst, sym, Ok, Err}
 use Rattle.gx_model.specs.Records.HistoryOf.{history_of}
 use Rattle.gx_model.specs.Histories.{Records}
-use Rattle.gx_model.specs.Streams.Gitlinks.{HoldsNoNullGitlink}
+use Rattle.gx_model.specs.Streams.Gitlinks.{HoldsSayable}
 use Rattle.gx_cli.specs.declared.trips.RoundTrip.{RoundTrip}
 use Rattle.gx_cli.proofs.CheckedTrips.{copy_back, copy_stopped, fault_told, from_nothing, line_told}
 use Rattle.gx_cli.proofs.RetoldImports.{fault_retold, line_retold}
@@ -10,7 +10,7 @@ use Rattle.gx_cli.proofs.check.check_copied.Goals as goal
 pub round_trip-requires : goal.round_trip-requires
 round_trip-requires g c = record {
   namer = ap (λ o. o.0) c.new-repo.ensures;
-  gitlinks = subst (λ (r : Records). HoldsNoNullGitlink (history_of r)) (sym (ap (λ o. o.1) c.new-repo.ensures)) c.replays_keep_none.ensures.empty;
+  gitlinks = subst (λ (r : Records). HoldsSayable (history_of r)) (sym (ap (λ o. o.1) c.new-repo.ensures)) c.replays_keep_none.ensures.empty;
 }
 
 pub returns-in-Ok-clause-checked : goal.returns-in-Ok-clause-checked

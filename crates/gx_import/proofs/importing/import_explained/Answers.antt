@@ -3,7 +3,7 @@ use Rattle.gx_model.specs.Histories.{Records}
 use Rattle.gx_model.specs.Records.Sound.{IsSound}
 use Rattle.gx_import.proofs.ExportedAgain.{accepted, stopped}
 use Rattle.gx_import.proofs.RefusedExports.{null_refused}
-use Rattle.gx_import.specs.Exported.{KeepsNoNullGitlink}
+use Rattle.gx_import.specs.Exported.{KeepsSayable}
 use Rattle.gx_import.specs.Imports.{Imports}
 use Rattle.gx_import.specs.Keeping.{left_of}
 use Rattle.gx_import.specs.Retelling.{IsOfOneReplay}
@@ -99,7 +99,7 @@ returns-clause-replayed g c =
     subst replays (sym c.truncate.ensures) c.in-Err.ensures.replayed
 
 pub returns-clause-gitlinks : goal.returns-clause-gitlinks
-returns-clause-gitlinks g c = subst (λ (r : g.row.N.Denot × Records). KeepsNoNullGitlink c.args.repo.now.1 r.1) (sym c.truncate.ensures) c.in-Err.ensures.gitlinks
+returns-clause-gitlinks g c = subst (λ (r : g.row.N.Denot × Records). KeepsSayable c.args.repo.now.1 r.1) (sym c.truncate.ensures) c.in-Err.ensures.gitlinks
 
 pub returns-clause-unchanged : goal.returns-clause-unchanged
 returns-clause-unchanged g c = λ zero.

@@ -3,7 +3,7 @@ use Rattle.std.proofs.lemmas.Result.{err_from_is_err_and}
 use Rattle.gx_model.specs.Histories.{Records}
 use Rattle.gx_model.specs.Records.HistoryOf.{history_of}
 use Rattle.gx_model.specs.Records.Sound.{IsSound}
-use Rattle.gx_model.specs.Streams.Gitlinks.{HoldsNoNullGitlink}
+use Rattle.gx_model.specs.Streams.Gitlinks.{HoldsSayable}
 use Rattle.gx_import.specs.Imports.{Imports, Leaves}
 use Rattle.gx_import.specs.Keeping.{IsLeft, left_of}
 use Rattle.gx_import.specs.Losing.{TellsLoss}
@@ -44,7 +44,7 @@ returns-in-Err-clause-gitlinks g c = λ none.
     let name = g.N.Namer.name_of c.args.repo.now.0 in
     let law = c.histories_of_records.ensures name (g.met.N.Namer.is_namer c.args.repo.now.0) in
     let left = c.replay_commands.ensures.gitlinks_left (law.stands c.args.repo.now.1 c.store.ensures.sound).history none in
-    subst (λ (r : g.row.N.Denot × Records). HoldsNoNullGitlink (history_of (left_of c.replay_commands.new.checkpoints r.1))) (sym c.in-Err.ensures.unchanged) left
+    subst (λ (r : g.row.N.Denot × Records). HoldsSayable (history_of (left_of c.replay_commands.new.checkpoints r.1))) (sym c.in-Err.ensures.unchanged) left
 
 pub returns-clause-replayed : goal.returns-clause-replayed
 returns-clause-replayed g c =

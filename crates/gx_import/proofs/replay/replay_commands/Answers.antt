@@ -1,7 +1,7 @@
 use Rattle.std.proofs.Common.{◌+◌, [], None, Ok, Err, refl, sym, ap, subst, ◌∙◌, arith}
 use Rattle.std.proofs.lemmas.List.{append-nil}
 use Rattle.std.proofs.lemmas.Result.{err_from_is_err_and}
-use Rattle.gx_model.specs.Streams.Gitlinks.{HoldsNoNullGitlink}
+use Rattle.gx_model.specs.Streams.Gitlinks.{HoldsSayable}
 use Rattle.gx_model.specs.Records.HistoryOf.{history_of}
 use Rattle.gx_model.specs.Replay.{State}
 use Rattle.gx_model.proofs.Replay.GitlinkSteps.{none_held}
@@ -139,7 +139,7 @@ returns-clause-replayed g c = λ asks coming same is.
 pub returns-clause-gitlinks : goal.returns-clause-gitlinks
 returns-clause-gitlinks g c = λ is none.
     let stands = c.loop-command.invariant.stands in
-    subst HoldsNoNullGitlink (sym stands.1.history) (none_held stands.0 (stands.3 is none))
+    subst HoldsSayable (sym stands.1.history) (none_held stands.0 (stands.3 is none))
 
 pub returns-in_err-command-clause-left : goal.returns-in_err-command-clause-left
 returns-in_err-command-clause-left g c = c.loop-command.invariant.left
@@ -152,7 +152,7 @@ returns-in_err-command-clause-counted g c =
 pub returns-in_err-command-clause-gitlinks_left : goal.returns-in_err-command-clause-gitlinks_left
 returns-in_err-command-clause-gitlinks_left g c = λ is none.
     let stands = c.loop-command.invariant.stands in
-    subst HoldsNoNullGitlink (sym stands.4.history) (stands.3 is none).kept
+    subst HoldsSayable (sym stands.4.history) (stands.3 is none).kept
 
 pub returns-in-Err-clause-left : goal.returns-in-Err-clause-left
 returns-in-Err-clause-left g c =
@@ -163,7 +163,7 @@ pub returns-in-Err-clause-gitlinks_left : goal.returns-in-Err-clause-gitlinks_le
 returns-in-Err-clause-gitlinks_left g c = λ is none.
     let stands = c.loop-command.invariant.stands in
     let leaves = c.in-Err.ensures.keeps stands.0 stands.1 stands.4 in
-    subst HoldsNoNullGitlink (sym leaves.history) (stands.3 is none).kept
+    subst HoldsSayable (sym leaves.history) (stands.3 is none).kept
 
 pub returns-clause-left : goal.returns-clause-left
 returns-clause-left g c = c.loop-command.invariant.left
@@ -171,7 +171,7 @@ returns-clause-left g c = c.loop-command.invariant.left
 pub returns-clause-gitlinks_left : goal.returns-clause-gitlinks_left
 returns-clause-gitlinks_left g c = λ is none.
     let stands = c.loop-command.invariant.stands in
-    subst HoldsNoNullGitlink (sym stands.4.history) (stands.3 is none).kept
+    subst HoldsSayable (sym stands.4.history) (stands.3 is none).kept
 
 -- ---- what is told
 

@@ -1,7 +1,7 @@
 use Rattle.std.proofs.Common.{◌≡◌, ◌+◌, ◌-◌, ◌^◌, ◌≤◌}
 use Rattle.gx_text.specs.Devices.{Coming}
 use Rattle.gx_model.specs.declared.features.Features.{Features}
-use Rattle.gx_model.specs.Streams.Gitlinks.{HoldsNoNullGitlink}
+use Rattle.gx_model.specs.Streams.Gitlinks.{HoldsSayable}
 use Rattle.gx_model.specs.Histories.{IsHistory}
 use Rattle.gx_model.specs.Records.HistoryOf.{history_of}
 use Rattle.gx_model.specs.Replay.{State}
@@ -26,7 +26,7 @@ invariant-loop-command g l = record {
   stands : (s : State) × Stands (g.N.Namer.name_of l.repo.0) l.repo.1 l.tables s
       × ((asks : Features) (coming : Option Coming) → asks.force ≡ l.fn.tables.is_forced → IsAskedOf asks coming l.fn.reader
       → IsAt asks (g.N.Namer.name_of l.repo.0) l.fn.repo.1 coming l.commands s l.reader (g.W.Sink.taken l.fn.sink) (g.W.Sink.taken l.sink))
-      × (IsHistory (history_of l.fn.repo.1) → HoldsNoNullGitlink (history_of l.fn.repo.1) → IsFreeState s)
+      × (IsHistory (history_of l.fn.repo.1) → HoldsSayable (history_of l.fn.repo.1) → IsFreeState s)
       × Keeps l.repo.1 l.checkpoints s;
 }
 

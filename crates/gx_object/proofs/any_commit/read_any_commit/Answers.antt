@@ -3,8 +3,8 @@ use Rattle.std.specs.Prelude.{codes}
 use Rattle.std.specs.Option.{option_copied}
 use Rattle.gx_model.specs.Texts.{Bytes}
 use Rattle.gx_wide.specs.WideTexts.{tail_of}
-use Rattle.gx_object.specs.Lines.{field, name_field, or_absent}
-use Rattle.gx_object.specs.Commits.{encoding_field, parents_of}
+use Rattle.gx_object.specs.Lines.{field, name_field}
+use Rattle.gx_object.specs.Commits.{parents_of}
 use Rattle.gx_object.specs.WideBodies.{any_commit_of}
 use Rattle.gx_object.proofs.Parents.{are_parents}
 use Rattle.gx_object.proofs.any_commit.read_any_commit.Goals as goal
@@ -14,11 +14,11 @@ invariant_of-result c = (are_parents _ _ c.split_parents.ensures.lines c.split_p
 
 -- the steps, one after the other
 read_so : (body : Bytes) (tree author committer : Bytes × Bytes) (tail : Bytes × Option Bytes) → name_field (codes "tree") body ≡ Some tree → field (codes "author") (parents_of tree.1).1 ≡ Some author
-    → field (codes "committer") author.1 ≡ Some committer → tail_of (or_absent (encoding_field committer.1) committer.1).1 ≡ Some tail
+    → field (codes "committer") author.1 ≡ Some committer → tail_of committer.1 ≡ Some tail
     → any_commit_of body ≡ Some (record {
       tree = tree.0;
       parents = (parents_of tree.1).0;
-      text = record { author = author.0; committer = committer.0; encoding = (or_absent (encoding_field committer.1) committer.1).0; further = tail.0; message = tail.1 };
+      text = record { author = author.0; committer = committer.0; headers = tail.0; message = tail.1 };
     })
 unfolding any_commit_of
 read_so body tree author committer tail t a c m = rw (t, a, c, m) refl
@@ -26,16 +26,15 @@ read_so body tree author committer tail t a c m = rw (t, a, c, m) refl
 pub returns : goal.returns
 returns c =
     let same = (are_parents _ _ c.split_parents.ensures.lines c.split_parents.ensures.names).1 in
-    let text = c.split_encoding.ensures.text in
-    let tail : Bytes × Option Bytes = (c.in_ok-further.further.now, option_copied c.in_ok-further.message) in
+    let tail : Bytes × Option Bytes = (c.in_ok-headers.headers.now, option_copied c.in_ok-headers.message) in
     (λ i. Some (record {
       tree = c.in_ok-tree.tree.bytes;
       parents = (same i).0;
-      text = record { author = c.in_ok-author.author.now; committer = c.in_ok-committer.committer.now; encoding = text i; further = tail.0; message = tail.1 };
+      text = record { author = c.in_ok-author.author.now; committer = c.in_ok-committer.committer.now; headers = tail.0; message = tail.1 };
     }))
     ∙ sym (read_so c.args.body.now (c.in_ok-tree.tree.bytes, c.in_ok-tree.rest.now) (c.in_ok-author.author.now, c.in_ok-author.rest.now) (c.in_ok-committer.committer.now, c.in_ok-committer.rest.now)
     tail
     (sym c.in_ok-tree.ensures)
     (ap (field (codes "author")) (sym c.split_parents.ensures.rest) ∙ sym c.in_ok-author.ensures)
     (sym c.in_ok-committer.ensures)
-    (ap tail_of (sym c.split_encoding.ensures.rest) ∙ sym c.in_ok-further.ensures))
+    (sym c.in_ok-headers.ensures))

@@ -1,7 +1,6 @@
 -- What is asked of a repository, and what is answered.
 -- Source: gitrevisions(7), and gitglossary(7), "commit object".
 use Rattle.std.specs.Prelude.{◌≡◌, List, map, Option, Some, None, Result, Ok, Err, IsOk, ⊤}
-use Rattle.std.specs.Option.{option_map}
 use Rattle.std.specs.declared.vec.Vec.{Vec}
 use Rattle.gx_model.specs.declared.objects.Kind.{Kind}
 use Rattle.gx_model.specs.Texts.{Bytes}

@@ -8,6 +8,7 @@ use Rattle.std.proofs.lemmas.Grind.{flat_map-append}
 use Rattle.gx_model.specs.declared.objects.Mode.{Mode}
 use Rattle.gx_model.specs.declared.objects.Mode.TheVariants.{File, Exec, Link, Gitlink, Dir}
 use Rattle.gx_model.specs.Texts.{Bytes, is_line}
+use Rattle.gx_model.specs.Texts.Headers.{encoding_in}
 use Rattle.gx_model.specs.Texts.Idents.{is_ident}
 use Rattle.gx_model.specs.Texts.Paths.{Path, path_text, printed}
 use Rattle.gx_model.specs.Streams.Items.{Item, Line, Data}
@@ -18,6 +19,7 @@ use Rattle.gx_model.specs.Texts.Digits.{is_lower_digit, is_name_text}
 use Rattle.std.specs.Option.{unwrap_or}
 use Rattle.gx_model.specs.Export.{mode_digits, dataref_text, commit_ish_text, change_items, command_items, from_line, mark_line, reset_items, word_line_if}
 use Rattle.gx_model.specs.Laws.ExportLaws.{IsItemLine, IsItem, IsMark, IsLink, IsDataRef, IsNamedCommit, IsNamedCommitIf, IsSpelledChange, IsSpelled, HasMark, between}
+use Rattle.gx_model.proofs.Texts.HeaderTexts.{encoding_told}
 use Rattle.gx_model.proofs.Texts.Idents.{and_two}
 use Rattle.gx_model.proofs.Texts.Decimals.{decimal_digits}
 use Rattle.gx_model.proofs.Texts.LineTexts.{line_by, line_append, digits_are_line, ref_is_line, tag_is_line, ident_is_line, printed_is_line}

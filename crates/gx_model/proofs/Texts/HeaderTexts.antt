@@ -1,5 +1,5 @@
 -- Header lines: where they end, and which encoding they tell.
-use Rattle.std.proofs.Common.{◌≡◌, Bool, true, false, not, ◌&&◌, ◌==◌, Option, Some, None, [], ◌∷◌, ◌++◌, refl, sym, ap, ◌∙◌}
+use Rattle.std.proofs.Common.{◌≡◌, Bool, true, false, not, ◌&&◌, ◌||◌, ◌==◌, Option, Some, None, [], ◌∷◌, ◌++◌, refl, sym, ap, ◌∙◌}
 use Rattle.std.specs.Option.{unwrap_or}
 use Rattle.std.specs.Prelude.{T}
 use Rattle.std.proofs.lemmas.Bool.{false≢true, not-true}
@@ -27,7 +27,7 @@ headers_cut headers rest h = lines_cut true headers rest (is_true _ h)
 -- so a text has its headers in one way
 pub one_headers : (headers others m n : Bytes) → T (is_headers headers) → T (is_headers others) → headers ++ (10 ∷ m) ≡ others ++ (10 ∷ n) → (headers ≡ others) × (m ≡ n)
 one_headers headers others m n h k e =
-    let same : (headers, m) ≡ (others, n) = sym (headers_cut headers m h) ∙ ap headers_in e ∙ headers_cut others n k in
+    let same = sym (headers_cut headers m h) ∙ ap headers_in e ∙ headers_cut others n k in
     (ap (λ (q : Bytes × Bytes). q.0) same, ap (λ (q : Bytes × Bytes). q.1) same)
 
 -- ---- encodings
@@ -47,8 +47,9 @@ encoding_is_headers (Some (b ∷ x)) h = line_ends (b ∷ x) h
 line_lacks : (x : Bytes) → is_line x ≡ true → lacks 10 x ≡ true
 line_lacks [] h = refl
 line_lacks (b ∷ x) h =
-    let none = not-true _ (and_one (not (b == 10)) _ h) in
-    rw none (line_lacks x (and_two (not (b == 10)) _ h))
+    let first = not-true _ (and_one (not (b == 10)) _ h) in
+    let rest = not-true _ (line_lacks x (and_two (not (b == 10)) _ h)) in
+    λ i. not (first i || rest i)
 
 -- it tells this encoding
 pub encoding_again : (encoding : Option Bytes) → is_optional_encoding encoding ≡ true → encoding_in (encoding_header encoding) ≡ encoding

@@ -15,8 +15,8 @@ pub fn changes_are_replayed()
     ensures replayed { ChangesAreReplayed }
 {}
 
-/// A history that has no gitlink of forty zeros has an export of changes of commands that can be spelled, if the text's length is
-/// below 2^64.
+/// Where a stream can say the commits that refs reach, the export of changes has commands that can be spelled, if the text's
+/// length is below 2^64.
 pub fn changes_are_readable()
     ensures readable { ShortChangesAreReadable }
     ensures spelled { ChangesAreSpelled }

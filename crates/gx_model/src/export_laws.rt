@@ -9,8 +9,8 @@ pub fn items_are_read()
     ensures items { ItemsAreRead }
 {}
 
-/// The text of any history's export is read as its items, to its end, if its length is below 2^64: also where refs reach a
-/// gitlink of forty zeros.
+/// The text of a history's export is read as its items, to its end, if its length is below 2^64 and refs reach no commit with
+/// headers but that of an encoding: also where they reach a gitlink of forty zeros.
 pub fn exports_are_items()
     ensures items { ExportsAreItems }
 {}
@@ -37,8 +37,8 @@ pub fn exports_are_replayed()
     ensures replayed { ExportIsReplayed }
 {}
 
-/// A history that has no gitlink of forty zeros has an export of commands that can be spelled, if the text's length is below
-/// 2^64.
+/// Where a stream can say the commits that refs reach, since they have no gitlink of forty zeros and no header but that of an
+/// encoding, the export has commands that can be spelled, if the text's length is below 2^64.
 #[tactic(auto, using(crate::proofs::Export::ReadableExports::formed_readable, crate::proofs::Export::SpelledExports::export_spelled))]
 pub fn exports_are_readable()
     ensures readable { FormedIsReadable }

@@ -7,8 +7,8 @@ pub fn ranges_are_replayed()
     ensures replayed { RangesAreReplayed }
 {}
 
-/// What a range sends has an export of commands that can be spelled, if it has no gitlink of forty zeros, and the text's length
-/// is below 2^64.
+/// What a range sends has an export of commands that can be spelled, if a stream can say its commits, and the text's length is
+/// below 2^64.
 pub fn ranges_are_readable()
     ensures readable { ShortRangesAreReadable }
     ensures spelled { RangesAreSpelled }

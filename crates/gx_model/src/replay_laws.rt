@@ -3,7 +3,7 @@ ghost use Rattle.gx_model.specs.Laws.FeatureLaws.{ChangesAskOnce, CommandsAreAsk
 ghost use Rattle.gx_model.specs.Histories.{IsHistory, no_history};
 ghost use Rattle.gx_model.specs.Replay.ProperReplays.{RefusalsKeepHistories, ReplaysGiveHistories, StreamsAreProper, TextsGiveHistories};
 
-/// The commands that a stream has are proper: their ref names, tag names, identities, encodings, new paths and gitlink digits
+/// The commands that a stream has are proper: their ref names, tag names, identities, headers, new paths and gitlink digits
 /// have their forms. Source: git-fast-import(1), "Commands".
 #[tactic(auto, using(crate::proofs::Streams::ReadCommands::all_proper))]
 pub fn streams_are_proper()

@@ -15,7 +15,7 @@ use Rattle.gx_model.specs.Objects.{CommitParts, IsCommitText, commit_text, hex, 
 use Rattle.gx_wide.specs.WideTexts.{message_text, tail_of}
 use Rattle.gx_object.specs.Lines.{◌>>=◌, field, ident_field, name_field, stripped}
 use Rattle.gx_object.specs.Commits.{commit_parts_of, encoding_field, parent_lines, parents_of}
-use Rattle.gx_object.proofs.Fields.{bind_some, field_spelled, ident_spelled, ident_again, name_spelled, name_field_again, stripped_again}
+use Rattle.gx_object.proofs.Fields.{bind_some, field_front, field_spelled, ident_spelled, ident_again, line_flat, name_spelled, name_field_again}
 use Rattle.gx_object.proofs.Parents.{parents_spelled, parents_again}
 use Rattle.gx_object.proofs.Tails.{tail_again, tail_spelled}
 
@@ -24,10 +24,6 @@ use Rattle.gx_object.proofs.Tails.{tail_again, tail_spelled}
 pub record HasOptional (test : Option Bytes → Bool) (word bytes : Bytes) (p : Option Bytes × Bytes) : Type 0 where
   pub parts : bytes ≡ optional_line word p.0 ++ p.1
   pub proper : test p.0 ≡ true
-
--- the line of an encoding begins with its word and a space
-front_of : (x r : Bytes) → line (codes "encoding") x ++ r ≡ codes "encoding " ++ (x ++ 10 ∷ r)
-front_of x r = simp append_assoc
 
 -- what is read at the front of headers is the encoding that they tell
 pub encoding_is : (headers : Bytes) → encoding_field headers ≡ encoding_in headers
@@ -39,9 +35,9 @@ encoding_is headers = by (starts_with nat_eq headers (codes "encoding ")) refl
     of_cut (Some ([], r)) = refl
     of_cut (Some ((b ∷ x), r)) = rw (ne_eqb (length (b ∷ x)) 0 (λ e. omega arith)) refl
 
-    after : (rest : Bytes) → encoding_field (codes "encoding " ++ rest) ≡ unless_empty (parts_at 10 rest).0
-    unfolding encoding_field field
-    after rest = rw (stripped_again (codes "encoding") (32 ∷ rest), stripped_again (32 ∷ []) rest) (of_cut (cut_at 10 rest))
+    after : (rest : Bytes) → encoding_field (codes "encoding" ++ (32 ∷ rest)) ≡ unless_empty (parts_at 10 rest).0
+    unfolding encoding_field
+    after rest = rw (field_front (codes "encoding") rest) (of_cut (cut_at 10 rest))
 
     none : starts_with nat_eq headers (codes "encoding ") ≡ false → (o : Option (Bytes × Bytes)) → field (codes "encoding") headers ≡ o → encoding_field headers ≡ None
     unfolding encoding_field
@@ -49,7 +45,7 @@ encoding_is headers = by (starts_with nat_eq headers (codes "encoding ")) refl
     none e (Some p) f =
         let l = field_spelled (codes "encoding") headers p f in
         let starts = starts_is Decides-eqb headers (codes "encoding ") (starts_with nat_eq headers (codes "encoding ")) refl in
-        absurd (false≢true (sym e ∙ starts.1 (p.0 ++ 10 ∷ p.1) (l.parts ∙ front_of p.0 p.1)))
+        absurd (false≢true (sym e ∙ starts.1 (p.0 ++ 10 ∷ p.1) (l.parts ∙ line_flat (codes "encoding") p.0 p.1)))
 
     by : (t : Bool) → starts_with nat_eq headers (codes "encoding ") ≡ t → encoding_field headers ≡ cond t (unless_empty (parts_at 10 (drop 9 headers)).0) None
     by true e = ap encoding_field ((starts_is Decides-eqb headers (codes "encoding ") (starts_with nat_eq headers (codes "encoding ")) refl).0 e) ∙ after (drop 9 headers)

@@ -10,7 +10,7 @@ use Rattle.gx_model.specs.Texts.{Bytes, cut_at, is_line, lacks}
 use Rattle.gx_model.specs.Texts.Idents.{is_ident}
 use Rattle.gx_model.specs.Objects.{hex, is_name, line}
 use Rattle.gx_model.specs.Objects.Naming.{lower_name_in}
-use Rattle.gx_model.proofs.Texts.Cuts.{cut_after, cut_spelled, map_some}
+use Rattle.gx_model.proofs.Texts.Cuts.{cut_after, cut_line, cut_spelled}
 use Rattle.gx_model.proofs.Texts.LineTexts.{ident_is_line}
 use Rattle.gx_object.specs.Lines.{◌>>=◌, field, ident_field, name_field, stripped}
 use Rattle.gx_model.proofs.ObjectTexts.NameDigits.{name_found, name_again, name_line}
@@ -55,18 +55,8 @@ line_lacks x h = not_from_false _ (none x h)
     none [] h = refl
     none (b ∷ x) h = let p = and_parts (not (nat_eq b 10)) _ h in or_from _ _ (not-true _ p.0) (none x p.1)
 
-pub cut_line : (bytes : Bytes) (p : Bytes × Bytes) → cut_at 10 bytes ≡ Some p → is_line p.0 ≡ true
-unfolding cut_at
-cut_line [] p e = absurd cc
-cut_line (b ∷ bytes) p e = by (nat_eq b 10) refl e (λ q f. cut_line bytes q f)
-  where
-    by : (t : Bool) → nat_eq b 10 ≡ t → cond t (Some ([], bytes)) (option_map (λ q. (b ∷ q.0, q.1)) (cut_at 10 bytes)) ≡ Some p → ((q : Bytes × Bytes) → cut_at 10 bytes ≡ Some q → is_line q.0 ≡ true) → is_line p.0 ≡ true
-    by true h f again = let same : ([], bytes) ≡ p = cc in ap (λ (q : Bytes × Bytes). is_line q.0) (sym same)
-    by false h f again =
-        let q = map_some (λ (q : Bytes × Bytes). let r : Bytes × Bytes = (b ∷ q.0, q.1) in r) (cut_at 10 bytes) p f in
-        ap (λ (r : Bytes × Bytes). is_line r.0) (sym q.2) ∙ and_from _ _ (not_from_false _ h) (again q.0 q.1)
-
-line_flat : (word x r : Bytes) → line word x ++ r ≡ word ++ (32 ∷ (x ++ 10 ∷ r))
+-- a line and what follows it, grouped to the right
+pub line_flat : (word x r : Bytes) → line word x ++ r ≡ word ++ (32 ∷ (x ++ 10 ∷ r))
 line_flat word x r = simp append_assoc
 
 pub record HasLine (word bytes : Bytes) (p : Bytes × Bytes) : Type 0 where
@@ -80,6 +70,10 @@ field_spelled word bytes p e =
     let b = bind_some (stripped (32 ∷ []) a.0) _ p a.2 in
     let whole : bytes ≡ word ++ (32 ∷ (p.0 ++ 10 ∷ p.1)) = stripped_spelled word bytes a.0 a.1 ∙ ap (λ r. word ++ r) (stripped_spelled (32 ∷ []) a.0 b.0 b.1 ∙ ap (λ r. 32 ∷ r) (cut_spelled 10 b.0 p b.2)) in
     record { parts = whole ∙ sym (line_flat word p.0 p.1); rest = cut_line b.0 p b.2 }
+
+pub field_front : (word rest : Bytes) → field word (word ++ (32 ∷ rest)) ≡ cut_at 10 rest
+unfolding field
+field_front word rest = rw (stripped_again word (32 ∷ rest), stripped_again (32 ∷ []) rest) refl
 
 pub field_again : (word x r : Bytes) → is_line x ≡ true → field word (line word x ++ r) ≡ Some (x, r)
 unfolding field

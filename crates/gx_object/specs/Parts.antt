@@ -1,10 +1,9 @@
 -- The parts of commits and tags without where they lie in memory.
-use Rattle.std.specs.Prelude.{◌≡◌, ◌++◌, Option, Result, IsOkAnd}
+use Rattle.std.specs.Prelude.{◌≡◌, ◌++◌, codes, Option, Result, IsOkAnd}
 use Rattle.std.specs.Borrow.{Bor}
 use Rattle.std.specs.Option.{option_copied, option_map}
-use Rattle.gx_model.specs.Objects.{CommitParts, TagParts}
+use Rattle.gx_model.specs.Objects.{CommitParts, TagParts, optional_line}
 use Rattle.gx_model.specs.Texts.{Bytes}
-use Rattle.gx_model.specs.Texts.Headers.{encoding_header}
 use Rattle.gx_text.specs.Idents.{ident_bytes}
 use Rattle.gx_object.specs.Commits.{bytes_of_names, parents_of}
 use Rattle.gx_object.specs.declared.name.Name.{Name}
@@ -26,7 +25,7 @@ commit_parts p = record {
   text = record {
     author = ident_bytes p.author;
     committer = ident_bytes p.committer;
-    headers = encoding_header (option_copied p.encoding) ++ p.further.now;
+    headers = optional_line (codes "encoding") (option_copied p.encoding) ++ p.further.now;
     message = p.message.now;
   };
 }

@@ -166,8 +166,8 @@ fn read_commit(body: &[u8]) -> Option<CommitView<'_>>
     let (parents, rest) = split_parents(rest);
     let (author, rest) = cut_ident(rest, b"author")?;
     let (committer, rest) = cut_ident(rest, b"committer")?;
-    let (headers, end) = split_tail(rest)?;
-    let message = end?;
+    let (headers, last) = split_tail(rest)?;
+    let message = last?;
     Some(CommitView {
         tree,
         parents,

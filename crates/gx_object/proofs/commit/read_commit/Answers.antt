@@ -31,7 +31,7 @@ returns c =
       text = record { author = c.in_ok-author.author.now; committer = c.in_ok-committer.committer.now; headers = c.in_ok-headers.headers.now; message = c.in_ok-message.message.now };
     }))
     ∙ sym (read_so c.args.body.now (c.in_ok-tree.tree.bytes, c.in_ok-tree.rest.now) (c.in_ok-author.author.now, c.in_ok-author.rest.now) (c.in_ok-committer.committer.now, c.in_ok-committer.rest.now)
-    (c.in_ok-headers.headers.now, option_copied c.in_ok-headers.end) c.in_ok-message.message.now
+    (c.in_ok-headers.headers.now, option_copied c.in_ok-headers.last) c.in_ok-message.message.now
     (sym c.in_ok-tree.ensures)
     (ap (ident_field (codes "author")) (sym c.split_parents.ensures.rest) ∙ sym c.in_ok-author.ensures)
     (sym c.in_ok-committer.ensures)

@@ -14,6 +14,7 @@ use Rattle.std.specs.List.{AllByRecursion}
 use Rattle.gx_model.specs.declared.objects.Kind.{Kind}
 use Rattle.gx_model.specs.declared.objects.Kind.TheVariants as kinds
 use Rattle.gx_model.specs.Texts.{Bytes}
+use Rattle.gx_model.specs.Texts.Headers.{is_headers}
 use Rattle.gx_model.specs.Histories.Files.{FileMap}
 use Rattle.gx_model.specs.Texts.RefNames.{is_tag_name}
 use Rattle.gx_model.specs.Histories.Values.{Commit, CommitText, Tag, Value, commit, commit_value, commits_of, is_content, is_optional_encoding, is_optional_ident, is_proper_text, list_of, tag_value, tree_value}
@@ -24,6 +25,7 @@ use Rattle.gx_model.specs.Records.HistoryOf.{commit_of_value, files_of_tree, his
 use Rattle.gx_model.specs.Records.Growth.{AreReady, put, with_values}
 use Rattle.gx_model.specs.Laws.RepositoryLaws.{PutsGrow, values_of}
 use Rattle.gx_model.specs.Records.Sound.{Holds, IsSound, Keeps}
+use Rattle.gx_model.proofs.Texts.HeaderTexts.{encoding_is_headers}
 use Rattle.gx_model.proofs.Texts.PathTests.{both, is_true}
 use Rattle.gx_model.proofs.Records.LinkedValues.{proper_in}
 use Rattle.gx_object.specs.declared.name.Name.{Name}
@@ -129,13 +131,16 @@ tagger_proper t = by t.tagger
     by None = refl
     by (Some i) = i.proper
 
+pub headers_proper : {A : Type 0} (c : GivenCommit A) → IsTrue (is_headers (commit_parts c).headers)
+headers_proper c = encoding_is_headers (option_map (λ e. e.name.items) c.encoding) (encoding c.encoding)
+  where
+    encoding : {A : Type 0} (o : Option (Encoding A)) → IsTrue (is_optional_encoding (option_map (λ e. e.name.items) o))
+    encoding None = refl
+    encoding (Some e) = e.proper
+
 pub text_proper : {A : Type 0} (c : GivenCommit A) → IsTrue (is_proper_text (text_made (commit_parts c)))
-text_proper c = is_true _ (both _ _ (both _ _ (author c.author c.committer) (passes _ c.committer.proper)) (passes _ (encoding c.encoding)))
+text_proper c = is_true _ (both _ _ (both _ _ (author c.author c.committer) (passes _ c.committer.proper)) (passes _ (headers_proper c)))
   where
     author : {A : Type 0} (o : Option (Identity A)) (i : Identity A) → T (is_ident (unwrap_or (option_map (λ i. i.bytes.items) o) i.bytes.items))
     author None i = passes _ i.proper
     author (Some j) i = passes _ j.proper
-
-    encoding : {A : Type 0} (o : Option (Encoding A)) → IsTrue (is_optional_encoding (option_map (λ e. e.name.items) o))
-    encoding None = refl
-    encoding (Some e) = e.proper

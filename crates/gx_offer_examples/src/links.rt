@@ -41,6 +41,7 @@ fn links_stand_in_the_order_of_the_body(rt: HostRuntime) {
     assert!(rt; names(alloc, Kind::Blob, BLOB, &[]));
     assert!(rt; names(alloc, Kind::Tree, TREE, &[(Kind::Blob, BLOB_DIGITS)]));
     assert!(rt; names(alloc, Kind::Commit, COMMIT, &[(Kind::Tree, TREE_DIGITS)]));
+    assert!(rt; names(alloc, Kind::Commit, SIGNED, &[(Kind::Tree, TREE_DIGITS)]));
     assert!(rt; names(alloc, Kind::Tag, TAG, &[(Kind::Commit, COMMIT_DIGITS)]));
     let merged = [
         (Kind::Tree, TREE_DIGITS),
@@ -56,16 +57,23 @@ fn gitlink_is_no_link(rt: HostRuntime) {
     assert!(rt; names(rt.alloc(), Kind::Tree, FOLDER, &[(Kind::Tree, letters)]));
 }
 
-/// A commit with a further header, which no stream can say.
+/// A commit with a header that no stream can say.
 const SIGNED: &[u8] = b"tree f3330bb188e45b11b32cba7918a7d8cc7c15d9ed
 author A <a@x> 1000000000 +0000
 committer A <a@x> 1000000000 +0000
 gpgsig x
+ y
 
 m
 ";
 
-/// A tag of a tree, which no stream can say.
+/// A commit without a message, which no repository holds.
+const BARE: &[u8] = b"tree f3330bb188e45b11b32cba7918a7d8cc7c15d9ed
+author A <a@x> 1000000000 +0000
+committer A <a@x> 1000000000 +0000
+";
+
+/// A tag of a tree, which no repository holds.
 const TAG_OF_TREE: &[u8] = b"object f3330bb188e45b11b32cba7918a7d8cc7c15d9ed
 type tree
 tag v1
@@ -80,7 +88,7 @@ fn other_bodies_are_bad(rt: HostRuntime) {
         (Kind::Tree, BLOB),
         (Kind::Commit, TAG),
         (Kind::Tag, COMMIT),
-        (Kind::Commit, SIGNED),
+        (Kind::Commit, BARE),
         (Kind::Tag, TAG_OF_TREE),
     ];
     for (kind, body) in bodies {

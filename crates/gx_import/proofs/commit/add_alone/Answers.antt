@@ -1,9 +1,12 @@
 use Rattle.std.proofs.Common.{◌≡◌, Ok, refl, sym, ap, subst, ◌∙◌}
 use Rattle.std.proofs.lemmas.Result.{err_from_is_err_and}
 use Rattle.std.specs.List.{AllByRecursion}
+use Rattle.std.specs.Prelude.{IsTrue}
 use Rattle.gx_model.specs.declared.objects.Kind.TheVariants as kinds
 use Rattle.gx_model.specs.Records.Sound.{Holds}
 use Rattle.gx_model.specs.Records.{name_of}
+use Rattle.gx_model.specs.Objects.{CommitParts}
+use Rattle.gx_model.specs.Texts.Headers.{is_headers}
 use Rattle.gx_model.specs.Histories.{with_one}
 use Rattle.gx_model.specs.Replay.{State, text_made}
 use Rattle.gx_model.specs.Laws.RepositoryLaws.{values_of}
@@ -17,9 +20,13 @@ use Rattle.gx_import.specs.Rows.{AreAll}
 use Rattle.gx_import.specs.Standing.{Follows}
 use Rattle.gx_import.proofs.Extended.{extended_one}
 use Rattle.gx_import.proofs.GrownStates.{alone_stands}
-use Rattle.gx_import.proofs.HeldParts.{commit_clashes, commit_is, holds_named, text_proper}
+use Rattle.gx_import.proofs.HeldParts.{commit_clashes, commit_is, headers_proper, holds_named, text_proper}
 use Rattle.gx_import.proofs.PartAnswers.{put_refused}
 use Rattle.gx_import.proofs.commit.add_alone.Goals as goal
+
+pub add_commit-requires-clause-headers : goal.add_commit-requires-clause-headers
+add_commit-requires-clause-headers g c =
+    subst (λ (p : CommitParts). IsTrue (is_headers p.text.headers)) (sym c.object_parts.ensures) (headers_proper c.args.commit.now)
 
 pub add_commit-requires-clause-parents : goal.add_commit-requires-clause-parents
 add_commit-requires-clause-parents g c =

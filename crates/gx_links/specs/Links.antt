@@ -18,7 +18,7 @@ shown_link link = (link.kind, link.name.bytes)
 abbrev pub link_in : Entry → Option (Kind × Bytes)
 link_in entry = entry_link entry.mode entry.name
 
--- The links of a body that a stream can say, or that it is none.
+-- The links of a body that a repository holds, or that it is none.
 abbrev pub TellsLinks : {A : Type 0} → Kind → Bytes → Result (Vec Link A) LinksFault → Type 0
 TellsLinks of_kind body (Ok links) = (is_body of_kind body ≡ true) × (map shown_link links.items ≡ wide_links of_kind body)
 TellsLinks of_kind body (Err BadBody) = is_body of_kind body ≡ false

@@ -10,7 +10,7 @@ use std::alloc::{AllocError, AllocFailed};
 pub enum LinksFault {
     /// A growth was refused.
     OutOfMemory,
-    /// The body isn't a canonical one of its kind, or it has what no stream can say.
+    /// The body isn't a canonical one of its kind, or it has what no repository holds.
     BadBody,
 }
 

@@ -1,5 +1,5 @@
-//! What the body of an object names: each object, with the kind that it is to have, in the body's order. A body that no stream can
-//! say is told as none.
+//! What the body of an object names: each object, with the kind that it is to have, in the body's order. A body that no
+//! repository holds is told as none.
 #![tactic(auto)]
 
 mod fault;

@@ -22,7 +22,7 @@ pub struct Link {
 /// What the body of an object of a kind names, in its order: a tree's entries, but gitlinks; a commit's tree, and its parents;
 /// what a tag tags. A blob names nothing.
 ///
-/// `BadBody`: the body isn't a canonical one of its kind that a stream can say. `OutOfMemory`: a growth was refused.
+/// `BadBody`: the body isn't a canonical one of its kind that a repository holds. `OutOfMemory`: a growth was refused.
 /// Cost: the body's length. Memory: a link each. Source: gitglossary(7), "reachable".
 pub fn links_of<A: Allocator + Copy>(
     alloc: A,

@@ -25,31 +25,35 @@ pub record HasOptional (test : Option Bytes → Bool) (word bytes : Bytes) (p : 
   pub parts : bytes ≡ optional_line word p.0 ++ p.1
   pub proper : test p.0 ≡ true
 
+-- what is kept of a cut
+of_cut : (o : Option (Bytes × Bytes)) → (o >>= λ a. cond (nat_eq (length a.0) 0) None (Some a.0)) ≡ unless_empty (unwrap_or o ([], [])).0
+of_cut None = refl
+of_cut (Some ([], r)) = refl
+of_cut (Some ((b ∷ x), r)) = rw (ne_eqb (length (b ∷ x)) 0 (λ e. omega arith)) refl
+
+-- where the word of an encoding stands in front
+encoding_front : (rest : Bytes) → encoding_field (codes "encoding" ++ (32 ∷ rest)) ≡ unless_empty (parts_at 10 rest).0
+unfolding encoding_field
+encoding_front rest = rw (field_front (codes "encoding") rest) (of_cut (cut_at 10 rest))
+
+-- where it doesn't, no line of one is read
+encoding_none : (headers : Bytes) (o : Option (Bytes × Bytes)) → starts_with nat_eq headers (codes "encoding ") ≡ false → field (codes "encoding") headers ≡ o → encoding_field headers ≡ None
+unfolding encoding_field
+encoding_none headers None e f = rw f refl
+encoding_none headers (Some p) e f =
+    let l = field_spelled (codes "encoding") headers p f in
+    let starts = starts_is Decides-eqb headers (codes "encoding ") (starts_with nat_eq headers (codes "encoding ")) refl in
+    absurd (false≢true (sym e ∙ starts.1 (p.0 ++ 10 ∷ p.1) (l.parts ∙ line_flat (codes "encoding") p.0 p.1)))
+
 -- what is read at the front of headers is the encoding that they tell
 pub encoding_is : (headers : Bytes) → encoding_field headers ≡ encoding_in headers
-unfolding encoding_field
 encoding_is headers = by (starts_with nat_eq headers (codes "encoding ")) refl
   where
-    of_cut : (o : Option (Bytes × Bytes)) → (o >>= λ a. cond (nat_eq (length a.0) 0) None (Some a.0)) ≡ unless_empty (unwrap_or o ([], [])).0
-    of_cut None = refl
-    of_cut (Some ([], r)) = refl
-    of_cut (Some ((b ∷ x), r)) = rw (ne_eqb (length (b ∷ x)) 0 (λ e. omega arith)) refl
-
-    after : (rest : Bytes) → encoding_field (codes "encoding" ++ (32 ∷ rest)) ≡ unless_empty (parts_at 10 rest).0
-    unfolding encoding_field
-    after rest = rw (field_front (codes "encoding") rest) (of_cut (cut_at 10 rest))
-
-    none : starts_with nat_eq headers (codes "encoding ") ≡ false → (o : Option (Bytes × Bytes)) → field (codes "encoding") headers ≡ o → encoding_field headers ≡ None
-    unfolding encoding_field
-    none e None f = rw f refl
-    none e (Some p) f =
-        let l = field_spelled (codes "encoding") headers p f in
-        let starts = starts_is Decides-eqb headers (codes "encoding ") (starts_with nat_eq headers (codes "encoding ")) refl in
-        absurd (false≢true (sym e ∙ starts.1 (p.0 ++ 10 ∷ p.1) (l.parts ∙ line_flat (codes "encoding") p.0 p.1)))
-
     by : (t : Bool) → starts_with nat_eq headers (codes "encoding ") ≡ t → encoding_field headers ≡ cond t (unless_empty (parts_at 10 (drop 9 headers)).0) None
-    by true e = ap encoding_field ((starts_is Decides-eqb headers (codes "encoding ") (starts_with nat_eq headers (codes "encoding ")) refl).0 e) ∙ after (drop 9 headers)
-    by false e = none e (field (codes "encoding") headers) refl
+    by true e =
+        let starts = starts_is Decides-eqb headers (codes "encoding ") (starts_with nat_eq headers (codes "encoding ")) refl in
+        ap encoding_field (starts.0 e) ∙ encoding_front (drop 9 headers)
+    by false e = encoding_none headers (field (codes "encoding") headers) e refl
 
 -- ---- the whole body
 

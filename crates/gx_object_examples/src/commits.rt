@@ -31,12 +31,7 @@ fn body_of(alloc: Global, ends: &[&[u8]]) -> Vec<u8> {
 }
 
 /// Whether a commit's body with this end has these parts, and these parts encode it.
-fn has(
-    alloc: Global,
-    ends: &[&[u8]],
-    headers: &[u8],
-    message: Option<&[u8]>,
-) -> bool {
+fn has(alloc: Global, ends: &[&[u8]], headers: &[u8], message: Option<&[u8]>) -> bool {
     let body = body_of(alloc, ends);
     let Ok(commit) = decode_any_commit(&body) else {
         return false;
@@ -178,8 +173,26 @@ fn first_header_tells_the_encoding(rt: HostRuntime) -> Result<(), Fail> {
             b""
         )
     );
-    assert!(rt; has_own(alloc, b"encoding \n\n", b"encoding \n", None, b"encoding \n", b""));
-    assert!(rt; has_own(alloc, b"encodings x\n\n", b"encodings x\n", None, b"encodings x\n", b""));
+    assert!(rt;
+        has_own(
+            alloc,
+            b"encoding \n\n",
+            b"encoding \n",
+            None,
+            b"encoding \n",
+            b""
+        )
+    );
+    assert!(rt;
+        has_own(
+            alloc,
+            b"encodings x\n\n",
+            b"encodings x\n",
+            None,
+            b"encodings x\n",
+            b""
+        )
+    );
     Ok(())
 }
 

@@ -10,7 +10,7 @@ use Rattle.gx_model.specs.Texts.{Bytes, cut_at, is_line, lacks}
 use Rattle.gx_model.specs.Texts.Idents.{is_ident}
 use Rattle.gx_model.specs.Objects.{hex, is_name, line}
 use Rattle.gx_model.specs.Objects.Naming.{lower_name_in}
-use Rattle.gx_model.proofs.Texts.Cuts.{cut_after, cut_line, cut_spelled}
+use Rattle.gx_model.proofs.Texts.Cuts.{cut_after, cut_spelled, map_some}
 use Rattle.gx_model.proofs.Texts.LineTexts.{ident_is_line}
 use Rattle.gx_object.specs.Lines.{◌>>=◌, field, ident_field, name_field, stripped}
 use Rattle.gx_model.proofs.ObjectTexts.NameDigits.{name_found, name_again, name_line}
@@ -54,6 +54,17 @@ line_lacks x h = not_from_false _ (none x h)
     none : (x : Bytes) → is_line x ≡ true → list_any (λ b. nat_eq b 10) x ≡ false
     none [] h = refl
     none (b ∷ x) h = let p = and_parts (not (nat_eq b 10)) _ h in or_from _ _ (not-true _ p.0) (none x p.1)
+
+pub cut_line : (bytes : Bytes) (p : Bytes × Bytes) → cut_at 10 bytes ≡ Some p → is_line p.0 ≡ true
+unfolding cut_at
+cut_line [] p e = absurd cc
+cut_line (b ∷ bytes) p e = by (nat_eq b 10) refl e (λ q f. cut_line bytes q f)
+  where
+    by : (t : Bool) → nat_eq b 10 ≡ t → cond t (Some ([], bytes)) (option_map (λ q. (b ∷ q.0, q.1)) (cut_at 10 bytes)) ≡ Some p → ((q : Bytes × Bytes) → cut_at 10 bytes ≡ Some q → is_line q.0 ≡ true) → is_line p.0 ≡ true
+    by true h f again = let same : ([], bytes) ≡ p = cc in ap (λ (q : Bytes × Bytes). is_line q.0) (sym same)
+    by false h f again =
+        let q = map_some (λ (q : Bytes × Bytes). let r : Bytes × Bytes = (b ∷ q.0, q.1) in r) (cut_at 10 bytes) p f in
+        ap (λ (r : Bytes × Bytes). is_line r.0) (sym q.2) ∙ and_from _ _ (not_from_false _ h) (again q.0 q.1)
 
 -- a line and what follows it, grouped to the right
 pub line_flat : (word x r : Bytes) → line word x ++ r ≡ word ++ (32 ∷ (x ++ 10 ∷ r))

@@ -8,10 +8,10 @@ use Rattle.gx_model.specs.Texts.{Bytes, cut_at, is_line}
 use Rattle.gx_model.specs.Texts.Headers.{are_lines}
 use Rattle.gx_model.specs.Histories.Values.{is_optional_line}
 use Rattle.gx_model.specs.Objects.{line, optional_line}
-use Rattle.gx_model.proofs.Texts.Cuts.{cut_line, cut_spelled, map_some}
+use Rattle.gx_model.proofs.Texts.Cuts.{cut_spelled, map_some}
 use Rattle.gx_wide.specs.WideTexts.{IsTaggerApart, message_text, tail_from, tail_of, with_byte}
 use Rattle.gx_object.specs.Lines.{field, or_absent}
-use Rattle.gx_object.proofs.Fields.{field_again, field_spelled}
+use Rattle.gx_object.proofs.Fields.{cut_line, field_again, field_spelled}
 
 -- ---- headers and a message
 

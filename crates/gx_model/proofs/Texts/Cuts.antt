@@ -1,11 +1,10 @@
 -- Where a text is cut: what stands before the first c, and what stands after it.
-use Rattle.std.proofs.Common.{◌≡◌, ℕ, Bool, true, false, cond, eqb, [], ◌∷◌, ◌++◌, Option, Some, None, refl, sym, ap, subst, ◌∙◌, arith}
-use Rattle.std.specs.Prelude.{nat_eq}
+use Rattle.std.proofs.Common.{◌≡◌, ℕ, Bool, true, false, eqb, [], ◌∷◌, ◌++◌, Option, Some, None, refl, ap, subst, ◌∙◌, arith}
 use Rattle.std.specs.List.{list_any}
 use Rattle.std.specs.Option.{option_map}
-use Rattle.std.proofs.lemmas.Bool.{and_from, eqb-true, not-true, not_from_false, or_parts}
+use Rattle.std.proofs.lemmas.Bool.{eqb-true, not-true, not_from_false, or_parts}
 use Rattle.std.proofs.lemmas.Bool.Decides.{nat_tests}
-use Rattle.gx_model.specs.Texts.{Bytes, cut_at, is_line, lacks}
+use Rattle.gx_model.specs.Texts.{Bytes, cut_at, lacks}
 
 pub cut_here : (c : ℕ) (bs : Bytes) → cut_at c (c ∷ bs) ≡ Some ([], bs)
 unfolding cut_at
@@ -44,15 +43,3 @@ cut_spelled c (b ∷ bs) p e = step (λ q h. cut_spelled c bs q h) (eqb b c) ref
   step again false t =
       let h = map_some (λ (q : Bytes × Bytes). (b ∷ q.0, q.1)) (cut_at c bs) p (rw t at e) in
       subst (λ (q : Bytes × Bytes). b ∷ bs ≡ q.0 ++ c ∷ q.1) h.2 (ap (λ (x : Bytes). b ∷ x) (again h.0 h.1))
-
--- what stands before the first LF is a line
-pub cut_line : (bytes : Bytes) (p : Bytes × Bytes) → cut_at 10 bytes ≡ Some p → is_line p.0 ≡ true
-unfolding cut_at
-cut_line [] p e = absurd cc
-cut_line (b ∷ bytes) p e = by (nat_eq b 10) refl e (λ q f. cut_line bytes q f)
-  where
-    by : (t : Bool) → nat_eq b 10 ≡ t → cond t (Some ([], bytes)) (option_map (λ q. (b ∷ q.0, q.1)) (cut_at 10 bytes)) ≡ Some p → ((q : Bytes × Bytes) → cut_at 10 bytes ≡ Some q → is_line q.0 ≡ true) → is_line p.0 ≡ true
-    by true h f again = let same : ([], bytes) ≡ p = cc in ap (λ (q : Bytes × Bytes). is_line q.0) (sym same)
-    by false h f again =
-        let q = map_some (λ (q : Bytes × Bytes). let r : Bytes × Bytes = (b ∷ q.0, q.1) in r) (cut_at 10 bytes) p f in
-        ap (λ (r : Bytes × Bytes). is_line r.0) (sym q.2) ∙ and_from _ _ (not_from_false _ h) (again q.0 q.1)

@@ -1,16 +1,14 @@
 -- Header lines: where they end, and which encoding they tell.
-use Rattle.std.proofs.Common.{◌≡◌, Bool, true, false, cond, not, nat_eq, ◌&&◌, ◌||◌, ◌==◌, Option, Some, None, [], ◌∷◌, ◌++◌, drop, codes, refl, sym, ap, ◌∙◌}
+use Rattle.std.proofs.Common.{◌≡◌, Bool, true, false, not, ◌&&◌, ◌==◌, Option, Some, None, [], ◌∷◌, ◌++◌, refl, sym, ap, ◌∙◌}
 use Rattle.std.specs.Option.{unwrap_or}
-use Rattle.std.specs.Prelude.{T, ◌↔◌}
-use Rattle.std.specs.List.{starts_with}
-use Rattle.std.specs.Bool.{passes}
+use Rattle.std.specs.Prelude.{T}
 use Rattle.std.proofs.lemmas.Bool.{false≢true, not-true}
-use Rattle.gx_model.specs.Texts.{Bytes, cut_at, is_line, lacks, parts_at}
-use Rattle.gx_model.specs.Texts.Headers.{are_lines, encoding_header, encoding_in, headers_from, headers_in, is_encoding_alone, is_headers, unless_empty}
+use Rattle.gx_model.specs.Texts.{Bytes, is_line, lacks}
+use Rattle.gx_model.specs.Texts.Headers.{are_lines, encoding_header, encoding_in, headers_from, headers_in, is_headers, unless_empty}
 use Rattle.gx_model.specs.Histories.Values.{IsEncodingAlone, is_optional_encoding}
-use Rattle.gx_model.proofs.Texts.Cuts.{cut_after, cut_line}
+use Rattle.gx_model.proofs.Texts.Cuts.{cut_after}
 use Rattle.gx_model.proofs.Texts.Idents.{and_one, and_two}
-use Rattle.gx_model.proofs.Texts.PathTests.{is_same, is_true, same_is}
+use Rattle.gx_model.proofs.Texts.PathTests.{is_true}
 
 -- ---- where they end
 
@@ -29,7 +27,7 @@ headers_cut headers rest h = lines_cut true headers rest (is_true _ h)
 -- so a text has its headers in one way
 pub one_headers : (headers others m n : Bytes) → T (is_headers headers) → T (is_headers others) → headers ++ (10 ∷ m) ≡ others ++ (10 ∷ n) → (headers ≡ others) × (m ≡ n)
 one_headers headers others m n h k e =
-    let same = sym (headers_cut headers m h) ∙ ap headers_in e ∙ headers_cut others n k in
+    let same : (headers, m) ≡ (others, n) = sym (headers_cut headers m h) ∙ ap headers_in e ∙ headers_cut others n k in
     (ap (λ (q : Bytes × Bytes). q.0) same, ap (λ (q : Bytes × Bytes). q.1) same)
 
 -- ---- encodings
@@ -49,9 +47,8 @@ encoding_is_headers (Some (b ∷ x)) h = line_ends (b ∷ x) h
 line_lacks : (x : Bytes) → is_line x ≡ true → lacks 10 x ≡ true
 line_lacks [] h = refl
 line_lacks (b ∷ x) h =
-    let first = not-true _ (and_one (not (b == 10)) _ h) in
-    let rest = not-true _ (line_lacks x (and_two (not (b == 10)) _ h)) in
-    λ i. not (first i || rest i)
+    let none = not-true _ (and_one (not (b == 10)) _ h) in
+    rw none (line_lacks x (and_two (not (b == 10)) _ h))
 
 -- it tells this encoding
 pub encoding_again : (encoding : Option Bytes) → is_optional_encoding encoding ≡ true → encoding_in (encoding_header encoding) ≡ encoding
@@ -72,26 +69,3 @@ encoding_told headers h =
 -- such headers are headers
 pub alone_is_headers : (headers : Bytes) → IsEncodingAlone headers → is_headers headers ≡ true
 alone_is_headers headers h = ap is_headers h.2 ∙ encoding_is_headers h.0 h.1
-
--- what headers tell is an encoding, whatever they are
-encoding_proper : (headers : Bytes) → is_optional_encoding (encoding_in headers) ≡ true
-encoding_proper headers =
-    elim (starts_with nat_eq headers (codes "encoding ")) as (λ t. is_optional_encoding (cond t (unless_empty (parts_at 10 (drop 9 headers)).0) None) ≡ true) [
-      | true ↦ told (cut_at 10 (drop 9 headers)) refl
-      | false ↦ refl
-    ]
-  where
-    by : (x : Bytes) → is_line x ≡ true → is_optional_encoding (unless_empty x) ≡ true
-    by [] h = refl
-    by (b ∷ x) h = h
-
-    told : (o : Option (Bytes × Bytes)) → cut_at 10 (drop 9 headers) ≡ o → is_optional_encoding (unless_empty (unwrap_or o ([], [])).0) ≡ true
-    told None e = refl
-    told (Some p) e = by p.0 (cut_line (drop 9 headers) p e)
-
--- the test passes exactly those that are the header of an encoding, or none
-pub alone_decides : (headers : Bytes) → (is_encoding_alone headers ≡ true) ↔ IsEncodingAlone headers
-alone_decides headers = (
-  λ h. (encoding_in headers, encoding_proper headers, same_is headers (encoding_header (encoding_in headers)) (passes _ h)),
-  λ k. is_true _ (is_same headers (encoding_header (encoding_in headers)) (sym (encoding_told headers k).alone)),
-)

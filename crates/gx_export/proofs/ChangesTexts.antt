@@ -18,13 +18,13 @@ use Rattle.gx_model.specs.Texts.Sinks.{Taken, Took}
 use Rattle.gx_model.proofs.Ranges.SentCommits.{sent_are}
 use Rattle.gx_rev.specs.Walking.{is_included}
 use Rattle.gx_export.specs.Branches.{picked}
-use Rattle.gx_export.specs.ChangedParts.{DeliversRange, ExportsChanges, SendsText, closing, opening, sending_front, sending_rest}
+use Rattle.gx_export.specs.ChangedParts.{DeliversText, DeliversRange, ExportsChanges, SendsText, closing, opening, sending_front, sending_rest}
 use Rattle.gx_model.specs.Faults.{NeedsNoMemory}
 use Rattle.gx_export.specs.Marks.{Adds}
 use Rattle.gx_export.specs.Outputs.{Sent, StopsAt, Writes, most}
 use Rattle.gx_export.specs.Texts.{items_of}
 use Rattle.gx_export.specs.declared.fault.ExportFault.{ExportFault}
-use Rattle.gx_export.specs.declared.fault.ExportFault.TheVariants.{OutOfMemory, WriteFailed}
+use Rattle.gx_export.specs.declared.fault.ExportFault.TheVariants.{OutOfMemory, Unsupported, WriteFailed}
 use Rattle.gx_export.specs.declared.written.Written.{Written}
 use Rattle.gx_export.proofs.SentMarks.{all_set, in_range_is}
 use Rattle.gx_export.proofs.Writing.{items_sooner}
@@ -51,14 +51,16 @@ module _ (name : Kind → Bytes → Bytes) (closed : Bool) where
         ∙ sym (append_assoc (opening closed) (items_of commits) (items_of reset ++ (items_of last ++ closing closed)))
 
     -- an export that stops, and not for want of memory
-    stopped : (old new : Sent) (e : ExportFault) → e ≢ OutOfMemory → old.bytes ≡ 0 → Writes old new (items_text all_items) (Err e) → SendsText name closed sent refs old.taken new.taken (Err e)
+    stopped : (old new : Sent) (e : ExportFault) → e ≢ OutOfMemory → old.bytes ≡ 0 → Writes old new (items_text all_items) (Err e) → DeliversText name closed sent refs old.taken new.taken (Err e)
     stopped old new OutOfMemory memory z h = absurd (memory refl)
+    stopped old new Unsupported memory z h = absurd h.1
     stopped old new (WriteFailed count) memory z h =
         subst (λ is. StopsAt 0 count old.taken new.taken (items_text is)) (sym parts_of) (subst (λ n. StopsAt n count old.taken new.taken (items_text all_items)) z h.1)
 
     -- an export that stops among the commits
-    pub stopped_at_commits : (old new : Sent) (e : ExportFault) → old.bytes ≡ 0 → Writes old new (items_text (sending_front name closed sent refs)) (Err e) → SendsText name closed sent refs old.taken new.taken (Err e)
+    pub stopped_at_commits : (old new : Sent) (e : ExportFault) → old.bytes ≡ 0 → Writes old new (items_text (sending_front name closed sent refs)) (Err e) → DeliversText name closed sent refs old.taken new.taken (Err e)
     stopped_at_commits old new OutOfMemory z h = h.1
+    stopped_at_commits old new Unsupported z h = absurd h.1
     stopped_at_commits old new (WriteFailed count) z h =
         let front = sending_front name closed sent refs in
         let rest = sending_rest name closed sent refs (all_changes sent) in
@@ -66,7 +68,7 @@ module _ (name : Kind → Bytes → Bytes) (closed : Bool) where
 
     -- what goes out from the start is an export
     pub exports : {W A : Type 0} (r : Records) (ws : List Value) (old new : Written W A) (result : Result (Unit {0}) ExportFault) → old.output.bytes ≡ 0 → NeedsNoMemory OutOfMemory result → Adds r ws all_items old new result
-        → SendsText name closed sent refs old.output.taken new.output.taken result
+        → DeliversText name closed sent refs old.output.taken new.output.taken result
     exports r ws old new (Ok x) z memory k =
         let text = items_text all_items in
         let long : length text ≤ most = (let most = k.0.most in let count = k.1.1.0 in omega (arith, z)) in

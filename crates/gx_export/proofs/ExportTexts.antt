@@ -8,13 +8,13 @@ use Rattle.gx_model.specs.Records.HistoryOf.{history_of}
 use Rattle.gx_model.specs.Streams.Items.{Item, Line}
 use Rattle.gx_model.specs.Histories.Values.{Value}
 use Rattle.gx_model.specs.Texts.Sinks.{Took}
-use Rattle.gx_export.specs.Exports.{Exports, front_items, rest_items}
+use Rattle.gx_export.specs.Exports.{SendsExport, front_items, rest_items}
 use Rattle.gx_model.specs.Faults.{NeedsNoMemory}
 use Rattle.gx_export.specs.Marks.{Adds}
 use Rattle.gx_export.specs.Outputs.{Sent, StopsAt, Writes, most}
 use Rattle.gx_export.specs.Texts.{items_of}
 use Rattle.gx_export.specs.declared.fault.ExportFault.{ExportFault}
-use Rattle.gx_export.specs.declared.fault.ExportFault.TheVariants.{OutOfMemory, WriteFailed}
+use Rattle.gx_export.specs.declared.fault.ExportFault.TheVariants.{OutOfMemory, Unsupported, WriteFailed}
 use Rattle.gx_export.specs.declared.written.Written.{Written}
 use Rattle.gx_export.proofs.CommitLists.{commits_items}
 use Rattle.gx_export.proofs.CommitTexts.{last_is}
@@ -46,14 +46,16 @@ parts_of h =
     ∙ ap (λ (is : List Item). is ++ end_items) inner ∙ parted ∙ ap (λ (is : List Item). commits_items [] cs ++ (is ++ (items_of refs ++ end_items))) (sym (last_is cs)))
 
 -- an export that stops, and not for want of memory
-stopped : (r : Records) (old new : Sent) (e : ExportFault) → e ≢ OutOfMemory → old.bytes ≡ 0 → Writes old new (items_text (all_items (history_of r))) (Err e) → Exports r old.taken new.taken (Err e)
+stopped : (r : Records) (old new : Sent) (e : ExportFault) → e ≢ OutOfMemory → old.bytes ≡ 0 → Writes old new (items_text (all_items (history_of r))) (Err e) → SendsExport r old.taken new.taken (Err e)
 stopped r old new OutOfMemory memory z h = absurd (memory refl)
+stopped r old new Unsupported memory z h = absurd h.1
 stopped r old new (WriteFailed count) memory z h =
     subst (λ is. StopsAt 0 count old.taken new.taken (items_text is)) (sym (parts_of (history_of r))) (subst (λ n. StopsAt n count old.taken new.taken (items_text (all_items (history_of r)))) z h.1)
 
 -- an export that stops among the commits
-pub stopped_at_commits : (r : Records) (old new : Sent) (e : ExportFault) → old.bytes ≡ 0 → Writes old new (items_text (front_items (history_of r))) (Err e) → Exports r old.taken new.taken (Err e)
+pub stopped_at_commits : (r : Records) (old new : Sent) (e : ExportFault) → old.bytes ≡ 0 → Writes old new (items_text (front_items (history_of r))) (Err e) → SendsExport r old.taken new.taken (Err e)
 stopped_at_commits r old new OutOfMemory z h = h.1
+stopped_at_commits r old new Unsupported z h = absurd h.1
 stopped_at_commits r old new (WriteFailed count) z h =
     let front = front_items (history_of r) in
     let rest = rest_items (history_of r) (all_written (reached_commits (history_of r))) in
@@ -61,7 +63,7 @@ stopped_at_commits r old new (WriteFailed count) z h =
 
 -- what goes out from the start is an export
 pub exports : {W A : Type 0} (r : Records) (ws : List Value) (old new : Written W A) (result : Result (Unit {0}) ExportFault) → old.output.bytes ≡ 0 → NeedsNoMemory OutOfMemory result → Adds r ws (all_items (history_of r)) old new result
-    → Exports r old.output.taken new.output.taken result
+    → SendsExport r old.output.taken new.output.taken result
 exports r ws old new (Ok x) z memory k =
     let text = items_text (all_items (history_of r)) in
     let long : length text ≤ most = (let most = k.0.most in let count = k.1.1.0 in omega (arith, z)) in

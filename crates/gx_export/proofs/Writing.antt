@@ -12,7 +12,7 @@ use Rattle.gx_model.specs.Export.{item_text, items_text}
 use Rattle.gx_model.proofs.Texts.SentTexts.{took_both, took_nothing}
 use Rattle.gx_export.specs.Outputs.{Goes, Sent, Stops, StopsAfter, StopsAt, Writes, most}
 use Rattle.gx_export.specs.declared.fault.ExportFault.{ExportFault}
-use Rattle.gx_export.specs.declared.fault.ExportFault.TheVariants.{OutOfMemory, WriteFailed}
+use Rattle.gx_export.specs.declared.fault.ExportFault.TheVariants.{OutOfMemory, Unsupported, WriteFailed}
 
 -- what holds in any case
 pub on_any : {X E : Type 0} (result : Result X E) (P : Type 0) → P → OnOk result P
@@ -34,6 +34,7 @@ stopped_sooner before count was now a b h = (h.0, h.1 ++ b, ap (λ x. x ++ b) h.
 
 stops_sooner : (old new : Sent) (a b : Bytes) (e : ExportFault) → Stops old new a e → Stops old new (a ++ b) e
 stops_sooner old new a b OutOfMemory h = (h.0, h.1 ++ b, ap (λ x. x ++ b) h.2 ∙ append_assoc h.0 h.1 b, h.3)
+stops_sooner old new a b Unsupported h = absurd h
 stops_sooner old new a b (WriteFailed count) h = stopped_sooner old.bytes count old.taken new.taken a b h
 
 -- a sink that failed behind what it took before failed behind both
@@ -51,6 +52,7 @@ stopped_later before mid count was between now a b m h k =
 
 stops_later : (old mid new : Sent) (a b : Bytes) (e : ExportFault) → Goes old mid a (Ok tt) → Stops mid new b e → Stops old new (a ++ b) e
 stops_later old mid new a b OutOfMemory h k = (a ++ k.0, k.1, ap (λ x. a ++ x) k.2 ∙ sym (append_assoc a k.0 k.1), took_both old.taken mid.taken new.taken a k.0 h.2 k.3)
+stops_later old mid new a b Unsupported h k = absurd k
 stops_later old mid new a b (WriteFailed count) h k = stopped_later old.bytes mid.bytes count old.taken mid.taken new.taken a b h.0 h.2 k
 
 -- ---- writes

@@ -23,6 +23,7 @@ use Rattle.gx_rev.specs.declared.fault.RevFault.TheVariants.{OutOfMemory}
 use Rattle.gx_export.specs.Compared.{gone_items, gone_text}
 use Rattle.gx_export.specs.Marks.{Adds, HasWritten}
 use Rattle.gx_export.specs.Outputs.{Delivers}
+use Rattle.gx_export.specs.Sayable.{WhereSayable}
 use Rattle.gx_export.specs.Texts.{file_items, head_items, items_of, parents_by}
 use Rattle.gx_export.specs.declared.changes.Changes.{Changes}
 use Rattle.gx_export.specs.declared.fault.ExportFault.{ExportFault}
@@ -76,19 +77,24 @@ module _ (name : Kind → Bytes → Bytes) where
   sending_rest closed sent refs ws = items_of (carrier_reset refs sent) ++ (items_of (map (ref_by (named_in name ws)) refs) ++ closing closed)
 
   -- The text of these commits and of these refs goes out.
-  abbrev pub SendsText : Bool → List Commit → List (Bytes × Target) → Option Taken → Option Taken → Result (Unit {0}) ExportFault → Type 0
-  SendsText closed sent refs was now result =
+  abbrev pub DeliversText : Bool → List Commit → List (Bytes × Target) → Option Taken → Option Taken → Result (Unit {0}) ExportFault → Type 0
+  DeliversText closed sent refs was now result =
       Delivers (items_text (sending_front closed sent refs)) (items_text (items_of (closed_by closed (sending_commands name sent refs)))) was now result
 
-  -- The text of the changes of a repository goes out: all of it, or a front of it where the export stops.
+  -- The same where a stream can say these commits, and nothing where it can't.
+  abbrev pub SendsText : Bool → List Commit → List (Bytes × Target) → Option Taken → Option Taken → Result (Unit {0}) ExportFault → Type 0
+  SendsText closed sent refs was now result = WhereSayable sent (DeliversText closed sent refs) was now result
+
+  -- The text of the changes of a repository goes out, where a stream can say it: all of it, or a front of it where the export stops.
   abbrev pub ExportsChanges : Bool → Records → Option Taken → Option Taken → Result (Unit {0}) ExportFault → Type 0
   ExportsChanges closed repository was now result =
       let h = history_of repository in
-      Delivers (items_text (sending_front closed (reached_commits h) h.refs)) (changes_text name closed h) was now result
+      WhereSayable (reached_commits h) (Delivers (items_text (sending_front closed (reached_commits h) h.refs)) (changes_text name closed h)) was now result
 
   -- the same of the text of what range words give
   abbrev pub DeliversRange : Bool → History → List Word → Option Taken → Option Taken → Result (Unit {0}) ExportFault → Type 0
-  DeliversRange closed h words was now result = Delivers (items_text (sending_front closed (reverse (listing h words)) (set_refs h words))) (range_text name closed h words) was now result
+  DeliversRange closed h words was now result =
+      WhereSayable (reverse (listing h words)) (Delivers (items_text (sending_front closed (reverse (listing h words)) (set_refs h words))) (range_text name closed h words)) was now result
 
   -- the words have a meaning, whose text it is
   abbrev pub DeliversWords : Bool → History → List RangeWord → Option Taken → Option Taken → Result (Unit {0}) ExportFault → Type 0

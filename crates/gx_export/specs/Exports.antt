@@ -11,9 +11,10 @@ use Rattle.gx_model.specs.Records.HistoryOf.{history_of}
 use Rattle.gx_model.specs.Texts.{Bytes}
 use Rattle.gx_model.specs.Texts.Sinks.{Taken, Took, TookFront}
 use Rattle.gx_export.specs.Outputs.{StopsAt, most}
+use Rattle.gx_export.specs.Sayable.{WhereSayable}
 use Rattle.gx_export.specs.Texts.{items_of, last_items}
 use Rattle.gx_export.specs.declared.fault.ExportFault.{ExportFault}
-use Rattle.gx_export.specs.declared.fault.ExportFault.TheVariants.{OutOfMemory, WriteFailed}
+use Rattle.gx_export.specs.declared.fault.ExportFault.TheVariants.{OutOfMemory, Unsupported, WriteFailed}
 
 -- an export's items up to its last commit
 abbrev pub front_items : History → List Item
@@ -29,7 +30,12 @@ commits_text h = items_text (front_items h)
 
 -- The sink took the text of the repository's history, and its length is at most 2^63 - 1; or memory ran out among the
 -- commits; or the sink didn't take all of the text.
+abbrev pub SendsExport : Records → Option Taken → Option Taken → Result (Unit {0}) ExportFault → Type 0
+SendsExport repository was now (Ok _) = Took was now (export_text (history_of repository)) × (length (export_text (history_of repository)) ≤ most)
+SendsExport repository was now (Err OutOfMemory) = TookFront was now (commits_text (history_of repository))
+SendsExport repository was now (Err (WriteFailed count)) = StopsAt 0 count was now (export_text (history_of repository))
+SendsExport repository was now (Err Unsupported) = ⊥
+
+-- The same where a stream can say what refs reach, and nothing where it can't.
 abbrev pub Exports : Records → Option Taken → Option Taken → Result (Unit {0}) ExportFault → Type 0
-Exports repository was now (Ok _) = Took was now (export_text (history_of repository)) × (length (export_text (history_of repository)) ≤ most)
-Exports repository was now (Err OutOfMemory) = TookFront was now (commits_text (history_of repository))
-Exports repository was now (Err (WriteFailed count)) = StopsAt 0 count was now (export_text (history_of repository))
+Exports repository was now result = WhereSayable (reached_commits (history_of repository)) (SendsExport repository) was now result

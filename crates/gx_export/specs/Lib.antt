@@ -10,3 +10,4 @@ pub mod Outputs
 pub mod Pairs
 pub mod Parts
 pub mod Texts
+pub mod Sayable

@@ -3,7 +3,7 @@ use Rattle.std.specs.Prelude.{◌≡◌, ◌⊎◌, ℕ, ◌+◌, ◌-◌, ◌^�
 use Rattle.gx_model.specs.Texts.{Bytes}
 use Rattle.gx_model.specs.Texts.Sinks.{Taken, Took, TookFront}
 use Rattle.gx_export.specs.declared.fault.ExportFault.{ExportFault}
-use Rattle.gx_export.specs.declared.fault.ExportFault.TheVariants.{OutOfMemory, WriteFailed}
+use Rattle.gx_export.specs.declared.fault.ExportFault.TheVariants.{OutOfMemory, Unsupported, WriteFailed}
 
 -- the most bytes that a text has
 abbrev pub most : ℕ
@@ -32,6 +32,7 @@ StopsAt before count was now text =
 abbrev pub Stops : Sent → Sent → Bytes → ExportFault → Type 0
 Stops old new text OutOfMemory = TookFront old.taken new.taken text
 Stops old new text (WriteFailed count) = StopsAt old.bytes count old.taken new.taken text
+Stops old new text Unsupported = ⊥
 
 -- a text goes out behind so many bytes, and is then counted with them; or the export stops within it
 abbrev pub Goes : Sent → Sent → Bytes → Result (Unit {0}) ExportFault → Type 0
@@ -49,3 +50,4 @@ abbrev pub Delivers : Bytes → Bytes → Option Taken → Option Taken → Resu
 Delivers front text was now (Ok _) = Took was now text × (length text ≤ most)
 Delivers front text was now (Err OutOfMemory) = TookFront was now front
 Delivers front text was now (Err (WriteFailed count)) = StopsAt 0 count was now text
+Delivers front text was now (Err Unsupported) = ⊥

@@ -5,7 +5,7 @@ ghost use Rattle.gx_model.specs.Export.{all_written, commit_commands, items_text
 ghost use Rattle.gx_model.specs.Faults.{NeedsNoMemory};
 ghost use Rattle.gx_model.specs.Histories.Values.{Value};
 ghost use Rattle.gx_model.specs.Records.HistoryOf.{history_of};
-ghost use Rattle.gx_export.specs.Exports.{Exports, front_items, rest_items};
+ghost use Rattle.gx_export.specs.Exports.{Exports, SendsExport, front_items, rest_items};
 ghost use Rattle.gx_export.specs.Marks.{Adds, HasWritten};
 ghost use Rattle.gx_export.specs.Outputs.{Writes};
 ghost use Rattle.gx_export.specs.Parts.{AddsItems, IsToBegin};
@@ -17,6 +17,7 @@ use crate::commit::write_commit;
 use crate::lines::Lines;
 use crate::output::Output;
 use crate::refs::write_refs;
+use crate::sayable::check_sayable;
 use crate::written::Written;
 use gx_object::Namer;
 use gx_repo::Repo;
@@ -27,6 +28,8 @@ use std::alloc::Allocator;
 /// Writes a repository as a stream, as it is made: the commits that refs reach in the order of their records, each with
 /// all of its files and after those of their bytes that weren't written yet, and then the refs.
 ///
+/// Unsupported where a commit that refs reach has a header but that of an encoding, as a signature, which no stream can say:
+/// nothing goes to the sink.
 /// WriteFailed where the sink fails, or has taken 2^63 - 1 bytes of a longer text. What went to the sink stays there, and
 /// is a front of the text. So a text that went out whole is no longer than what an import reads.
 ///
@@ -43,6 +46,7 @@ pub fn export<N: Namer, A: Allocator + Copy, W: Sink>(
     ensures { Exports repo.now.1 (W.taken sink.old) (W.taken sink.new) result }
 {
     let reached = reached_from_refs(alloc, repo)?;
+    check_sayable(repo, &reached)?;
     let marks = vec![in alloc; 0; repo.store().len()]?;
     let mut written = Written::new(sink, marks);
     let result = write_text(alloc, repo, &mut written, &reached);
@@ -60,7 +64,7 @@ fn write_text<N: Namer, A: Allocator + Copy, W: Sink>(
     requires begins { IsToBegin repo.now.1 reached.now written.old }
     requires bytes { written.old.output.bytes ≡ 0 }
     ensures name { written.new.output.name ≡ written.old.output.name }
-    ensures text { Exports repo.now.1 written.old.output.taken written.new.output.taken result }
+    ensures text { SendsExport repo.now.1 written.old.output.taken written.new.output.taken result }
 {
     write_front(alloc, repo, written, reached)?;
     write_rest(repo, written)

@@ -16,7 +16,7 @@ ghost use Rattle.gx_rev.specs.Objects.{value_at};
 ghost use Rattle.gx_rev.specs.Views.{shown_range};
 ghost use Rattle.gx_rev.specs.Walking.{AreWithout};
 ghost use Rattle.gx_export.specs.Branches.{AreTargets, FindsBranches, picked, refs_of, shown_tips, targets};
-ghost use Rattle.gx_export.specs.ChangedParts.{AreCommitMarks, AreEither, ExportsChanges, ExportsRange, RefusalsComeFirst, SendsText, closing, opening, sending_front, sending_rest};
+ghost use Rattle.gx_export.specs.ChangedParts.{AreCommitMarks, AreEither, DeliversText, ExportsChanges, ExportsRange, RefusalsComeFirst, SendsText, closing, opening, sending_front, sending_rest};
 ghost use Rattle.gx_export.specs.Marks.{Adds, HasWritten};
 ghost use Rattle.gx_export.specs.Outputs.{Writes};
 ghost use Rattle.gx_export.specs.Parts.{AddsItems};
@@ -28,6 +28,7 @@ use crate::changes::Changes;
 use crate::commands::{write_reset, write_reset_to, write_tag};
 use crate::naming::commit_ish;
 use crate::output::Output;
+use crate::sayable::check_sayable;
 use crate::written::Written;
 use crate::{ExportFault, RangeFault};
 use gx_object::{Name, Namer};
@@ -41,6 +42,8 @@ use std::alloc::Allocator;
 /// first ref that does. A stream that isn't `closed` has neither `feature done` nor `done`, for readers that don't know
 /// them.
 ///
+/// Unsupported where a commit that is to go out has a header but that of an encoding, as a signature, which no stream can
+/// say: nothing goes to the sink.
 /// WriteFailed where the sink fails, or has taken 2^63 - 1 bytes of a longer text. What went to the sink stays there, and
 /// is a front of the text.
 ///
@@ -126,6 +129,7 @@ fn write_sent<N: Namer, A: Allocator + Copy, W: Sink>(
         ref. wanted (peeled_at ref.1)) (history_of repo.now.1).refs) (W.taken sink.old) (W.taken
         sink.new) result }
 {
+    check_sayable(repo, sent)?;
     let branches = Branches::new(alloc, repo, sent, set)?;
     let marks = vec![in alloc; 0; repo.store().len()]?;
     let mut written = Written::new(sink, marks);
@@ -149,7 +153,7 @@ fn write_text<N: Namer, A: Allocator + Copy, W: Sink>(
     requires bytes { written.old.output.bytes ≡ 0 }
     ensures name { written.new.output.name ≡ written.old.output.name }
     ensures text { (test : Commit → Bool) → sent.now ≡ marks_of test (values_of repo.now.1)
-        → SendsText (N.name_of repo.now.0) closed (picked test (values_of repo.now.1))
+        → DeliversText (N.name_of repo.now.0) closed (picked test (values_of repo.now.1))
         (refs_of repo.now.1 branches.now) written.old.output.taken written.new.output.taken result }
 {
     write_front(alloc, repo, written, branches, sent, closed)?;

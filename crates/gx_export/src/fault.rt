@@ -16,6 +16,8 @@ pub enum ExportFault {
     OutOfMemory,
     /// The sink took so many bytes and failed, or the text has more than 2^63 - 1, which were written.
     WriteFailed { written: u64 },
+    /// A commit that is to go out has a header that no stream can say, and nothing was written.
+    Unsupported,
 }
 
 impl ExportFault {
@@ -28,6 +30,7 @@ impl ExportFault {
         match self {
             ExportFault::OutOfMemory => "OutOfMemory",
             ExportFault::WriteFailed { .. } => "WriteFailed",
+            ExportFault::Unsupported => "Unsupported",
         }
     }
 }

@@ -17,6 +17,7 @@ mod naming;
 mod output;
 mod pairs;
 mod refs;
+mod sayable;
 mod trees;
 mod written;
 

@@ -4,6 +4,7 @@ pub mod Decimals
 pub mod Idents
 pub mod LineTexts
 pub mod HeaderTexts
+pub mod AloneHeaders
 pub mod PathTexts
 pub mod Quotes
 pub mod SentTexts

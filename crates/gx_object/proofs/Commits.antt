@@ -1,20 +1,21 @@
 -- A decoded commit's body is the text of its parts, and the text of parts is decoded as them.
-use Rattle.std.proofs.Common.{◌≡◌, Bool, true, false, cond, [], ◌∷◌, ◌++◌, drop, length, Option, Some, None, Result, Ok, Err, refl, sym, ap, subst, ◌∙◌, arith, append_assoc}
+use Rattle.std.proofs.Common.{◌≡◌, ℕ, Bool, true, false, cond, append-nil, length-append, [], ◌∷◌, ◌++◌, drop, length, Option, Some, None, Result, Ok, Err, refl, sym, ap, subst, ◌∙◌, arith, append_assoc}
 use Rattle.std.specs.Prelude.{codes, nat_eq, IfOk, IsOkAnd, ◌&&◌}
 use Rattle.std.specs.List.{starts_with}
 use Rattle.std.specs.Option.{unwrap_or}
+use Rattle.std.specs.Cmp.Lexicographic.{bytes_decides}
 use Rattle.std.specs.Result.{result_ok}
 use Rattle.std.proofs.lemmas.Bool.{and_from, and_parts, false≢true, ne_eqb}
 use Rattle.std.proofs.lemmas.Bool.Decides.{Decides-eqb}
 use Rattle.std.proofs.lemmas.Slice.Eq.{starts_is}
-use Rattle.gx_model.specs.Texts.{Bytes, cut_at, parts_at}
-use Rattle.gx_model.specs.Texts.Headers.{encoding_in, unless_empty}
+use Rattle.gx_model.specs.Texts.{Bytes, cut_at, parts_at, same_bytes}
+use Rattle.gx_model.specs.Texts.Headers.{encoding_header, encoding_in, is_encoding_alone, unless_empty}
 use Rattle.gx_model.specs.Texts.Idents.{is_ident}
 use Rattle.gx_model.specs.Histories.Values.{CommitText}
 use Rattle.gx_model.specs.Objects.{CommitParts, IsCommitText, commit_text, hex, line, optional_line, text_lines}
 use Rattle.gx_wide.specs.WideTexts.{message_text, tail_of}
 use Rattle.gx_object.specs.Lines.{◌>>=◌, field, ident_field, name_field, stripped}
-use Rattle.gx_object.specs.Commits.{commit_parts_of, encoding_field, parent_lines, parents_of}
+use Rattle.gx_object.specs.Commits.{commit_parts_of, encoding_field, is_line_alone, parent_lines, parents_of}
 use Rattle.gx_object.proofs.Fields.{bind_some, field_front, field_spelled, ident_spelled, ident_again, line_flat, name_spelled, name_field_again}
 use Rattle.gx_object.proofs.Parents.{parents_spelled, parents_again}
 use Rattle.gx_object.proofs.Tails.{tail_again, tail_spelled}
@@ -54,6 +55,40 @@ encoding_is headers = by (starts_with nat_eq headers (codes "encoding ")) refl
         let starts = starts_is Decides-eqb headers (codes "encoding ") (starts_with nat_eq headers (codes "encoding ")) refl in
         ap encoding_field (starts.0 e) ∙ encoding_front (drop 9 headers)
     by false e = encoding_none headers (field (codes "encoding") headers) e refl
+
+-- what is read at the front tells whether headers are that of an encoding alone
+pub alone_is : (headers : Bytes) → is_line_alone (field (codes "encoding") headers) headers ≡ is_encoding_alone headers
+alone_is headers = by (field (codes "encoding") headers) refl
+  where
+    told : (o : Option (Bytes × Bytes)) → field (codes "encoding") headers ≡ o → encoding_in headers ≡ (o >>= λ a. cond (nat_eq (length a.0) 0) None (Some a.0))
+    unfolding encoding_field
+    told o e = sym (encoding_is headers) ∙ rw e refl
+
+    nothing : (h : Bytes) → nat_eq (length h) 0 ≡ same_bytes h []
+    nothing [] = refl
+    nothing (b ∷ h) = ne_eqb (length (b ∷ h)) 0 (λ e. omega arith)
+
+    other : (b : ℕ) (x r : Bytes) (c : ℕ) → headers ≡ line (codes "encoding") (b ∷ x) ++ (c ∷ r) → (t : Bool) → same_bytes headers (encoding_header (Some (b ∷ x))) ≡ t → false ≡ t
+    other b x r c h true e =
+        let same = (bytes_decides headers (encoding_header (Some (b ∷ x)))).0 e in
+        let long = ap length (sym same ∙ h) in
+        absurd (omega (arith, long, length-append (line (codes "encoding") (b ∷ x)) (c ∷ r)))
+    other b x r c h false e = refl
+
+    behind : (b : ℕ) (x r : Bytes) → headers ≡ line (codes "encoding") (b ∷ x) ++ r → nat_eq (length r) 0 ≡ same_bytes headers (encoding_header (Some (b ∷ x)))
+    behind b x [] h = sym ((bytes_decides headers (encoding_header (Some (b ∷ x)))).1 (h ∙ append-nil (line (codes "encoding") (b ∷ x))))
+    behind b x (c ∷ r) h = ne_eqb (length (c ∷ r)) 0 (λ e. omega arith) ∙ other b x r c h (same_bytes headers (encoding_header (Some (b ∷ x)))) refl
+
+    by : (o : Option (Bytes × Bytes)) → field (codes "encoding") headers ≡ o → is_line_alone o headers ≡ is_encoding_alone headers
+    by None e = nothing headers ∙ ap (λ t. same_bytes headers (encoding_header t)) (sym (told None e))
+    by (Some ([], r)) e =
+        let l = field_spelled (codes "encoding") headers ([], r) e in
+        sym (ap (λ t. same_bytes headers (encoding_header t)) (told (Some ([], r)) e) ∙ ap (λ h. same_bytes h []) l.parts)
+    by (Some ((b ∷ x), r)) e =
+        let l = field_spelled (codes "encoding") headers ((b ∷ x), r) e in
+        let some = ne_eqb (length (b ∷ x)) 0 (λ q. omega arith) in
+        let is : encoding_in headers ≡ Some (b ∷ x) = told (Some ((b ∷ x), r)) e ∙ rw some refl in
+        rw some (behind b x r l.parts) ∙ ap (λ t. same_bytes headers (encoding_header t)) (sym is)
 
 -- ---- the whole body
 

@@ -1,5 +1,5 @@
 -- The body of a commit, read from the left.
-use Rattle.std.specs.Prelude.{◌≡◌, ℕ, zero, suc, nat_eq, if◌then◌else◌, List, [], ◌∷◌, map, length, slice_get, codes, Option, None, Some, IsTrue}
+use Rattle.std.specs.Prelude.{◌≡◌, ℕ, zero, suc, Bool, not, ◌&&◌, nat_eq, if◌then◌else◌, List, [], ◌∷◌, map, length, slice_get, codes, Option, None, Some, IsTrue}
 use Rattle.std.specs.List.{flat_map, list_all}
 use Rattle.std.specs.Option.{option_map}
 use Rattle.gx_model.specs.Texts.{Bytes}
@@ -45,6 +45,11 @@ unfoldable pub encoding_field : Bytes → Option Bytes
 encoding_field headers = do
   a ← field (codes "encoding") headers
   if nat_eq (length a.0) 0 then None else Some a.0
+
+-- whether a line that isn't empty is all that is read at the front of headers, or there are none
+abbrev pub is_line_alone : Option (Bytes × Bytes) → Bytes → Bool
+is_line_alone None headers = nat_eq (length headers) 0
+is_line_alone (Some a) headers = not (nat_eq (length a.0) 0) && nat_eq (length a.1) 0
 
 unfoldable pub commit_parts_of : Bytes → Option CommitParts
 commit_parts_of body = do

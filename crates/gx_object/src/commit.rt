@@ -1,12 +1,13 @@
 //! The bodies of commits. Source: Pro Git, "Git Objects", and gitglossary(7), "commit object".
 
-ghost use Rattle.std.specs.Prelude.{◌≡◌, length, slice_get, IsTrue, IfOk, OnOk};
+ghost use Rattle.std.specs.Prelude.{◌≡◌, codes, length, slice_get, IsTrue, IfOk, OnOk};
 ghost use Rattle.std.specs.List.{list_all};
 ghost use Rattle.std.specs.Option.{option_map};
 ghost use Rattle.gx_model.specs.Objects.{IsCommitText, is_name};
-ghost use Rattle.gx_model.specs.Texts.Headers.{encoding_in, is_headers};
+ghost use Rattle.gx_model.specs.Texts.Headers.{encoding_in, is_encoding_alone, is_headers};
 ghost use Rattle.gx_text.specs.Buffers.{GrowsBy};
-ghost use Rattle.gx_object.specs.Commits.{FindsParent, bytes_of_names, commit_parts_of, encoding_field, parent_lines, parents_of};
+ghost use Rattle.gx_object.specs.Commits.{FindsParent, bytes_of_names, commit_parts_of, encoding_field, is_line_alone, parent_lines, parents_of};
+ghost use Rattle.gx_object.specs.Lines.{field};
 ghost use Rattle.gx_object.specs.Parts.{FindsEach, commit_parts};
 
 use crate::line::{append_line, append_optional_line, cut_ident, cut_line, cut_name};
@@ -66,7 +67,8 @@ pub(crate) fn append_parents<A: Allocator + Copy>(
 /// The length of a parent's line: a word, a space, 40 digits and a line feed.
 pub(crate) const PARENT_LINE: usize = 48;
 
-/// A commit's body, seen as its parts. Its readers take no memory, and each costs the same for every body, but for `encoding`.
+/// A commit's body, seen as its parts. Its readers take no memory, and each costs the same for every body, but for
+/// `encoding` and what rests on it.
 #[derive(Drop)]
 pub struct CommitView<'a> {
     tree: Name,
@@ -140,6 +142,13 @@ impl<'a> CommitView<'a> {
         cut_encoding(self.headers)
     }
 
+    /// Whether its headers are the line of an encoding, or none: a stream can say no other. Cost: that of `encoding`.
+    pub fn has_encoding_alone(&self) -> bool
+        ensures { result ≡ is_encoding_alone self.now.text.headers }
+    {
+        is_alone(self.headers)
+    }
+
     /// The message.
     pub fn message(&self) -> &'a [u8]
         ensures { result.now ≡ self.now.text.message }
@@ -201,6 +210,16 @@ fn cut_encoding(headers: &[u8]) -> Option<&[u8]>
         None
     } else {
         Some(encoding)
+    }
+}
+
+/// Whether headers are a line of an encoding, or none.
+fn is_alone(headers: &[u8]) -> bool
+    ensures { result ≡ is_line_alone (field (codes "encoding") headers.now) headers.now }
+{
+    match cut_line(headers, b"encoding") {
+        Some((encoding, rest)) => !encoding.is_empty() && rest.is_empty(),
+        None => headers.is_empty(),
     }
 }
 

@@ -2,7 +2,7 @@
 -- Source: gitformat-signature(5), on `gpgsig` and `mergetag`, and git-commit(1), "Discussion", on `encoding`.
 use Rattle.std.specs.Prelude.{Bool, true, not, ◌&&◌, ◌==◌, nat_eq, if◌then◌else◌, List, [], ◌∷◌, ◌++◌, drop, codes, Option, None, Some}
 use Rattle.std.specs.List.{starts_with}
-use Rattle.gx_model.specs.Texts.{Bytes, parts_at}
+use Rattle.gx_model.specs.Texts.{Bytes, parts_at, same_bytes}
 
 -- lines that aren't empty, each with its LF; or what is left of them behind the first byte of one
 abbrev pub are_lines : Bool → Bytes → Bool
@@ -38,3 +38,7 @@ unless_empty (b ∷ bs) = Some (b ∷ bs)
 -- the encoding that the first header tells: one behind another header, or an empty one, tells none
 abbrev pub encoding_in : Bytes → Option Bytes
 encoding_in headers = if starts_with nat_eq headers (codes "encoding ") then unless_empty (parts_at 10 (drop 9 headers)).0 else None
+
+-- whether these are the header of an encoding, or none: a stream can say no other
+abbrev pub is_encoding_alone : Bytes → Bool
+is_encoding_alone headers = same_bytes headers (encoding_header (encoding_in headers))

@@ -23,7 +23,7 @@ use Rattle.gx_changes.specs.Faults.{of_send}
 use Rattle.gx_changes.specs.Sending.{FindsSent, IsFoundIn, IsSent, SendsFront, SendsRange}
 use Rattle.gx_changes.specs.Texts.{DeliversAll, commits_sent}
 use Rattle.gx_changes.specs.declared.fault.ChangesFault.{ChangesFault}
-use Rattle.gx_changes.specs.declared.fault.ChangesFault.TheVariants.{OutOfMemory, ReadFailed, Damaged, WriteFailed, Word as Refused}
+use Rattle.gx_changes.specs.declared.fault.ChangesFault.TheVariants.{OutOfMemory, ReadFailed, Damaged, Unsupported, WriteFailed, Word as Refused}
 use Rattle.gx_changes.specs.declared.finding.Sent.{Sent}
 
 -- ---- finding
@@ -73,6 +73,7 @@ module _ (name : Kind → Bytes → Bytes) (closed : Bool) (asked : List RangeWo
   not_found A stands (Some r) ReadFailed was h = none_out r was
   not_found A stands (Some r) Damaged was h = absurd (cc h)
   not_found A stands (Some r) (WriteFailed n) was h = absurd h
+  not_found A stands (Some r) Unsupported was h = absurd h
   not_found A stands (Some r) (Refused number kind) was h = (refl, h)
 
   module _ {A : Type 0} (stands : ℕ → ℕ) (sent : Sent A) (was now : Option Taken) where
@@ -101,3 +102,4 @@ module _ (name : Kind → Bytes → Bytes) (closed : Bool) (asked : List RangeWo
     sent_stops (Some r) send.ReadFailed h w k = front_out r h.0 h.1 (of_words r h.0 (Err send.ReadFailed) h.2 k)
     sent_stops (Some r) send.Damaged h w k = absurd (cc w)
     sent_stops (Some r) (send.WriteFailed n) h w k = (h.0, h.1, of_words r h.0 (Err (send.WriteFailed n)) h.2 k)
+    sent_stops (Some r) send.Unsupported h w k = (h.0, h.1, of_words r h.0 (Err send.Unsupported) h.2 k)

@@ -25,7 +25,7 @@ use Rattle.gx_export.specs.ChangedParts.{closing, one_on, opening}
 use Rattle.gx_export.specs.Outputs.{Delivers, Sent, StopsAt, Writes, most}
 use Rattle.gx_export.specs.Texts.{command_text, items_of}
 use Rattle.gx_export.specs.declared.fault.ExportFault.{ExportFault}
-use Rattle.gx_export.specs.declared.fault.ExportFault.TheVariants.{OutOfMemory, WriteFailed}
+use Rattle.gx_export.specs.declared.fault.ExportFault.TheVariants.{OutOfMemory, Unsupported, WriteFailed}
 use Rattle.gx_export.proofs.CommitLines.{passes_at}
 use Rattle.gx_export.proofs.Writing.{nothing_yet, writes_none}
 use Rattle.gx_export.proofs.ChangedLists.{changed_first, changed_items, changed_last, changed_parted, changes_append, one_items}
@@ -73,6 +73,7 @@ module _ (name : Kind → Bytes → Bytes) (closed : Bool) (sent : List Commit) 
       let count = h.1.0 in
       (h.1.2, omega (arith, z, fits, count))
   delivered text old new (Err OutOfMemory) z h = h.1
+  delivered text old new (Err Unsupported) z h = absurd h.1
   delivered text old new (Err (WriteFailed count)) z h = subst (λ n. StopsAt n count old.taken new.taken text) z h.1
 
   -- what goes out from the start is the text

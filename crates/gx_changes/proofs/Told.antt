@@ -10,7 +10,7 @@ use Rattle.gx_questions.specs.declared.fault.AskFault.TheVariants as ask
 use Rattle.gx_sending.specs.Faults.{IsOnTheWay, of_ask}
 use Rattle.gx_sending.specs.Marks.{Adds, HasWritten, IsWritten}
 use Rattle.gx_sending.specs.declared.fault.SendFault.{SendFault}
-use Rattle.gx_sending.specs.declared.fault.SendFault.TheVariants.{OutOfMemory, ReadFailed, Damaged, WriteFailed}
+use Rattle.gx_sending.specs.declared.fault.SendFault.TheVariants.{OutOfMemory, ReadFailed, Damaged, Unsupported, WriteFailed}
 use Rattle.gx_sending.specs.declared.written.Written.{Written}
 use Rattle.gx_sending.proofs.Sending.{stops_here}
 
@@ -31,6 +31,7 @@ pub on_the_way : {W A : Type 0} (told : Option Records) (e : SendFault) (us : Re
 on_the_way told OutOfMemory us items old new w h = tt
 on_the_way told ReadFailed us items old new w h = tt
 on_the_way told (WriteFailed n) us items old new w h = tt
+on_the_way told Unsupported us items old new w h = tt
 on_the_way None Damaged us items old new w h = refl
 on_the_way (Some r) Damaged us items old new w h = absurd ((h w.0 w.1).told refl)
 

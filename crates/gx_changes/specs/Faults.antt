@@ -7,7 +7,7 @@ use Rattle.gx_questions.specs.declared.fault.AskFault.TheVariants as ask
 use Rattle.gx_sending.specs.declared.fault.SendFault.{SendFault}
 use Rattle.gx_sending.specs.declared.fault.SendFault.TheVariants as send
 use Rattle.gx_changes.specs.declared.fault.ChangesFault.{ChangesFault}
-use Rattle.gx_changes.specs.declared.fault.ChangesFault.TheVariants.{OutOfMemory, ReadFailed, Damaged, WriteFailed, Word}
+use Rattle.gx_changes.specs.declared.fault.ChangesFault.TheVariants.{OutOfMemory, ReadFailed, Damaged, Unsupported, WriteFailed, Word}
 
 abbrev pub of_look : LookFault → ChangesFault
 of_look look.OutOfMemory = OutOfMemory
@@ -19,6 +19,7 @@ of_send send.OutOfMemory = OutOfMemory
 of_send send.ReadFailed = ReadFailed
 of_send send.Damaged = Damaged
 of_send (send.WriteFailed written) = WriteFailed written
+of_send send.Unsupported = Unsupported
 
 -- the range word with this number is refused, or none is
 abbrev pub of_range : ℕ → AskFault → ChangesFault

@@ -16,7 +16,7 @@ use Rattle.gx_tips.specs.Tips.{AreTips, targets}
 use Rattle.gx_tips.specs.declared.spans.Spans.{Spans}
 use Rattle.gx_changes.specs.Texts.{commits_sent}
 use Rattle.gx_changes.specs.declared.fault.ChangesFault.{ChangesFault}
-use Rattle.gx_changes.specs.declared.fault.ChangesFault.TheVariants.{OutOfMemory, ReadFailed, Damaged, WriteFailed, Word as Refused}
+use Rattle.gx_changes.specs.declared.fault.ChangesFault.TheVariants.{OutOfMemory, ReadFailed, Damaged, Unsupported, WriteFailed, Word as Refused}
 use Rattle.gx_changes.specs.declared.finding.Sent.{Sent}
 
 -- ---- what is sent
@@ -39,6 +39,7 @@ FindsSent name stands told asked (Err OutOfMemory) = ⊤
 FindsSent name stands told asked (Err ReadFailed) = ⊤
 FindsSent name stands told asked (Err Damaged) = told ≡ None
 FindsSent name stands told asked (Err (WriteFailed written)) = ⊥
+FindsSent name stands told asked (Err Unsupported) = ⊥
 FindsSent name stands told asked (Err (Refused number kind)) =
     IfSome told (λ r. words_denoted name (history_of r) asked ≡ Err (record { word = number; fault = fault_of kind }))
 
@@ -55,6 +56,7 @@ module _ (name : Kind → Bytes → Bytes) (closed : Bool) (h : History) (asked 
   abbrev pub Sends : Option Taken → Option Taken → Result (Unit {0}) ChangesFault → Type 0
   Sends was now (Ok _) = DeliversWords name closed h asked was now (Ok tt)
   Sends was now (Err (WriteFailed count)) = DeliversWords name closed h asked was now (Err (export.WriteFailed count))
+  Sends was now (Err Unsupported) = DeliversWords name closed h asked was now (Err export.Unsupported)
   Sends was now (Err OutOfMemory) = SendsFront was now
   Sends was now (Err ReadFailed) = SendsFront was now
   Sends was now (Err Damaged) = ⊥

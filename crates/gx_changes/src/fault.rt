@@ -20,6 +20,8 @@ pub enum ChangesFault {
     Damaged,
     /// The sink took so many bytes and failed, or the text has more than 2^63 - 1, which were written.
     WriteFailed { written: u64 },
+    /// A commit that is to go out has a header that no stream can say, and nothing went out.
+    Unsupported,
     /// The range word with this number, from 1, is refused, and nothing went out.
     Word { number: usize, kind: RevFault },
 }
@@ -33,6 +35,7 @@ impl From<SendFault> for ChangesFault {
             SendFault::ReadFailed => ChangesFault::ReadFailed,
             SendFault::Damaged => ChangesFault::Damaged,
             SendFault::WriteFailed { written } => ChangesFault::WriteFailed { written },
+            SendFault::Unsupported => ChangesFault::Unsupported,
         }
     }
 }

@@ -35,10 +35,12 @@ module _ {X : Type 0} (xs : List X) (i : ℕ) (x : X) (l : i < length xs) (e : x
 pub sink_told : (e : ExportFault) → of_export e ≢ Damaged
 sink_told export.OutOfMemory q = cc q
 sink_told (export.WriteFailed n) q = cc q
+sink_told export.Unsupported q = cc q
 
 pub sink_stops : (e : ExportFault) → stop (of_export e) ≡ e
 sink_stops export.OutOfMemory = refl
 sink_stops (export.WriteFailed n) = refl
+sink_stops export.Unsupported = refl
 
 module _ {W A : Type 0} (r : Records) where
   -- nothing goes out

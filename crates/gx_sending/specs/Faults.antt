@@ -8,11 +8,12 @@ use Rattle.gx_objects.specs.declared.fault.LookFault.TheVariants as look
 use Rattle.gx_questions.specs.declared.fault.AskFault.{AskFault}
 use Rattle.gx_questions.specs.declared.fault.AskFault.TheVariants as ask
 use Rattle.gx_sending.specs.declared.fault.SendFault.{SendFault}
-use Rattle.gx_sending.specs.declared.fault.SendFault.TheVariants.{OutOfMemory, ReadFailed, Damaged, WriteFailed}
+use Rattle.gx_sending.specs.declared.fault.SendFault.TheVariants.{OutOfMemory, ReadFailed, Damaged, Unsupported, WriteFailed}
 
 abbrev pub of_export : ExportFault → SendFault
 of_export export.OutOfMemory = OutOfMemory
 of_export (export.WriteFailed written) = WriteFailed written
+of_export export.Unsupported = Unsupported
 
 abbrev pub of_look : LookFault → SendFault
 of_look look.OutOfMemory = OutOfMemory
@@ -32,11 +33,13 @@ IsOnTheWay told (Ok x) = ⊤
 IsOnTheWay told (Err OutOfMemory) = ⊤
 IsOnTheWay told (Err ReadFailed) = ⊤
 IsOnTheWay told (Err (WriteFailed written)) = ⊤
+IsOnTheWay told (Err Unsupported) = ⊤
 IsOnTheWay told (Err Damaged) = told ≡ None
 
 -- How a stop leaves the sink: a read that fails stops a text as want of memory does.
 abbrev pub stop : SendFault → ExportFault
 stop (WriteFailed written) = export.WriteFailed written
+stop Unsupported = export.Unsupported
 stop _ = export.OutOfMemory
 
 abbrev pub stopped : Result (Unit {0}) SendFault → Result (Unit {0}) ExportFault

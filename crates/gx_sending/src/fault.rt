@@ -20,6 +20,8 @@ pub enum SendFault {
     Damaged,
     /// The sink took so many bytes and failed, or the text has more than 2^63 - 1, which were written.
     WriteFailed { written: u64 },
+    /// A commit that is to go out has a header that no stream can say, and nothing went out.
+    Unsupported,
 }
 
 impl From<AllocError> for SendFault {
@@ -45,6 +47,7 @@ impl From<ExportFault> for SendFault {
         match fault {
             ExportFault::OutOfMemory => SendFault::OutOfMemory,
             ExportFault::WriteFailed { written } => SendFault::WriteFailed { written },
+            ExportFault::Unsupported => SendFault::Unsupported,
         }
     }
 }

@@ -1,6 +1,6 @@
 -- The items of an export, whatever gitlinks its commits have.
 use Rattle.std.proofs.Common.{◌≡◌, suc, ◌<◌, ◌^◌, true, Some, List, [], ◌∷◌, ◌++◌, length, map, codes, refl, sym, subst, arith, inl, inr}
-use Rattle.std.specs.Prelude.{T, ◌&&◌}
+use Rattle.std.specs.Prelude.{T}
 use Rattle.std.specs.Bool.{passes}
 use Rattle.std.specs.List.{AllByRecursion, flat_map, fold}
 use Rattle.std.proofs.lemmas.Grind.{flat_map-append}

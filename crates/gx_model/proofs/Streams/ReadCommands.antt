@@ -4,20 +4,17 @@ use Rattle.std.specs.Prelude.{IfOk, IfSome, IsTrue, ◌||◌, ◌==◌, nat_le, 
 use Rattle.std.specs.List.{AllByRecursion, list_all}
 use Rattle.std.specs.Str.{bytes_eq}
 use Rattle.std.specs.Bool.{passes}
-use Rattle.gx_model.specs.declared.faults.Fault.{Fault}
 use Rattle.gx_model.specs.declared.faults.Fault.TheVariants as faults
 use Rattle.gx_model.specs.declared.objects.Mode.{Mode}
 use Rattle.gx_model.specs.declared.objects.Mode.TheVariants.{File, Exec, Link, Gitlink, Dir}
 use Rattle.gx_model.specs.Texts.{Bytes}
 use Rattle.gx_model.specs.Texts.RefNames.{is_ref_name, is_tag_name}
-use Rattle.gx_model.specs.Texts.Idents.{is_ident}
 use Rattle.gx_model.specs.Faults.{Given, ◌>>=◌}
 use Rattle.gx_model.specs.Texts.Paths.{Path, is_component, is_quoted, parts_of, path_at, path_of, quoted_of, unquote, with_rest}
 use Rattle.gx_model.specs.Streams.Items.{Data, End, Item, Line, Stream}
 use Rattle.gx_model.specs.Streams.Commands.{Change, Command, CommitIsh, DataRef, Modify}
-use Rattle.gx_model.specs.Histories.Values.{is_optional_encoding, is_optional_ident}
 use Rattle.gx_model.specs.Streams.Grammar.{AtBlock, AtMark, AtName, Where, blob_at, bytes_from, change_at, changes, changes_within, command_at, commands_within, commit_at, if_early, is_done, is_option, item_after, links_at, merges, modify_at, part_of, reset_at, stops, suits, tag_at, two_paths, unsigned, where_by, where_of, with_command}
-use Rattle.gx_model.specs.Streams.Lines.{Read, after, any_text, bare, block, commit_ish_of, encoding_of, feature_of, ident_of, is_null, is_word, last_path, mark_of, mode_of, needed, optional, read_needed, read_some, ref_of, rest_line, rest_of, source_path, tag_of, words_of, Words, colon_number}
+use Rattle.gx_model.specs.Streams.Lines.{Read, after, any_text, bare, block, commit_ish_of, encoding_of, feature_of, ident_of, is_null, is_word, last_path, mark_of, mode_of, needed, optional, ref_of, rest_of, source_path, tag_of, words_of, Words, colon_number}
 use Rattle.gx_model.specs.Texts.Digits.{is_any_name_text}
 use Rattle.gx_model.specs.Replay.ProperReplays.{IsProperChange, IsProperCommand, IsWholePath, StreamsAreProper}
 use Rattle.gx_model.proofs.Texts.HeaderTexts.{encoding_is_headers}

@@ -139,7 +139,7 @@ commit_given ref s =
     (λ committer. then_any Brings (unsigned committer.1) _
     (λ plain. then_if (λ x. IfSome x.0 IsEncodingRead) Brings (optional (codes "encoding") encoding_of plain.1) _ (optional_given IsEncodingRead (codes "encoding") encoding_of encoding_given plain.1)
     (λ encoding e. then_any Brings (block encoding.1) _
-    (λ message. then_if LinksGive Brings (links_at message.1) _ (links_given message.1) (λ links h. (h, encoding.0, maybe_encoding encoding.0 e, refl)))))))))
+    (λ message. then_if LinksGive Brings (links_at message.1) _ (links_given message.1) (λ links h. (h, (encoding.0, maybe_encoding encoding.0 e, refl))))))))))
 
 early_given : (b : Bool) (r : Read Command) → IfOk r Brings → IfOk (if_early b r) Brings
 early_given true r h = h

@@ -1,5 +1,5 @@
 -- Worked rows: an import's export, and what that text imports to.
-use Rattle.std.specs.Prelude.{◌≡◌, List, [], ◌∷◌, ◌++◌, replicate, codes, Some, None, refl}
+use Rattle.std.specs.Prelude.{◌≡◌, List, [], ◌∷◌, ◌++◌, replicate, codes, Some, refl}
 use Rattle.std.specs.Fmt.{digits}
 use Rattle.gx_model.specs.declared.objects.Mode.TheVariants.{Gitlink}
 use Rattle.gx_model.specs.declared.faults.Fault.TheVariants as fault

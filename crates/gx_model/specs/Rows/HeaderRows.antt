@@ -1,6 +1,6 @@
 -- Worked rows on the headers of commits behind the committer.
 -- Source: gitformat-signature(5), on `gpgsig` and `mergetag`, and git-commit(1), "Discussion", on `encoding`.
-use Rattle.std.specs.Prelude.{◌≡◌, Bool, true, false, List, [], ◌∷◌, ◌++◌, replicate, codes, Option, None, Some, refl}
+use Rattle.std.specs.Prelude.{◌≡◌, Bool, true, false, List, [], ◌∷◌, ◌++◌, replicate, codes, None, Some, refl}
 use Rattle.gx_model.specs.Texts.{Bytes, cut_at}
 use Rattle.gx_model.specs.Texts.Headers.{encoding_header, encoding_in}
 use Rattle.gx_model.specs.Texts.Idents.{is_ident}

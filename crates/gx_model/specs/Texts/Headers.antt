@@ -1,6 +1,6 @@
 -- Header lines of a commit: what stands between the line of its committer and the empty line before its message.
 -- Source: gitformat-signature(5), on `gpgsig` and `mergetag`, and git-commit(1), "Discussion", on `encoding`.
-use Rattle.std.specs.Prelude.{Bool, true, not, ◌&&◌, ◌==◌, nat_eq, if◌then◌else◌, List, [], ◌∷◌, ◌++◌, drop, codes, Option, None, Some}
+use Rattle.std.specs.Prelude.{Bool, true, not, ◌&&◌, ◌==◌, nat_eq, if◌then◌else◌, [], ◌∷◌, ◌++◌, drop, codes, Option, None, Some}
 use Rattle.std.specs.List.{starts_with}
 use Rattle.gx_model.specs.Texts.{Bytes, parts_at, same_bytes}
 

@@ -14,6 +14,10 @@ use Rattle.gx_patch.specs.Heads.{head_text, label, sided}
 
 -- ---- the text of a file
 
+abbrev pub is_submodule : Mode → Bool
+is_submodule Gitlink = true
+is_submodule mode = false
+
 -- the line of a submodule, by the digits of its commit's name
 abbrev pub submodule_text : Bytes → Bytes
 submodule_text digits = codes "Subproject commit " ++ digits ++ 10 ∷ []
@@ -29,6 +33,10 @@ side_text named None = []
 side_text named (Some leaf) = file_text leaf.0 (content_of named leaf.0 leaf.1)
 
 -- ---- patches
+
+-- the file of a path has another type
+abbrev pub is_turned : Standing → Bool
+is_turned s = status_of s == 84
 
 -- a text is the patch of a path, where both files have these texts
 abbrev pub TellsFile : Bytes → Option (Leaf Bytes) → Option (Leaf Bytes) → Bytes → Bytes → Bytes → Type 0
@@ -52,7 +60,7 @@ module _ (named : Named) where
 
   -- a text is the patch of a path at which two trees differ: where the type changes, in two parts
   abbrev pub IsPatch : Standing → Bytes → Type 0
-  IsPatch s text = IsPatchBy (status_of s == 84) s text
+  IsPatch s text = IsPatchBy (is_turned s) s text
 
   -- it is that of several paths, one behind the other
   abbrev pub ArePatches : List Standing → Bytes → Type 0

@@ -1,10 +1,10 @@
 //! The patch of a path at which two trees differ. Source: git-diff(1), "GENERATING PATCH TEXT WITH -P".
 
-ghost use Rattle.std.specs.Prelude.{IfSome};
+ghost use Rattle.std.specs.Prelude.{◌≡◌, IfSome};
 ghost use Rattle.gx_model.specs.Records.HistoryOf.{named_values};
 ghost use Rattle.gx_questions.specs.Answers.{IsOfTold, RefusesUntold};
 ghost use Rattle.gx_differences.specs.Listed.{HasLeaf, HasLeaves, shown_difference, shown_leaf};
-ghost use Rattle.gx_patch.specs.Patches.{IsFilePatch, IsPatch, Puts, PutsFile};
+ghost use Rattle.gx_patch.specs.Patches.{IsFilePatch, IsPatch, Puts, PutsFile, is_turned};
 
 use crate::bodies::put_body;
 use crate::heads::{label, put_head, sided};
@@ -33,11 +33,18 @@ pub fn put_patch<O: Objects, A: Allocator + Copy>(
     ensures fault { RefusesUntold (O.told objects.now) result }
 {
     let path = difference.path.joined();
-    if status_of(difference) == b'T' {
+    if is_turned(difference) {
         put_file(alloc, objects, text, path, &difference.old, &None)?;
         return put_file(alloc, objects, text, path, &None, &difference.new);
     }
     put_file(alloc, objects, text, path, &difference.old, &difference.new)
+}
+
+/// Whether the file of a path has another type.
+fn is_turned<A: Allocator>(difference: &Difference<A>) -> bool
+    ensures { result ≡ is_turned (shown_difference difference.now) }
+{
+    status_of(difference) == b'T'
 }
 
 /// Appends the patch of one path and the files that stand there before and after.

@@ -5,7 +5,7 @@ ghost use Rattle.gx_model.specs.Objects.{hex};
 ghost use Rattle.gx_model.specs.Records.HistoryOf.{named_values};
 ghost use Rattle.gx_questions.specs.Answers.{IsOfTold, RefusesUntold};
 ghost use Rattle.gx_differences.specs.Listed.{HasLeaf, shown_leaf};
-ghost use Rattle.gx_patch.specs.Patches.{side_text, submodule_text};
+ghost use Rattle.gx_patch.specs.Patches.{is_submodule, side_text, submodule_text};
 
 use gx_differences::FileLeaf;
 use gx_object::{Kind, Mode, Name};
@@ -46,7 +46,7 @@ fn leaf_text<'a, O: Objects, A: Allocator + Copy>(
     ensures fault { RefusesUntold (O.told objects.now) result }
 {
     objects.sound_if_told();
-    if leaf.mode == Mode::Gitlink {
+    if is_submodule(leaf.mode) {
         room.clear();
         put_submodule(room, &leaf.name)?;
         return Ok(room.as_slice());
@@ -56,6 +56,12 @@ fn leaf_text<'a, O: Objects, A: Allocator + Copy>(
         Kind::Blob => Ok(object.body),
         Kind::Tree | Kind::Commit | Kind::Tag => Err(AskFault::Damaged),
     }
+}
+
+fn is_submodule(mode: Mode) -> bool
+    ensures { result ≡ is_submodule mode }
+{
+    matches!(mode, Mode::Gitlink)
 }
 
 /// Appends the line of a submodule.

@@ -104,10 +104,10 @@ Output:
   TAB and how many there are.
 
   With --patch what git apply takes to make NEW of OLD, as git diff --full-index
-  --no-renames writes it, without the text of a line behind the second @@ of a
+  --no-renames writes it, but for a line of its function behind the head of a
   hunk. A file of type T goes and comes again. Of a file with a NUL among its
-  first 8000 bytes there is the line that git has, "Binary files a/F and b/F
-  differ", which git apply doesn't take.
+  first 8000 bytes it has the line that git has, which git apply doesn't take:
+  Binary files a/F and b/F differ
 
 Exit status:
   3  with --exit-code or --quiet: paths differ

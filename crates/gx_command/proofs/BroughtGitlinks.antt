@@ -7,7 +7,7 @@ use Rattle.std.proofs.lemmas.Bool.{false≢true}
 use Rattle.std.specs.List.{AllByRecursion}
 use Rattle.gx_model.specs.declared.objects.Mode.{Mode}
 use Rattle.gx_model.specs.declared.objects.Mode.TheVariants.{File, Exec, Link, Gitlink, Dir}
-use Rattle.gx_model.specs.Histories.Values.{IsEncodingAlone, is_optional_encoding}
+use Rattle.gx_model.specs.Histories.Values.{IsEncodingAlone}
 use Rattle.gx_model.specs.Texts.Headers.{encoding_header}
 use Rattle.gx_model.specs.Texts.Paths.{Path}
 use Rattle.gx_model.specs.Streams.Commands as model

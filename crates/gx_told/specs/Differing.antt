@@ -15,7 +15,7 @@ use Rattle.gx_differences.specs.Listed.{Standing, differing}
 use Rattle.gx_diff.specs.Lines.{diff_text, ends_well}
 use Rattle.gx_diff.specs.Paths.{asked_of}
 use Rattle.gx_object.specs.declared.name.Name.{Name}
-use Rattle.gx_patch.specs.Patches.{ArePatches}
+use Rattle.gx_patch.specs.Patches.{ArePatches, IsPatch}
 use Rattle.gx_rev.specs.Objects.{files_at}
 use Rattle.gx_print.specs.Stored.{Refusal, files_of_word, of_word}
 use Rattle.gx_told.specs.Printing.{Prints, PrintsText}
@@ -43,6 +43,10 @@ is_patch Patch = true
 is_patch form = false
 
 module _ (repository : Records) where
+  -- the patch of a path is printed
+  abbrev pub PrintsPatch : Standing → Option Taken → Option Taken → Result (Unit {0}) ToldFault → Type 0
+  PrintsPatch s was now answer = (text : Bytes) × IsPatch (named_values repository.records) s text × PrintsText text was now answer
+
   -- the patches of these paths are printed
   abbrev pub PrintsPatches : List Standing → Option Taken → Option Taken → Result (Unit {0}) ToldFault → Type 0
   PrintsPatches ss was now answer = (text : Bytes) × ArePatches (named_values repository.records) ss text × PrintsText text was now answer

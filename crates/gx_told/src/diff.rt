@@ -6,8 +6,8 @@ ghost use Rattle.gx_model.specs.Records.HistoryOf.{history_of};
 ghost use Rattle.gx_rev.specs.Objects.{IsHeldAs};
 ghost use Rattle.gx_text.specs.Lent.{lent_texts};
 ghost use Rattle.gx_questions.specs.Answers.{IfTold};
-ghost use Rattle.gx_differences.specs.Listed.{HaveLeaves, shown_differences};
-ghost use Rattle.gx_told.specs.Differing.{PrintsPatches, TellsDiff, TellsFound, TellsText, TellsTrees, differing_words, is_patch};
+ghost use Rattle.gx_differences.specs.Listed.{HasLeaves, HaveLeaves, shown_difference, shown_differences};
+ghost use Rattle.gx_told.specs.Differing.{PrintsPatch, PrintsPatches, TellsDiff, TellsFound, TellsText, TellsTrees, differing_words, is_patch};
 
 use crate::ToldFault;
 use crate::sending::put_text;
@@ -115,15 +115,28 @@ fn print_patches<O: Objects, A: Allocator + Copy, W: Sink>(
     ensures { IfTold (O.told objects.now) (λ r. PrintsPatches r
         (shown_differences found.now) (W.taken sink.old) (W.taken sink.new)) result }
 {
-    let mut text = Vec::new(alloc);
     for difference in found {
-        text.clear();
-        if let Err(fault) = put_patch(alloc, objects, &mut text, difference) {
-            return Err(refused(1, fault));
-        }
-        put_text(sink, text.as_slice())?;
+        print_patch(alloc, objects, difference, sink)?;
     }
     Ok(())
+}
+
+/// Prints the patch of a path.
+fn print_patch<O: Objects, A: Allocator + Copy, W: Sink>(
+    alloc: A,
+    objects: &O,
+    difference: &Difference<A>,
+    sink: &mut W,
+) -> Result<(), ToldFault>
+    requires { IfSome (O.told objects.now) (HasLeaves (shown_difference difference.now)) }
+    ensures { IfTold (O.told objects.now) (λ r. PrintsPatch r
+        (shown_difference difference.now) (W.taken sink.old) (W.taken sink.new)) result }
+{
+    let mut text = Vec::new(alloc);
+    match put_patch(alloc, objects, &mut text, difference) {
+        Ok(()) => put_text(sink, text.as_slice()),
+        Err(fault) => Err(refused(1, fault)),
+    }
 }
 
 /// Prints the text of these paths, in another form than a patch, and answers.

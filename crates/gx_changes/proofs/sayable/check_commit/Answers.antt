@@ -2,7 +2,7 @@ use Rattle.std.proofs.lemmas.Result.{err_from_is_err_and}
 use Rattle.std.specs.Borrow.{Bor}
 use Rattle.gx_model.specs.Objects.{CommitParts}
 use Rattle.gx_model.specs.Texts.{Bytes}
-use Rattle.gx_changes.proofs.Sayable.{commit_said, commit_unsaid, look_stops}
+use Rattle.gx_changes.proofs.SayableCommits.{commit_said, commit_unsaid, look_stops}
 use Rattle.gx_changes.proofs.sayable.check_commit.Goals as goal
 
 pub returns-in_err-view : goal.returns-in_err-view

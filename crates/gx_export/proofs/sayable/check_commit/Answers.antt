@@ -5,7 +5,7 @@ use Rattle.gx_model.specs.Texts.Headers.{is_encoding_alone}
 use Rattle.gx_model.proofs.Records.Standing.{at_within, commit_name_there}
 use Rattle.gx_model.proofs.Texts.AloneHeaders.{alone_decides}
 use Rattle.gx_export.proofs.CommitTexts.{same_commit, shown_as}
-use Rattle.gx_export.proofs.Sayable.{not_alone}
+use Rattle.gx_export.proofs.SayableCommits.{not_alone}
 use Rattle.gx_export.proofs.sayable.check_commit.Goals as goal
 
 pub name_at-commit-requires : goal.name_at-commit-requires

@@ -5,5 +5,5 @@ mod CommitLines
 mod Parents
 mod SentRefs
 mod Texts
-mod Sayable
+mod SayableCommits
 mod Found

@@ -1,6 +1,6 @@
 use Rattle.std.proofs.Common.{◌≤◌, ℕ, length}
 use Rattle.std.specs.Prelude.{IfSome}
-use Rattle.gx_changes.proofs.Sayable.{SaidFrom}
+use Rattle.gx_changes.proofs.SayableCommits.{SaidFrom}
 use Rattle.gx_changes.proofs.sayable.check_sayable.Given as goal
 
 abbrev pub invariant-loop-left : goal.invariant-loop-left

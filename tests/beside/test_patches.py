@@ -218,7 +218,7 @@ def test_nul_behind_the_front(new_places: MakePlaces) -> None:
     """A NUL counts among the first 8,000 bytes, and behind these the file is text."""
     sides: tuple[Tree, Tree] = ({}, {})
     for place in (0, 7999, 8000, 9000):
-        text = bytearray(b"x\n" * 5000)
+        text = bytearray(b"".join(b"%09d\n" % number for number in range(1000)))
         text[place] = 0
         sides[0][b"f%d" % place] = (FILE, bytes(text))
         sides[1][b"f%d" % place] = (FILE, b"y\n" + bytes(text))

@@ -17,6 +17,15 @@ use Rattle.gx_patch.specs.Heads.{head_text, label, sided}
 use Rattle.gx_patch.specs.Patches.{IsFilePatch, IsPatch, IsPatchBy, Puts, PutsFile, TellsFile, is_turned, side_text}
 use Rattle.gx_patch.proofs.Told.{both_told, map_told}
 
+-- ---- parts of a line
+
+pub five_parts : (t a b c d e p q r s all : Bytes) → p ≡ t ++ a → q ≡ p ++ b → r ≡ q ++ c → s ≡ r ++ d → all ≡ s ++ e → all ≡ t ++ (a ++ b ++ c ++ d ++ e)
+five_parts t a b c d e p q r s all one two three four five =
+    let second : q ≡ t ++ (a ++ b) = two ∙ ap (λ x. x ++ b) one ∙ append_assoc t a b in
+    let third : r ≡ t ++ (a ++ b ++ c) = three ∙ ap (λ x. x ++ c) second ∙ append_assoc t (a ++ b) c in
+    let fourth : s ≡ t ++ (a ++ b ++ c ++ d) = four ∙ ap (λ x. x ++ d) third ∙ append_assoc t (a ++ b ++ c) d in
+    five ∙ ap (λ x. x ++ e) fourth ∙ append_assoc t (a ++ b ++ c ++ d) e
+
 -- ---- a body
 
 module _ (from to old new : Bytes) where
@@ -43,10 +52,10 @@ module _ (from to old new : Bytes) where
       let a = label_line (codes "--- ") from in
       let b = label_line (codes "+++ ") to in
       on_ok_weaker r (λ t. (
-        a ++ (b ++ t.0),
-        t.1 ∙ ap (λ x. x ++ t.0) (second ∙ ap (λ x. x ++ b) first) ∙ append_assoc (was ++ a) b t.0 ∙ append_assoc was a (b ++ t.0),
-        subst (λ s. TellsBy s (are_binary old new) from to old new (a ++ (b ++ t.0))) (sym other)
-        (subst (λ x. TellsBy false x from to old new (a ++ (b ++ t.0))) (sym text) (t.0, t.2, refl)),
+        a ++ b ++ t.0,
+        t.1 ∙ ap (λ x. x ++ t.0) (second ∙ ap (λ x. x ++ b) first ∙ append_assoc was a b) ∙ append_assoc was (a ++ b) t.0,
+        subst (λ s. TellsBy s (are_binary old new) from to old new (a ++ b ++ t.0)) (sym other)
+        (subst (λ x. TellsBy false x from to old new (a ++ b ++ t.0)) (sym text) (t.0, t.2, refl)),
       ))
 
 -- ---- the patch of a path

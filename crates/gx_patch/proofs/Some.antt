@@ -24,13 +24,13 @@ some_body from to old new = by (same_bytes old new) refl (are_binary old new)
     by false e true = (binary_line from to, refl)
     by false e false =
         let told = texts_told old new (others old new e) in
-        (label_line (codes "--- ") from ++ label_line (codes "+++ ") to ++ told.0, told.0, told.1, refl)
+        (label_line (codes "--- ") from ++ label_line (codes "+++ ") to ++ told.0, (told.0, told.1, refl))
 
 module _ (named : Named) where
   some_file : (path : Bytes) (old new : Option (Leaf Bytes)) → (text : Bytes) × IsFilePatch named path old new text
   some_file path old new =
       let body = some_body (label old (sided 97 path)) (label new (sided 98 path)) (side_text named old) (side_text named new) in
-      (head_text (sided 97 path) (sided 98 path) old new ++ body.0, body.0, body.1, refl)
+      (head_text (sided 97 path) (sided 98 path) old new ++ body.0, (body.0, body.1, refl))
 
   pub some_patch : (s : Standing) → (text : Bytes) × IsPatch named s text
   some_patch s = by (is_turned s)
@@ -39,7 +39,7 @@ module _ (named : Named) where
       by true =
           let goes = some_file (path_text s.0) s.1.0 None in
           let comes = some_file (path_text s.0) None s.1.1 in
-          (goes.0 ++ comes.0, goes.0, comes.0, goes.1, comes.1, refl)
+          (goes.0 ++ comes.0, (goes.0, comes.0, goes.1, comes.1, refl))
       by false = some_file (path_text s.0) s.1.0 s.1.1
 
   pub some_patches : (ss : List Standing) → (text : Bytes) × ArePatches named ss text
@@ -47,7 +47,7 @@ module _ (named : Named) where
   some_patches (s ∷ ss) =
       let patch = some_patch s in
       let rest = some_patches ss in
-      (patch.0 ++ rest.0, patch.0, rest.0, patch.1, rest.1, refl)
+      (patch.0 ++ rest.0, (patch.0, rest.0, patch.1, rest.1, refl))
 
   -- patches behind others
   pub patches_join : (ss ts : List Standing) (front rest : Bytes) → ArePatches named ss front → ArePatches named ts rest → ArePatches named (ss ++ ts) (front ++ rest)

@@ -1,8 +1,9 @@
-use Rattle.std.proofs.Common.{◌≡◌, ◌≢◌, ◌⊎◌, ◌∙◌, inl, inr, true, false, ap, sym}
+use Rattle.std.proofs.Common.{◌≡◌, ◌≢◌, ◌⊎◌, ◌∙◌, ◌++◌, inl, inr, true, false, ap, sym}
 use Rattle.gx_model.specs.declared.objects.Kind.{Kind}
 use Rattle.gx_model.specs.declared.objects.Kind.TheVariants as kind
+use Rattle.gx_model.specs.Objects.{hex}
 use Rattle.gx_questions.proofs.Found.{not_other}
-use Rattle.gx_patch.specs.Patches.{is_submodule}
+use Rattle.gx_patch.specs.Patches.{is_submodule, submodule_text}
 use Rattle.gx_patch.proofs.Files.{file_blob, file_bytes, file_held, submodule_line}
 use Rattle.gx_patch.proofs.Told.{at_some, for_some}
 use Rattle.gx_patch.proofs.sides.leaf_text.Goals as goal
@@ -16,7 +17,7 @@ pub returns-then-is_submodule-clause-text : goal.returns-then-is_submodule-claus
 returns-then-is_submodule-clause-text g c =
     let o = g.O.Objects.told c.args.objects.now in
     let leaf = c.args.leaf.now in
-    for_some o (λ r s. c.as_slice.ensures.value ∙ c.in_ok-put_submodule.ensures ∙ submodule_line r leaf.mode leaf.name.bytes (sym c.is_submodule.ensures ∙ c.if-is_submodule.true))
+    for_some o (λ r s. c.as_slice.ensures.value ∙ c.in_ok-put_submodule.ensures ∙ ap (λ t. t ++ submodule_text (hex leaf.name.bytes)) c.clear.ensures.items ∙ submodule_line r leaf.mode leaf.name.bytes (sym c.is_submodule.ensures ∙ c.if-is_submodule.true))
 
 pub body-requires : goal.body-requires
 body-requires g c =

@@ -100,7 +100,8 @@ enum {
     GINLARCH_AUTHOR = 2,     /* NAME <EMAIL> SECONDS ZONE */
     GINLARCH_COMMITTER = 3,  /* the same */
     GINLARCH_ENCODING = 4,   /* that of the message, or nothing where the commit tells none */
-    GINLARCH_MESSAGE = 5     /* the message, with its last LF where it has one */
+    GINLARCH_MESSAGE = 5,    /* the message, with its last LF where it has one */
+    GINLARCH_HEADERS = 6     /* the header lines behind the committer's, each with its LF, as gpgsig */
 };
 
 /* Answers a field of the commit that a revision gives, where a tag gives its commit. A number that is none

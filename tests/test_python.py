@@ -164,6 +164,8 @@ def test_commits_are_those_of_git(repository, git: Git, history: Path) -> None:
         lines += [b"author " + made.author, b"committer " + made.committer]
         lines += [] if made.encoding is None else [b"encoding " + made.encoding.encode()]
         assert (b"\n".join(lines), made.message) == (head, message)
+        rest = (head + b"\n").split(b"\ncommitter " + made.committer + b"\n", 1)[1]
+        assert (made.headers, made.header("encoding")) == (rest, made.encoding and made.encoding.encode())
 
 
 @pytest.mark.parametrize("words", ["", "main topic v1 odd", None], ids=["all", "words", "files"])
@@ -217,7 +219,7 @@ def test_refusals_have_their_words(ginlarch, repository) -> None:
 @pytest.mark.parametrize("revision", [b"main", b"gone"])
 def test_number_of_no_field_is_refused(ginlarch, repository, revision: bytes) -> None:
     with pytest.raises(ginlarch.Refused) as caught:
-        repository._handle.ask("commit", revision, 6)
+        repository._handle.ask("commit", revision, 7)
     assert caught.value.word == "UnknownField"
 
 

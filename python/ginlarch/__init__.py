@@ -10,6 +10,7 @@ GINLARCH_LIBRARY says, then where the system has libraries. To save a store it n
 the variable GX names, or PATH has. Nothing else is needed but Python 3.8.
 """
 import contextlib
+import re
 from dataclasses import dataclass
 from typing import BinaryIO, Dict, Iterator, List, NamedTuple, Optional, Tuple, Union
 
@@ -18,6 +19,9 @@ from .faults import Closed, Refused
 from .files import StoreChanged, StoreLocked
 
 __all__ = ["Closed", "Commit", "Entry", "File", "Object", "Refused", "Report", "Repository", "StoreChanged", "StoreLocked"]
+
+# a line, and those that continue it, which begin with a space
+_CONTINUED = re.compile(rb"^[^ \n][^\n]*\n(?: [^\n]*\n)*", re.MULTILINE)
 
 Bytes = Union[bytes, bytearray, memoryview]
 Text = Union[str, Bytes]
@@ -51,7 +55,8 @@ class Entry(NamedTuple):
 class Commit:
     """A commit: the names of its tree and its parents, and its texts. The encoding is that of the message, where one is told.
 
-    The author and the committer are `NAME <EMAIL> SECONDS ZONE`.
+    The author and the committer are `NAME <EMAIL> SECONDS ZONE`. The headers are the lines between that of the
+    committer and the message, as they stand, each with its LF.
     """
 
     tree: str
@@ -60,6 +65,18 @@ class Commit:
     committer: bytes
     encoding: Optional[str]
     message: bytes
+    headers: bytes = b""
+
+    def header(self, name: Text) -> Optional[bytes]:
+        """What the first header of this name has, as `gpgsig`; None where there is none.
+
+        The lines that continue it come without the space that they begin with. The last line has no LF.
+        """
+        return next((told for called, told in _unfolded(self.headers) if called == _bytes(name)), None)
+
+    def header_items(self) -> List[Tuple[bytes, bytes]]:
+        """The names of all headers, in order, each with what it has. A name may come again, as `mergetag`."""
+        return list(_unfolded(self.headers))
 
 
 class Report(NamedTuple):
@@ -80,6 +97,12 @@ def _bytes(text: Text) -> bytes:
 
 def _text(data: bytes) -> str:
     return data.decode("utf-8", "surrogateescape")
+
+
+def _unfolded(headers: bytes) -> Iterator[Tuple[bytes, bytes]]:
+    for lines in _CONTINUED.findall(headers):
+        name, _, told = lines[:-1].replace(b"\n ", b"\n").partition(b" ")
+        yield name, told
 
 
 def _entry(listed: bytes) -> Entry:
@@ -181,11 +204,11 @@ class Repository:
 
     def commit(self, revision: Text) -> Commit:
         """The commit that a revision gives; of a tag, the commit that it names."""
-        tree, parents, author, committer, encoding, message = (
-            self._handle.ask("commit", _bytes(revision), field).data for field in range(6)
+        tree, parents, author, committer, encoding, message, headers = (
+            self._handle.ask("commit", _bytes(revision), field).data for field in range(7)
         )
         names = tuple(parents.decode("ascii").split())
-        return Commit(tree.decode("ascii"), names, author, committer, _text(encoding) or None, message)
+        return Commit(tree.decode("ascii"), names, author, committer, _text(encoding) or None, message, headers)
 
     def ls(self, revision: Text, recursive: bool = False) -> List[Entry]:
         """The entries of a revision's tree, as `git ls-tree` lists them; or all of its files, as with `-r`."""

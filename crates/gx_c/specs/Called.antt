@@ -5,8 +5,6 @@ use Rattle.std.specs.List.{flat_map}
 use Rattle.std.specs.declared.alloc.Global.{Global}
 use Rattle.sha1.specs.Sha1.{sha1}
 use Rattle.gx_model.specs.declared.objects.Kind.{Kind}
-use Rattle.gx_model.specs.Changes.{changes_text}
-use Rattle.gx_model.specs.Export.{export_text}
 use Rattle.gx_model.specs.Faults.{Given, IsFaultOf, ◌>>=◌}
 use Rattle.gx_model.specs.Histories.{History, Records}
 use Rattle.gx_model.specs.Objects.Naming.{record_text}
@@ -25,7 +23,7 @@ use Rattle.gx_versions.specs.declared.forms.StoreForm.TheVariants.{Growing}
 use Rattle.gx_versions.specs.Versions.{form_of, opened_of, text_in}
 use Rattle.gx_c.specs.Answers as answers
 use Rattle.gx_c.specs.Answers.{Answers, AnswersText}
-use Rattle.gx_c.specs.Written.{AnswersRange, archive_answer}
+use Rattle.gx_c.specs.Written.{AnswersChanges, AnswersExport, AnswersRange, archive_answer}
 use Rattle.gx_c.specs.Fields.{AnswersField}
 use Rattle.gx_c.specs.Listings.{listing_of}
 use Rattle.gx_c.specs.Importing.{AnswersImport, features_of}
@@ -82,10 +80,10 @@ abbrev pub Archive : Bytes → Bytes → Opened → Opened → Type 0
 Archive revision prefix = Asks (λ repository. AnswersText (archive_answer git_name (history_of repository) revision prefix))
 
 abbrev pub Export : Opened → Opened → Type 0
-Export = Asks (λ repository. AnswersText (Ok (export_text (history_of repository))))
+Export = Asks (λ repository. AnswersExport (history_of repository))
 
 abbrev pub Changes : Bool → Opened → Opened → Type 0
-Changes closed = Asks (λ repository. AnswersText (Ok (changes_text git_name closed (history_of repository))))
+Changes closed = Asks (λ repository. AnswersChanges git_name (history_of repository) closed)
 
 -- The words are used up, and this is answered.
 pub record Uses (IsAnswer : History → List RangeWord → Answer Global → Type 0) (was now : Opened) : Type 0 where
@@ -112,6 +110,7 @@ AddsWord given (why.Revision fault) was now = IsFaultOf (fault_of fault) given �
 AddsWord given (why.Import fault) was now = ⊥
 AddsWord given (why.Store fault) was now = ⊥
 AddsWord given why.Field was now = ⊥
+AddsWord given why.Unsupported was now = ⊥
 
 pub record Word (text : Bytes) (was now : Opened) : Type 0 where
   pub repository : now.repo ≡ was.repo
@@ -127,6 +126,7 @@ LoadsSo form read (why.Store fault) was now = IsGrownFault fault read × (now.re
 LoadsSo form read (why.Revision fault) was now = ⊥
 LoadsSo form read (why.Import fault) was now = ⊥
 LoadsSo form read why.Field was now = ⊥
+LoadsSo form read why.Unsupported was now = ⊥
 
 pub record Loads (text : Bytes) (was now : Opened) : Type 0 where
   pub words : now.words ≡ was.words

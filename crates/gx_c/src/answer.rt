@@ -21,8 +21,10 @@ pub enum Why {
     Import(Fault),
     /// A store's text.
     Store(GrowingFault),
-    /// The number of a commit's field.
+    /// The number of a field.
     Field,
+    /// An export, of a commit that has a header but that of an encoding: no stream can say it.
+    Unsupported,
 }
 
 impl Why {
@@ -36,6 +38,7 @@ impl Why {
             Why::Import(fault) => fault.word(),
             Why::Store(fault) => fault.word(),
             Why::Field => "UnknownField",
+            Why::Unsupported => "Unsupported",
         }
     }
 
@@ -45,7 +48,8 @@ impl Why {
     {
         match self {
             Why::Done => DONE,
-            Why::Revision(_) | Why::Import(_) | Why::Store(_) | Why::Field => REFUSED,
+            Why::Revision(_) | Why::Import(_) | Why::Store(_) | Why::Field | Why::Unsupported =>
+                REFUSED,
         }
     }
 }

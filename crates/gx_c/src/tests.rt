@@ -53,7 +53,7 @@ const STREAM: &[u8] =
 const REFS: &[u8] = b"02d6adf1689e06135d2b4b4d471f1ae489887b53 refs/heads/main\n";
 
 /// Calls on the repository of that stream, as git has its commit, tree and fields, and the archive of `main` with the prefix `p/`.
-const ROWS: [(Call<'static>, Told<'static>); 25] = [
+const ROWS: [(Call<'static>, Told<'static>); 26] = [
     (Call::Refs, Told::Text(REFS, 0)),
     (
         Call::File(b"main", b"test.txt"),
@@ -95,7 +95,8 @@ const ROWS: [(Call<'static>, Told<'static>); 25] = [
     (Call::Commit(b"main", 3), Told::Text(b"A <a@x> 1 +0000", 0)),
     (Call::Commit(b"main", 4), Told::Text(b"", 0)),
     (Call::Commit(b"main", 5), Told::Text(b"v1", 0)),
-    (Call::Commit(b"gone", 6), Told::Refused(b"UnknownField")),
+    (Call::Commit(b"main", 6), Told::Text(b"", 0)),
+    (Call::Commit(b"gone", 7), Told::Refused(b"UnknownField")),
     (Call::Export, Told::Stream(false)),
     (Call::Changes, Told::Stream(true)),
     (Call::Word(b"main"), Told::Status(DONE)),
@@ -221,7 +222,7 @@ fn calls_are_answered_as_by_git_or_refused(rt: HostRuntime) {
     let mut store = closed();
     assert!(rt; room.resize(20_000, 0).is_ok());
     assert!(rt; is_opened(rt.alloc(), &mut store));
-    for place in 0..25usize {
+    for place in 0..26usize {
         assert!(rt;
             is_told(rt.alloc(), &mut store, ROWS[place], room.as_mut_slice()),
             "{place}"

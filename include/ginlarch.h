@@ -108,6 +108,18 @@ enum {
  * of the fields is refused with the word UnknownField, whatever the revision is. */
 uint32_t ginlarch_commit(ginlarch_store *store, const uint8_t *revision, size_t length, uint32_t field);
 
+/* The fields of a tag. */
+enum {
+    GINLARCH_TAG_TARGET = 0,   /* the 40 digits of the commit that it tags */
+    GINLARCH_TAG_NAME = 1,     /* its name, as v1 */
+    GINLARCH_TAG_TAGGER = 2,   /* NAME <EMAIL> SECONDS ZONE, or nothing where the tag tells none */
+    GINLARCH_TAG_MESSAGE = 3   /* the message, with its last LF where it has one */
+};
+
+/* Answers a field of the tag that a revision gives; what gives anything else is refused with the word
+ * WrongKind. A number that is none of the fields is refused as of a commit. */
+uint32_t ginlarch_tag(ginlarch_store *store, const uint8_t *revision, size_t length, uint32_t field);
+
 /* Answers the archive of a revision's tree as git-archive(1), with these bytes before each path. */
 uint32_t ginlarch_archive(ginlarch_store *store, const uint8_t *revision, size_t revision_length,
                           const uint8_t *prefix, size_t prefix_length);

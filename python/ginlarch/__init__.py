@@ -18,7 +18,7 @@ from . import calls, files
 from .faults import Closed, Refused
 from .files import StoreChanged, StoreLocked
 
-__all__ = ["Closed", "Commit", "Entry", "File", "Object", "Refused", "Report", "Repository", "StoreChanged", "StoreLocked"]
+__all__ = ["Closed", "Commit", "Entry", "File", "Object", "Refused", "Report", "Repository", "StoreChanged", "StoreLocked", "Tag"]
 
 # a line, and those that continue it, which begin with a space
 _CONTINUED = re.compile(rb"^[^ \n][^\n]*\n(?: [^\n]*\n)*", re.MULTILINE)
@@ -77,6 +77,18 @@ class Commit:
     def header_items(self) -> List[Tuple[bytes, bytes]]:
         """The names of all headers, in order, each with what it has. A name may come again, as `mergetag`."""
         return list(_unfolded(self.headers))
+
+
+class Tag(NamedTuple):
+    """A tag: the name of the commit that it tags, its own name, who made it where that is told, and its message.
+
+    The tagger is `NAME <EMAIL> SECONDS ZONE`.
+    """
+
+    target: str
+    name: str
+    tagger: Optional[bytes]
+    message: bytes
 
 
 class Report(NamedTuple):
@@ -209,6 +221,11 @@ class Repository:
         )
         names = tuple(parents.decode("ascii").split())
         return Commit(tree.decode("ascii"), names, author, committer, _text(encoding) or None, message, headers)
+
+    def tag(self, revision: Text) -> Tag:
+        """The tag that a revision gives; of a commit, also one that is tagged, it raises `faults.WrongKind`."""
+        target, name, tagger, message = (self._handle.ask("tag", _bytes(revision), field).data for field in range(4))
+        return Tag(target.decode("ascii"), _text(name), tagger or None, message)
 
     def ls(self, revision: Text, recursive: bool = False) -> List[Entry]:
         """The entries of a revision's tree, as `git ls-tree` lists them; or all of its files, as with `-r`."""

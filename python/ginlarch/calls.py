@@ -59,6 +59,7 @@ _ARGUMENTS = {
     "walk": [],
     "ls": _text,
     "commit": _text + [ctypes.c_uint32],
+    "tag": _text + [ctypes.c_uint32],
     "archive": _text + _text,
     "export": [],
     "changes": _flag,

@@ -69,6 +69,7 @@ static uint32_t ask(ginlarch_store *store, uint32_t call, const uint8_t *a, size
     case 15: return ginlarch_ls(store, a, n);
     case 16: return ginlarch_commit(store, a, n, next(8));
     case 17: return ginlarch_growing_text(store);
+    case 18: return ginlarch_tag(store, a, n, next(5));
     default: return ginlarch_range(store, next(2));
     }
 }
@@ -103,7 +104,7 @@ int main(int argc, char **argv) {
         case 1: case 2: case 3:
             expect(ginlarch_open(store, a, n) == (was_open ? GINLARCH_IN_USE : GINLARCH_DONE), "a handle isn't opened");
             break;
-        default: look(store, ask(store, next(19), a, n, b, m), was_open);
+        default: look(store, ask(store, next(20), a, n, b, m), was_open);
         }
         free(a), free(b);
     }

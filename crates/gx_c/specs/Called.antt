@@ -26,6 +26,7 @@ use Rattle.gx_c.specs.Answers.{Answers, AnswersText}
 use Rattle.gx_c.specs.Written.{AnswersChanges, AnswersExport, AnswersRange, archive_answer}
 use Rattle.gx_c.specs.Fields.{AnswersField}
 use Rattle.gx_c.specs.Listings.{listing_of}
+use Rattle.gx_c.specs.Tags.{AnswersTag}
 use Rattle.gx_c.specs.Importing.{AnswersImport, features_of}
 use Rattle.gx_c.specs.declared.answer.Answer.{Answer}
 use Rattle.gx_c.specs.declared.answer.Why.{Why}
@@ -75,6 +76,9 @@ Lists revision = Asks (λ repository. AnswersText (listing_of git_name (history_
 
 abbrev pub Commit : Bytes → ℕ → Opened → Opened → Type 0
 Commit revision number = Asks (λ repository. AnswersField git_name (history_of repository) revision number)
+
+abbrev pub Tag : Bytes → ℕ → Opened → Opened → Type 0
+Tag revision number = Asks (λ repository. AnswersTag git_name (history_of repository) revision number)
 
 abbrev pub Archive : Bytes → Bytes → Opened → Opened → Type 0
 Archive revision prefix = Asks (λ repository. AnswersText (archive_answer git_name (history_of repository) revision prefix))

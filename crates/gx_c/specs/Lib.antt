@@ -5,4 +5,5 @@ pub mod Fields
 pub mod Importing
 pub mod Listings
 pub mod Owned
+pub mod Tags
 pub mod Written

@@ -14,6 +14,7 @@ mod listing;
 mod opened;
 mod reading;
 mod store;
+mod tags;
 #[cfg(test)]
 mod tests;
 mod writing;

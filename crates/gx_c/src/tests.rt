@@ -23,6 +23,7 @@ enum Call<'a> {
     Name(&'a [u8]),
     Ls(&'a [u8]),
     Commit(&'a [u8], u32),
+    Tag(&'a [u8], u32),
     Archive(&'a [u8], &'a [u8]),
     Export,
     Changes,
@@ -49,11 +50,14 @@ enum Told<'a> {
 const STREAM: &[u8] =
     b"commit refs/heads/main\ncommitter A <a@x> 1 +0000\ndata 2\nv1\nM 100644 inline test.txt\ndata 10\nversion 1\n\ndone\n";
 
+/// A tag of its commit.
+const TAG: &[u8] = b"tag v1\nfrom refs/heads/main^0\ntagger T <t@x> 2 -0100\ndata 5\nfirst";
+
 /// As `git show-ref` has it.
 const REFS: &[u8] = b"02d6adf1689e06135d2b4b4d471f1ae489887b53 refs/heads/main\n";
 
 /// Calls on the repository of that stream, as git has its commit, tree and fields, and the archive of `main` with the prefix `p/`.
-const ROWS: [(Call<'static>, Told<'static>); 26] = [
+const ROWS: [(Call<'static>, Told<'static>); 34] = [
     (Call::Refs, Told::Text(REFS, 0)),
     (
         Call::File(b"main", b"test.txt"),
@@ -102,6 +106,17 @@ const ROWS: [(Call<'static>, Told<'static>); 26] = [
     (Call::Word(b"main"), Told::Status(DONE)),
     (Call::Range, Told::Stream(true)),
     (Call::Text, Told::Store),
+    (Call::Tag(b"main", 3), Told::Refused(b"WrongKind")),
+    (Call::Tag(b"gone", 4), Told::Refused(b"UnknownField")),
+    (Call::Import(TAG, false), Told::Text(b"", 1)),
+    (
+        Call::Tag(b"v1", 0),
+        Told::Text(b"02d6adf1689e06135d2b4b4d471f1ae489887b53", 0),
+    ),
+    (Call::Tag(b"v1", 1), Told::Text(b"v1", 0)),
+    (Call::Tag(b"v1", 2), Told::Text(b"T <t@x> 2 -0100", 0)),
+    (Call::Tag(b"v1", 3), Told::Text(b"first", 0)),
+    (Call::Tag(b"v1^{}", 0), Told::Refused(b"WrongKind")),
     (
         Call::File(b"gone", b"test.txt"),
         Told::Refused(b"UnknownRef"),
@@ -133,6 +148,7 @@ fn made(alloc: Global, store: &mut Store, call: Call<'_>) -> u32 {
         Call::Name(revision) => ginlarch_name(alloc, store, revision),
         Call::Ls(revision) => ginlarch_ls(alloc, store, revision),
         Call::Commit(revision, field) => ginlarch_commit(alloc, store, revision, field),
+        Call::Tag(revision, field) => ginlarch_tag(alloc, store, revision, field),
         Call::Archive(revision, prefix) => ginlarch_archive(alloc, store, revision, prefix),
         Call::Export => ginlarch_export(alloc, store),
         Call::Changes => ginlarch_changes(alloc, store, true),
@@ -222,7 +238,7 @@ fn calls_are_answered_as_by_git_or_refused(rt: HostRuntime) {
     let mut store = closed();
     assert!(rt; room.resize(20_000, 0).is_ok());
     assert!(rt; is_opened(rt.alloc(), &mut store));
-    for place in 0..26usize {
+    for place in 0..34usize {
         assert!(rt;
             is_told(rt.alloc(), &mut store, ROWS[place], room.as_mut_slice()),
             "{place}"

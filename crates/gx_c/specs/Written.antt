@@ -11,20 +11,11 @@ use Rattle.gx_model.specs.Laws.ExportLaws.{HaveEncodingsAlone}
 use Rattle.gx_model.specs.Revisions.{RangeWord, revision_of}
 use Rattle.gx_model.specs.Revisions.Ranges.{Word, listed, listing, words_denoted}
 use Rattle.gx_model.specs.Texts.{Bytes}
-use Rattle.gx_rev.specs.declared.fault.RevFault.TheVariants.{OutOfMemory}
-use Rattle.gx_export.specs.declared.fault.ExportFault.{ExportFault}
-use Rattle.gx_export.specs.declared.fault.ExportFault.TheVariants as export
 use Rattle.gx_archive.specs.Archives.{archive_of}
 use Rattle.gx_c.specs.Answers.{AnswersSo, AnswersWords}
 use Rattle.gx_c.specs.declared.answer.Answer.{Answer}
 use Rattle.gx_c.specs.declared.answer.Why.{Why}
 use Rattle.gx_c.specs.declared.answer.Why.TheVariants.{Done, Field, Import, Revision, Store, Unsupported}
-
--- why an export to memory is refused: a sink in memory fails for want of memory alone
-abbrev pub why_of : ExportFault → Why
-why_of export.OutOfMemory = Revision OutOfMemory
-why_of (export.WriteFailed written) = Revision OutOfMemory
-why_of export.Unsupported = Unsupported
 
 -- A stream of these commits is this text, where a stream can say them; and it is refused where none can.
 abbrev pub AnswersStreamSo : {A : Type 0} → List Commit → Bytes → Why → Answer A → Type 0

@@ -1,13 +1,13 @@
 //! The texts that a repository is written as. Source: git-fast-export(1), git-archive(1), and this project's own
 //! format.
 
-ghost use Rattle.std.specs.Prelude.{◌≡◌, Ok, [], map};
+ghost use Rattle.std.specs.Prelude.{map};
 ghost use Rattle.gx_model.specs.Records.HistoryOf.{history_of};
 ghost use Rattle.gx_rev.specs.Views.{shown_range};
 ghost use Rattle.gx_archive.specs.Archives.{archive_of};
 ghost use Rattle.gx_versions.specs.Versions.{text_in};
 ghost use Rattle.gx_c.specs.Answers.{AnswersText};
-ghost use Rattle.gx_c.specs.Written.{AnswersChanges, AnswersExport, AnswersRange, archive_answer, why_of};
+ghost use Rattle.gx_c.specs.Written.{AnswersChanges, AnswersExport, AnswersRange, archive_answer};
 
 use crate::answer::{Answer, Why};
 use gx_archive::{ArchiveFault, archive};
@@ -46,7 +46,8 @@ pub(crate) fn stream<N: Namer, A: Allocator + Copy>(alloc: A, repo: &Repo<N, A>)
     let mut text = Growing::new(alloc);
     match export(alloc, repo, &mut text) {
         Ok(()) => Answer::given(text.into_bytes(), 0),
-        Err(fault) => Answer::refused(alloc, why_of(fault), 0),
+        Err(ExportFault::Unsupported) => Answer::refused(alloc, Why::Unsupported, 0),
+        Err(_) => Answer::refused(alloc, Why::Revision(RevFault::OutOfMemory), 0),
     }
 }
 
@@ -64,7 +65,8 @@ pub(crate) fn changes<N: Namer, A: Allocator + Copy>(
     let mut text = Growing::new(alloc);
     match export_changes(alloc, repo, &mut text, closed) {
         Ok(()) => Answer::given(text.into_bytes(), 0),
-        Err(fault) => Answer::refused(alloc, why_of(fault), 0),
+        Err(ExportFault::Unsupported) => Answer::refused(alloc, Why::Unsupported, 0),
+        Err(_) => Answer::refused(alloc, Why::Revision(RevFault::OutOfMemory), 0),
     }
 }
 
@@ -87,18 +89,11 @@ pub(crate) fn range<N: Namer, A: Allocator + Copy>(
         Err(RangeFault::Walk(fault)) => {
             Answer::refused(alloc, Why::Revision(fault.kind), fault.word as u64)
         }
-        Err(RangeFault::Export(fault)) => Answer::refused(alloc, why_of(fault), 0),
-    }
-}
-
-/// Why an export to memory is refused: one that isn't taken there is refused for want of memory.
-fn why_of(fault: ExportFault) -> Why
-    ensures { result ≡ why_of fault }
-{
-    match fault {
-        ExportFault::Unsupported => Why::Unsupported,
-        ExportFault::OutOfMemory | ExportFault::WriteFailed { .. } => {
-            Why::Revision(RevFault::OutOfMemory)
+        Err(RangeFault::Export(ExportFault::Unsupported)) => {
+            Answer::refused(alloc, Why::Unsupported, 0)
+        }
+        Err(RangeFault::Export(_)) => {
+            Answer::refused(alloc, Why::Revision(RevFault::OutOfMemory), 0)
         }
     }
 }

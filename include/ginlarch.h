@@ -67,6 +67,12 @@ uint32_t ginlarch_growing_text(ginlarch_store *store);
  * fault and the count that of the checkpoints before it: the repository is as the last one left it. */
 uint32_t ginlarch_import(ginlarch_store *store, const uint8_t *stream, size_t length, bool done, bool force);
 
+/* Takes a text of refs and objects, as git-for-each-ref(1) and `git cat-file --batch` print them and
+ * `gx import --objects` reads them: scripts/git-objects prints one. With `force` refs may lose commits. The
+ * count is that of the new objects. Refused, the number is that of the item, from 1, and the repository
+ * stays as it was. The whole repository is copied meanwhile. */
+uint32_t ginlarch_import_objects(ginlarch_store *store, const uint8_t *text, size_t length, bool force);
+
 /* Answers the refs as git-show-ref(1): 40 digits, a space and a name in each line. */
 uint32_t ginlarch_refs(ginlarch_store *store);
 

@@ -165,7 +165,8 @@ def test_commits_are_those_of_git(repository, git: Git, history: Path) -> None:
         lines += [] if made.encoding is None else [b"encoding " + made.encoding.encode()]
         assert (b"\n".join(lines), made.message) == (head, message)
         rest = (head + b"\n").split(b"\ncommitter " + made.committer + b"\n", 1)[1]
-        assert (made.headers, made.header("encoding")) == (rest, made.encoding and made.encoding.encode())
+        told = made.encoding and made.encoding.encode()
+        assert (made.headers, made.header("encoding")) == (rest, told)
 
 
 def test_tags_are_those_of_git(ginlarch, repository, git: Git, history: Path) -> None:

@@ -204,6 +204,15 @@ class Repository:
         answer = self._handle.ask("import", bytes(data), bool(done), bool(force))
         return Report(answer.number, answer.count, answer.data)
 
+    def import_objects(self, data: Union[Bytes, BinaryIO], force: bool = False) -> int:
+        """Takes refs and objects as `git for-each-ref` and `git cat-file --batch` print them, given as bytes or as a
+        file that is read to its end, and tells how many objects are new. So signed commits come, too.
+
+        With `force` refs may lose commits. Refused, the repository stays as it was.
+        """
+        text = data if isinstance(data, (bytes, bytearray, memoryview)) else data.read()
+        return self._handle.ask("import_objects", bytes(text), bool(force)).count
+
     def __getitem__(self, revision: Text) -> Object:
         """The object that a revision gives, as `git cat-file` shows it."""
         name = self.name(revision)

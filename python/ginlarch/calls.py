@@ -51,6 +51,7 @@ _ARGUMENTS = {
     "text": [],
     "growing_text": [],
     "import": _text + _flag + _flag,
+    "import_objects": _text + _flag,
     "refs": [],
     "file": _text + _text,
     "object": _text,

@@ -11,6 +11,8 @@ static const char STREAM[] =
     "feature done\nprogress hello\ncommit refs/heads/main\ncommitter A <a@x> 1 +0000\ndata 2\nv1\nM 100644 inline d/a\ndata 1\nx\n"
     "tag v1\nfrom refs/heads/main^0\ntagger T <t@x> 2 -0100\ndata 5\nfirst\ncheckpoint\ndone\n";
 
+static const char OBJECTS[] = "587be6b4c3f93f93c489c0111bba5596147a26cb blob 2\nx\n\n0000000000000000000000000000000000000000 refs/tags/v1\n";
+
 static long asked, refused = -1;
 
 void *__real_malloc(size_t size);
@@ -59,6 +61,7 @@ static int ask(ginlarch_store *store) {
     count += load_answer(store);
     count += look(store, ginlarch_growing_text(store));
     count += load_answer(store);
+    count += look(store, ginlarch_import_objects(store, TEXT(OBJECTS), false));
     return count + look(store, ginlarch_text(store));
 }
 

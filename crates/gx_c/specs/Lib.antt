@@ -4,6 +4,7 @@ pub mod Calls
 pub mod Fields
 pub mod Importing
 pub mod Listings
+pub mod Objects
 pub mod Owned
 pub mod Tags
 pub mod Written

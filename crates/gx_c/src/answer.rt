@@ -21,6 +21,8 @@ pub enum Why {
     Import(Fault),
     /// A store's text.
     Store(GrowingFault),
+    /// An item of a text of refs and objects, by the word of what is against it.
+    Item(&'static str),
     /// The number of a field.
     Field,
     /// An export, of a commit that has a header but that of an encoding: no stream can say it.
@@ -37,6 +39,7 @@ impl Why {
             Why::Revision(fault) => fault.word(),
             Why::Import(fault) => fault.word(),
             Why::Store(fault) => fault.word(),
+            Why::Item(word) => word,
             Why::Field => "UnknownField",
             Why::Unsupported => "Unsupported",
         }
@@ -48,8 +51,12 @@ impl Why {
     {
         match self {
             Why::Done => DONE,
-            Why::Revision(_) | Why::Import(_) | Why::Store(_) | Why::Field | Why::Unsupported =>
-                REFUSED,
+            Why::Revision(_)
+            | Why::Import(_)
+            | Why::Store(_)
+            | Why::Item(_)
+            | Why::Field
+            | Why::Unsupported => REFUSED,
         }
     }
 }
@@ -63,7 +70,7 @@ pub struct Answer<A: Allocator> {
     pub bytes: Vec<u8, A>,
     /// The mode of a file, or the kind of an object; of an import its commands; the number of what is refused.
     pub number: u64,
-    /// Of an import its objects, or the checkpoints before its fault.
+    /// Of an import its new objects, or the checkpoints before its fault.
     pub count: u64,
 }
 

@@ -65,6 +65,24 @@ pub extern "C" fn ginlarch_import(
     put_back(store, opened)
 }
 
+/// Takes a text of refs and objects into the repository; with `force` refs may lose commits. Where the text is refused the
+/// repository stays as it was.
+#[unsafe(no_mangle)]
+pub extern "C" fn ginlarch_import_objects(
+    alloc: Global,
+    store: &mut Store,
+    text: &[u8],
+    force: bool,
+) -> u32
+    ensures { Calls (called.ImportsObjects force text.now) store.old store.new result }
+{
+    let Some(mut opened) = taken(alloc, store) else {
+        return CLOSED;
+    };
+    opened.import_objects(alloc, text, force);
+    put_back(store, opened)
+}
+
 /// Answers the repository's store text, in the form of the one that was loaded: of version 2 where none was.
 #[unsafe(no_mangle)]
 pub extern "C" fn ginlarch_text(alloc: Global, store: &mut Store) -> u32

@@ -11,6 +11,7 @@ mod held;
 mod importing;
 mod keys;
 mod listing;
+mod objects;
 mod opened;
 mod reading;
 mod store;

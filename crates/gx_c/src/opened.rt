@@ -12,6 +12,7 @@ use crate::answer::{Answer, Why};
 use crate::asking::commits;
 use crate::importing::import;
 use crate::keys::hashing_state;
+use crate::objects::{refusal, taken_into, with_objects};
 use crate::writing::range;
 use gx_model::FileFault;
 use gx_object::Sha1Namer;
@@ -70,6 +71,19 @@ impl Opened {
         ensures { called.Imports done force stream.now self.old self.new }
     {
         self.answer = import(alloc, &mut self.repo, stream, done, force);
+    }
+
+    /// Takes a text of refs and objects into the repository, which stays as it is where the text is refused.
+    pub(crate) fn import_objects(&mut self, alloc: Global, text: &[u8], force: bool)
+        ensures { called.ImportsObjects force text.now self.old self.new }
+    {
+        match with_objects(alloc, &self.repo, self.state, text, force) {
+            Ok(repo) => {
+                self.answer = taken_into(alloc, &self.repo, &repo);
+                self.repo = repo;
+            }
+            Err(fault) => self.answer = refusal(alloc, &fault),
+        }
     }
 
     /// Puts a range word behind the others.

@@ -24,6 +24,8 @@ enum Call<'a> {
     Ls(&'a [u8]),
     Commit(&'a [u8], u32),
     Tag(&'a [u8], u32),
+    /// Of a text of refs and objects.
+    Objects(&'a [u8]),
     Archive(&'a [u8], &'a [u8]),
     Export,
     Changes,
@@ -53,11 +55,15 @@ const STREAM: &[u8] =
 /// A tag of its commit.
 const TAG: &[u8] = b"tag v1\nfrom refs/heads/main^0\ntagger T <t@x> 2 -0100\ndata 5\nfirst";
 
+/// A blob as `git cat-file --batch` prints it, and that the tag goes.
+const OBJECTS: &[u8] =
+    b"587be6b4c3f93f93c489c0111bba5596147a26cb blob 2\nx\n\n0000000000000000000000000000000000000000 refs/tags/v1\n";
+
 /// As `git show-ref` has it.
 const REFS: &[u8] = b"02d6adf1689e06135d2b4b4d471f1ae489887b53 refs/heads/main\n";
 
 /// Calls on the repository of that stream, as git has its commit, tree and fields, and the archive of `main` with the prefix `p/`.
-const ROWS: [(Call<'static>, Told<'static>); 34] = [
+const ROWS: [(Call<'static>, Told<'static>); 38] = [
     (Call::Refs, Told::Text(REFS, 0)),
     (
         Call::File(b"main", b"test.txt"),
@@ -117,6 +123,16 @@ const ROWS: [(Call<'static>, Told<'static>); 34] = [
     (Call::Tag(b"v1", 2), Told::Text(b"T <t@x> 2 -0100", 0)),
     (Call::Tag(b"v1", 3), Told::Text(b"first", 0)),
     (Call::Tag(b"v1^{}", 0), Told::Refused(b"WrongKind")),
+    (Call::Objects(OBJECTS), Told::Text(b"", 0)),
+    (
+        Call::Object(b"587be6b4c3f93f93c489c0111bba5596147a26cb"),
+        Told::Text(b"x\n", 3),
+    ),
+    (Call::Tag(b"v1", 0), Told::Refused(b"UnknownRef")),
+    (
+        Call::Objects(b"1111111111111111111111111111111111111111 refs/heads/a\n"),
+        Told::Refused(b"Dangling"),
+    ),
     (
         Call::File(b"gone", b"test.txt"),
         Told::Refused(b"UnknownRef"),
@@ -149,6 +165,7 @@ fn made(alloc: Global, store: &mut Store, call: Call<'_>) -> u32 {
         Call::Ls(revision) => ginlarch_ls(alloc, store, revision),
         Call::Commit(revision, field) => ginlarch_commit(alloc, store, revision, field),
         Call::Tag(revision, field) => ginlarch_tag(alloc, store, revision, field),
+        Call::Objects(text) => ginlarch_import_objects(alloc, store, text, false),
         Call::Archive(revision, prefix) => ginlarch_archive(alloc, store, revision, prefix),
         Call::Export => ginlarch_export(alloc, store),
         Call::Changes => ginlarch_changes(alloc, store, true),
@@ -238,7 +255,7 @@ fn calls_are_answered_as_by_git_or_refused(rt: HostRuntime) {
     let mut store = closed();
     assert!(rt; room.resize(20_000, 0).is_ok());
     assert!(rt; is_opened(rt.alloc(), &mut store));
-    for place in 0..34usize {
+    for place in 0..38usize {
         assert!(rt;
             is_told(rt.alloc(), &mut store, ROWS[place], room.as_mut_slice()),
             "{place}"

@@ -139,6 +139,12 @@ uint32_t ginlarch_changes(ginlarch_store *store, bool closed);
 /* The same of the commits that the words list, which are forgotten. */
 uint32_t ginlarch_range(ginlarch_store *store, bool closed);
 
+/* Answers a bundle, as `gx bundle` writes it: of the refs that the words name, or of all where none were
+ * given, with the objects that they reach and that what the words exclude doesn't. The words are forgotten.
+ * Where a ref's name is given, as main, its commit is HEAD, too. Refused, the number is that of the word, or
+ * the one behind the words where it is that of HEAD. */
+uint32_t ginlarch_bundle(ginlarch_store *store, const uint8_t *head, size_t length);
+
 /* How many bytes the last call answered. */
 size_t ginlarch_length(ginlarch_store *store);
 

@@ -1,5 +1,5 @@
-"""The Python module beside git over texts of objects, and over commits that no stream can say:
-signed ones, and merges of signed tags.
+"""The Python module beside git over texts of objects and bundles, and over commits that no stream
+can say: signed ones, and merges of signed tags.
 """
 
 from __future__ import annotations
@@ -139,3 +139,42 @@ def test_refused_text_leaves_all(ginlarch, repository, objects: bytes) -> None:
     forced = refusals[5][2]
     assert repository.import_objects(new + forced, force=True) == 1
     assert repository.refs == {"refs/heads/main": first.decode()}
+
+
+# ---- bundles
+
+
+def test_bundle_is_cloned(repository, git: Git, signed: Path, tmp_path: Path) -> None:
+    (tmp_path / "all.bundle").write_bytes(repository.bundle(head="main"))
+    git("clone", "-q", "all.bundle", "copy", cwd=tmp_path)
+    copy = tmp_path / "copy"
+    for revision in ("HEAD", "refs/remotes/origin/main", "v1", "v1^{}", "HEAD^"):
+        ours = revision.replace("refs/remotes/origin/", "").replace("HEAD", "main")
+        assert git("rev-parse", revision, cwd=copy) == git("rev-parse", ours, cwd=signed)
+    assert (copy / "a").read_bytes() == b"a\n"
+
+
+def test_bundle_of_words_is_fetched(repository, git: Git, signed: Path, tmp_path: Path) -> None:
+    git("init", "-q", "--bare", cwd=tmp_path)
+    for words in (["main^..main"], ["^main^", "v1"]):
+        (tmp_path / "new.bundle").write_bytes(repository.bundle(*words))
+        needed = git("bundle", "list-heads", "new.bundle", cwd=tmp_path)
+        name = "refs/heads/main" if words[0].endswith("main") else "refs/tags/v1"
+        assert needed == git("show-ref", name, cwd=signed)
+        head = (tmp_path / "new.bundle").read_bytes().split(b"\n\n", 1)[0]
+        assert b"\n-" + git("rev-parse", "main^", cwd=signed).strip() in head
+
+
+def test_bundle_is_refused(ginlarch, repository) -> None:
+    faults = ginlarch.faults
+    with pytest.raises(faults.UnknownRef) as caught:
+        repository.bundle("main", "gone")
+    assert caught.value.number == 2
+    with pytest.raises(faults.UnknownRef) as caught:
+        repository.bundle("main", head="gone")
+    assert caught.value.number == 2
+    with pytest.raises(faults.WrongKind):
+        repository.bundle(head="v1")
+    with pytest.raises(faults.Empty):
+        repository.bundle("^main")
+    assert repository.bundle("main") == repository.bundle("main")

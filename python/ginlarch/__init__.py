@@ -292,6 +292,14 @@ class Repository:
             file.write(stream)
         return stream
 
+    def bundle(self, *words: Text, head: Optional[Text] = None) -> bytes:
+        """The repository as a bundle for `git clone` and `git fetch`: its refs, or those that range words name, with
+        what they reach and what the words exclude doesn't.
+
+        The ref that `head` names, as `main`, is HEAD, too, which `git clone` checks out.
+        """
+        return self._handle.ask_range("bundle", [_bytes(word) for word in words], _bytes(head or b"")).data
+
     def archive(self, revision: Text, prefix: Text = b"") -> bytes:
         """The tree of a revision as a tar archive, byte for byte that of `git archive`."""
         return self._handle.ask("archive", _bytes(revision), _bytes(prefix)).data

@@ -65,6 +65,7 @@ _ARGUMENTS = {
     "export": [],
     "changes": _flag,
     "range": _flag,
+    "bundle": _text,
 }
 
 
@@ -112,7 +113,7 @@ class Handle:
         self._call(name, *arguments)
         return Answer(self._data(), _number(self._pointer()), _count(self._pointer()))
 
-    def ask_range(self, name: str, words: Sequence[bytes], *arguments: bool) -> Answer:
+    def ask_range(self, name: str, words: Sequence[bytes], *arguments: Union[bytes, bool]) -> Answer:
         """What a call answers of the commits that range words list.
 
         The next such call has its own words alone, whatever ends this one.

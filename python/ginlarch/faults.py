@@ -32,7 +32,7 @@ Truncated BadMagic BadVersion BadRecord NameMismatch BadObject Dangling Duplicat
 BadRows
 """
 
-_OBJECTS = "Missing"
+_OBJECTS = "Missing Empty"
 
 _CLASSES: Dict[str, Type[Refused]] = {
     word: type(word, (Refused,), {"__doc__": f"The fault {word} of docs/FAULTS.md.", "__module__": __name__})

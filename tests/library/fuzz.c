@@ -74,6 +74,7 @@ static uint32_t ask(ginlarch_store *store, uint32_t call, const uint8_t *a, size
     case 17: return ginlarch_growing_text(store);
     case 18: return ginlarch_tag(store, a, n, next(5));
     case 19: return ginlarch_import_objects(store, a, n, next(2));
+    case 20: return ginlarch_bundle(store, a, n);
     default: return ginlarch_range(store, next(2));
     }
 }
@@ -108,7 +109,7 @@ int main(int argc, char **argv) {
         case 1: case 2: case 3:
             expect(ginlarch_open(store, a, n) == (was_open ? GINLARCH_IN_USE : GINLARCH_DONE), "a handle isn't opened");
             break;
-        default: look(store, ask(store, next(21), a, n, b, m), was_open);
+        default: look(store, ask(store, next(22), a, n, b, m), was_open);
         }
         free(a), free(b);
     }

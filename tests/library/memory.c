@@ -57,6 +57,7 @@ static int ask(ginlarch_store *store) {
     count += look(store, ginlarch_word(store, TEXT("main"))) + look(store, ginlarch_walk(store));
     count += look(store, ginlarch_word(store, TEXT("main"))) + look(store, ginlarch_range(store, true));
     count += look(store, ginlarch_archive(store, TEXT("main"), TEXT("p/"))) + look(store, ginlarch_export(store));
+    count += look(store, ginlarch_word(store, TEXT("main"))) + look(store, ginlarch_bundle(store, TEXT("main")));
     count += look(store, ginlarch_changes(store, true)) + look(store, ginlarch_text(store));
     count += load_answer(store);
     count += look(store, ginlarch_growing_text(store));

@@ -23,7 +23,7 @@ use Rattle.gx_growing.specs.Faults as store_words
 use Rattle.gx_rev.specs.Walking.{IsWordFault}
 use Rattle.gx_c.specs.declared.answer.Answer.{Answer}
 use Rattle.gx_c.specs.declared.answer.Why.{Why}
-use Rattle.gx_c.specs.declared.answer.Why.TheVariants.{Done, Field, Import, Item, Revision, Store, Unsupported}
+use Rattle.gx_c.specs.declared.answer.Why.TheVariants.{Done, Empty, Field, Import, Item, Revision, Store, Unsupported}
 
 -- 0 for a call that was accepted, and 1 for one that was refused
 abbrev pub status_of : Why → ℕ
@@ -32,6 +32,7 @@ status_of (Revision fault) = 1
 status_of (Import fault) = 1
 status_of (Store fault) = 1
 status_of (Item told) = 1
+status_of Empty = 1
 status_of Field = 1
 status_of Unsupported = 1
 
@@ -42,6 +43,7 @@ word_of_why (Revision fault) = rev.word fault
 word_of_why (Import fault) = import_words.word_of fault
 word_of_why (Store fault) = store_words.word fault
 word_of_why (Item told) = told.now
+word_of_why Empty = codes "Empty"
 word_of_why Field = codes "UnknownField"
 word_of_why Unsupported = codes "Unsupported"
 
@@ -52,6 +54,7 @@ AnswersSo given (Revision fault) answer = IsFaultOf (rev.fault_of fault) given �
 AnswersSo given (Import fault) answer = ⊥
 AnswersSo given (Store fault) answer = ⊥
 AnswersSo given (Item told) answer = ⊥
+AnswersSo given Empty answer = ⊥
 AnswersSo given Field answer = ⊥
 AnswersSo given Unsupported answer = ⊥
 
@@ -69,6 +72,7 @@ AnswersWords given IsText (Revision fault) answer = IsWordFault answer.number (r
 AnswersWords given IsText (Import fault) answer = ⊥
 AnswersWords given IsText (Store fault) answer = ⊥
 AnswersWords given IsText (Item told) answer = ⊥
+AnswersWords given IsText Empty answer = ⊥
 AnswersWords given IsText Field answer = ⊥
 AnswersWords given IsText Unsupported answer = ⊥
 

@@ -26,6 +26,7 @@ use Rattle.gx_versions.specs.declared.forms.StoreForm.{StoreForm}
 use Rattle.gx_versions.specs.declared.forms.StoreForm.TheVariants.{Growing}
 use Rattle.gx_versions.specs.Versions.{form_of, opened_of, text_in}
 use Rattle.gx_c.specs.Answers as answers
+use Rattle.gx_c.specs.Bundles.{AnswersBundle}
 use Rattle.gx_c.specs.Answers.{Answers, AnswersText}
 use Rattle.gx_c.specs.Written.{AnswersChanges, AnswersExport, AnswersRange, archive_answer}
 use Rattle.gx_c.specs.Fields.{AnswersField}
@@ -119,6 +120,7 @@ AddsWord given (why.Revision fault) was now = IsFaultOf (fault_of fault) given �
 AddsWord given (why.Import fault) was now = ⊥
 AddsWord given (why.Store fault) was now = ⊥
 AddsWord given (why.Item told) was now = ⊥
+AddsWord given why.Empty was now = ⊥
 AddsWord given why.Field was now = ⊥
 AddsWord given why.Unsupported was now = ⊥
 
@@ -136,6 +138,7 @@ LoadsSo form read (why.Store fault) was now = IsGrownFault fault read × (now.re
 LoadsSo form read (why.Revision fault) was now = ⊥
 LoadsSo form read (why.Import fault) was now = ⊥
 LoadsSo form read (why.Item told) was now = ⊥
+LoadsSo form read why.Empty was now = ⊥
 LoadsSo form read why.Field was now = ⊥
 LoadsSo form read why.Unsupported was now = ⊥
 
@@ -157,3 +160,10 @@ pub record ImportsObjects (force : Bool) (text : Bytes) (was now : Opened) : Typ
   pub result : Result (Repository Sha1Namer) (TakeFault Global)
   pub taken : TakesText git_name force was.repo.1 (Some (record { bytes = text; fails = false })) result
   pub told : TellsTaken was.repo now.repo result now.answer
+
+-- the words are used up, and a bundle of what they name is answered
+pub record Bundles (head : Bytes) (was now : Opened) : Type 0 where
+  pub repository : now.repo ≡ was.repo
+  pub form : now.form ≡ was.form
+  pub words : now.words.items ≡ []
+  pub answer : AnswersBundle git_name was.repo.1 (words_of was) head now.answer

@@ -1,4 +1,5 @@
 pub mod Answers
+pub mod Bundles
 pub mod Called
 pub mod Calls
 pub mod Fields

@@ -15,7 +15,7 @@ use Rattle.gx_archive.specs.Archives.{archive_of}
 use Rattle.gx_c.specs.Answers.{AnswersSo, AnswersWords}
 use Rattle.gx_c.specs.declared.answer.Answer.{Answer}
 use Rattle.gx_c.specs.declared.answer.Why.{Why}
-use Rattle.gx_c.specs.declared.answer.Why.TheVariants.{Done, Field, Import, Item, Revision, Store, Unsupported}
+use Rattle.gx_c.specs.declared.answer.Why.TheVariants.{Done, Empty, Field, Import, Item, Revision, Store, Unsupported}
 
 -- A stream of these commits is this text, where a stream can say them; and it is refused where none can.
 abbrev pub AnswersStreamSo : {A : Type 0} → List Commit → Bytes → Why → Answer A → Type 0
@@ -25,6 +25,7 @@ AnswersStreamSo commits text (Revision fault) answer = AnswersSo (Ok (0, text)) 
 AnswersStreamSo commits text (Import fault) answer = ⊥
 AnswersStreamSo commits text (Store fault) answer = ⊥
 AnswersStreamSo commits text (Item told) answer = ⊥
+AnswersStreamSo commits text Empty answer = ⊥
 AnswersStreamSo commits text Field answer = ⊥
 
 abbrev pub AnswersStream : {A : Type 0} → List Commit → Bytes → Answer A → Type 0
@@ -62,6 +63,7 @@ module _ (name : Kind → Bytes → Bytes) (h : History) where
   AnswersRangeSo closed words (Import fault) answer = ⊥
   AnswersRangeSo closed words (Store fault) answer = ⊥
   AnswersRangeSo closed words (Item told) answer = ⊥
+  AnswersRangeSo closed words Empty answer = ⊥
   AnswersRangeSo closed words Field answer = ⊥
 
   abbrev pub AnswersRange : {A : Type 0} → Bool → List RangeWord → Answer A → Type 0

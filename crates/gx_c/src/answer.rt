@@ -23,9 +23,11 @@ pub enum Why {
     Store(GrowingFault),
     /// An item of a text of refs and objects, by the word of what is against it.
     Item(&'static str),
+    /// Range words of a bundle that name no ref.
+    Empty,
     /// The number of a field.
     Field,
-    /// An export, of a commit that has a header but that of an encoding: no stream can say it.
+    /// An export, of a commit that has a header but that of an encoding: no stream can say it. Or a bundle, of 2^32 objects or more.
     Unsupported,
 }
 
@@ -40,6 +42,7 @@ impl Why {
             Why::Import(fault) => fault.word(),
             Why::Store(fault) => fault.word(),
             Why::Item(word) => word,
+            Why::Empty => "Empty",
             Why::Field => "UnknownField",
             Why::Unsupported => "Unsupported",
         }
@@ -55,6 +58,7 @@ impl Why {
             | Why::Import(_)
             | Why::Store(_)
             | Why::Item(_)
+            | Why::Empty
             | Why::Field
             | Why::Unsupported => REFUSED,
         }

@@ -4,6 +4,7 @@
 
 mod answer;
 mod asking;
+mod bundling;
 mod calls;
 mod fields;
 mod handing;

@@ -10,6 +10,7 @@ ghost use Rattle.gx_c.specs.Calls.{IsNew};
 
 use crate::answer::{Answer, Why};
 use crate::asking::commits;
+use crate::bundling::bundle;
 use crate::importing::import;
 use crate::keys::hashing_state;
 use crate::objects::{refusal, taken_into, with_objects};
@@ -110,6 +111,14 @@ impl Opened {
     {
         let words = replace(&mut self.words, Vec::new(alloc));
         self.answer = range(alloc, &self.repo, &words, closed);
+    }
+
+    /// Bundles what the words name, and forgets them. The ref of a name that isn't empty is HEAD, too.
+    pub(crate) fn bundle(&mut self, alloc: Global, head: &[u8])
+        ensures { called.Bundles head.now self.old self.new }
+    {
+        let words = replace(&mut self.words, Vec::new(alloc));
+        self.answer = bundle(alloc, &self.repo, self.state, &words, head);
     }
 }
 

@@ -67,6 +67,12 @@ uint32_t ginlarch_growing_text(ginlarch_store *store);
  * fault and the count that of the checkpoints before it: the repository is as the last one left it. */
 uint32_t ginlarch_import(ginlarch_store *store, const uint8_t *stream, size_t length, bool done, bool force);
 
+/* Takes a text of refs and objects, as git-for-each-ref(1) and `git cat-file --batch` print them and
+ * `gx import --objects` reads them: scripts/git-objects prints one. With `force` refs may lose commits. The
+ * count is that of the new objects. Refused, the number is that of the item, from 1, and the repository
+ * stays as it was. The whole repository is copied meanwhile. */
+uint32_t ginlarch_import_objects(ginlarch_store *store, const uint8_t *text, size_t length, bool force);
+
 /* Answers the refs as git-show-ref(1): 40 digits, a space and a name in each line. */
 uint32_t ginlarch_refs(ginlarch_store *store);
 
@@ -100,12 +106,25 @@ enum {
     GINLARCH_AUTHOR = 2,     /* NAME <EMAIL> SECONDS ZONE */
     GINLARCH_COMMITTER = 3,  /* the same */
     GINLARCH_ENCODING = 4,   /* that of the message, or nothing where the commit tells none */
-    GINLARCH_MESSAGE = 5     /* the message, with its last LF where it has one */
+    GINLARCH_MESSAGE = 5,    /* the message, with its last LF where it has one */
+    GINLARCH_HEADERS = 6     /* the header lines behind the committer's, each with its LF, as gpgsig */
 };
 
 /* Answers a field of the commit that a revision gives, where a tag gives its commit. A number that is none
  * of the fields is refused with the word UnknownField, whatever the revision is. */
 uint32_t ginlarch_commit(ginlarch_store *store, const uint8_t *revision, size_t length, uint32_t field);
+
+/* The fields of a tag. */
+enum {
+    GINLARCH_TAG_TARGET = 0,   /* the 40 digits of the commit that it tags */
+    GINLARCH_TAG_NAME = 1,     /* its name, as v1 */
+    GINLARCH_TAG_TAGGER = 2,   /* NAME <EMAIL> SECONDS ZONE, or nothing where the tag tells none */
+    GINLARCH_TAG_MESSAGE = 3   /* the message, with its last LF where it has one */
+};
+
+/* Answers a field of the tag that a revision gives; what gives anything else is refused with the word
+ * WrongKind. A number that is none of the fields is refused as of a commit. */
+uint32_t ginlarch_tag(ginlarch_store *store, const uint8_t *revision, size_t length, uint32_t field);
 
 /* Answers the archive of a revision's tree as git-archive(1), with these bytes before each path. */
 uint32_t ginlarch_archive(ginlarch_store *store, const uint8_t *revision, size_t revision_length,
@@ -119,6 +138,12 @@ uint32_t ginlarch_changes(ginlarch_store *store, bool closed);
 
 /* The same of the commits that the words list, which are forgotten. */
 uint32_t ginlarch_range(ginlarch_store *store, bool closed);
+
+/* Answers a bundle, as `gx bundle` writes it: of the refs that the words name, or of all where none were
+ * given, with the objects that they reach and that what the words exclude doesn't. The words are forgotten.
+ * Where a ref's name is given, as main, its commit is HEAD, too. Refused, the number is that of the word, or
+ * the one behind the words where it is that of HEAD. */
+uint32_t ginlarch_bundle(ginlarch_store *store, const uint8_t *head, size_t length);
 
 /* How many bytes the last call answered. */
 size_t ginlarch_length(ginlarch_store *store);

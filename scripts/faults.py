@@ -55,7 +55,7 @@ RUNS, OF_RUNS = "gx/src/fault.rt", {"bundle": "Bundles"}
 # what no line of a push is refused for, since its objects come from the stream, and what is told without a part
 UNTOLD = {("Pushes", word) for word in ("BadRefName", "UnknownObject", "WrongKind")} | {("Stores", "ReadFailed"), ("Bundles", "Stopped")}
 # what has the word of another fault
-UNTOLD |= {("Texts of objects", "Unread"), ("Texts of objects", "DanglingRef")}
+UNTOLD |= {("Texts of objects", "Unread"), ("Texts of objects", "DanglingRef"), ("The library", "Item")}
 
 
 def words_of(place):

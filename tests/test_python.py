@@ -164,6 +164,20 @@ def test_commits_are_those_of_git(repository, git: Git, history: Path) -> None:
         lines += [b"author " + made.author, b"committer " + made.committer]
         lines += [] if made.encoding is None else [b"encoding " + made.encoding.encode()]
         assert (b"\n".join(lines), made.message) == (head, message)
+        rest = (head + b"\n").split(b"\ncommitter " + made.committer + b"\n", 1)[1]
+        told = made.encoding and made.encoding.encode()
+        assert (made.headers, made.header("encoding")) == (rest, told)
+
+
+def test_tags_are_those_of_git(ginlarch, repository, git: Git, history: Path) -> None:
+    head, message = git("cat-file", "tag", "v1", cwd=history).split(b"\n\n", 1)
+    target, _, name, tagger = (line.split(b" ", 1)[1] for line in head.split(b"\n"))
+    assert repository.tag("v1") == (target.decode(), name.decode(), tagger, message)
+    repository.import_stream(b"tag bare\nfrom refs/heads/main^0\ndata 0\n")
+    assert repository.tag("bare") == (repository.name("main"), "bare", None, b"")
+    for other in ["v1^{}", "main:doc", "main:run"]:
+        with pytest.raises(ginlarch.faults.WrongKind):
+            repository.tag(other)
 
 
 @pytest.mark.parametrize("words", ["", "main topic v1 odd", None], ids=["all", "words", "files"])
@@ -214,10 +228,13 @@ def test_refusals_have_their_words(ginlarch, repository) -> None:
         ginlarch.Repository.from_bytes(b"no store\n")
 
 
+@pytest.mark.parametrize("call, number", [("commit", 7), ("tag", 4)])
 @pytest.mark.parametrize("revision", [b"main", b"gone"])
-def test_number_of_no_field_is_refused(ginlarch, repository, revision: bytes) -> None:
+def test_number_of_no_field_is_refused(
+    ginlarch, repository, revision: bytes, call: str, number: int
+) -> None:
     with pytest.raises(ginlarch.Refused) as caught:
-        repository._handle.ask("commit", revision, 6)
+        repository._handle.ask(call, revision, number)
     assert caught.value.word == "UnknownField"
 
 

@@ -10,6 +10,7 @@ GINLARCH_LIBRARY says, then where the system has libraries. To save a store it n
 the variable GX names, or PATH has. Nothing else is needed but Python 3.8.
 """
 import contextlib
+import re
 from dataclasses import dataclass
 from typing import BinaryIO, Dict, Iterator, List, NamedTuple, Optional, Tuple, Union
 
@@ -17,7 +18,10 @@ from . import calls, files
 from .faults import Closed, Refused
 from .files import StoreChanged, StoreLocked
 
-__all__ = ["Closed", "Commit", "Entry", "File", "Object", "Refused", "Report", "Repository", "StoreChanged", "StoreLocked"]
+__all__ = ["Closed", "Commit", "Entry", "File", "Object", "Refused", "Report", "Repository", "StoreChanged", "StoreLocked", "Tag"]
+
+# a line, and those that continue it, which begin with a space
+_CONTINUED = re.compile(rb"^[^ \n][^\n]*\n(?: [^\n]*\n)*", re.MULTILINE)
 
 Bytes = Union[bytes, bytearray, memoryview]
 Text = Union[str, Bytes]
@@ -51,7 +55,8 @@ class Entry(NamedTuple):
 class Commit:
     """A commit: the names of its tree and its parents, and its texts. The encoding is that of the message, where one is told.
 
-    The author and the committer are `NAME <EMAIL> SECONDS ZONE`.
+    The author and the committer are `NAME <EMAIL> SECONDS ZONE`. The headers are the lines between that of the
+    committer and the message, as they stand, each with its LF.
     """
 
     tree: str
@@ -59,6 +64,30 @@ class Commit:
     author: bytes
     committer: bytes
     encoding: Optional[str]
+    message: bytes
+    headers: bytes = b""
+
+    def header(self, name: Text) -> Optional[bytes]:
+        """What the first header of this name has, as `gpgsig`; None where there is none.
+
+        The lines that continue it come without the space that they begin with. The last line has no LF.
+        """
+        return next((told for called, told in _unfolded(self.headers) if called == _bytes(name)), None)
+
+    def header_items(self) -> List[Tuple[bytes, bytes]]:
+        """The names of all headers, in order, each with what it has. A name may come again, as `mergetag`."""
+        return list(_unfolded(self.headers))
+
+
+class Tag(NamedTuple):
+    """A tag: the name of the commit that it tags, its own name, who made it where that is told, and its message.
+
+    The tagger is `NAME <EMAIL> SECONDS ZONE`.
+    """
+
+    target: str
+    name: str
+    tagger: Optional[bytes]
     message: bytes
 
 
@@ -80,6 +109,12 @@ def _bytes(text: Text) -> bytes:
 
 def _text(data: bytes) -> str:
     return data.decode("utf-8", "surrogateescape")
+
+
+def _unfolded(headers: bytes) -> Iterator[Tuple[bytes, bytes]]:
+    for lines in _CONTINUED.findall(headers):
+        name, _, told = lines[:-1].replace(b"\n ", b"\n").partition(b" ")
+        yield name, told
 
 
 def _entry(listed: bytes) -> Entry:
@@ -169,6 +204,15 @@ class Repository:
         answer = self._handle.ask("import", bytes(data), bool(done), bool(force))
         return Report(answer.number, answer.count, answer.data)
 
+    def import_objects(self, data: Union[Bytes, BinaryIO], force: bool = False) -> int:
+        """Takes refs and objects as `git for-each-ref` and `git cat-file --batch` print them, given as bytes or as a
+        file that is read to its end, and tells how many objects are new. So signed commits come, too.
+
+        With `force` refs may lose commits. Refused, the repository stays as it was.
+        """
+        text = data if isinstance(data, (bytes, bytearray, memoryview)) else data.read()
+        return self._handle.ask("import_objects", bytes(text), bool(force)).count
+
     def __getitem__(self, revision: Text) -> Object:
         """The object that a revision gives, as `git cat-file` shows it."""
         name = self.name(revision)
@@ -181,11 +225,16 @@ class Repository:
 
     def commit(self, revision: Text) -> Commit:
         """The commit that a revision gives; of a tag, the commit that it names."""
-        tree, parents, author, committer, encoding, message = (
-            self._handle.ask("commit", _bytes(revision), field).data for field in range(6)
+        tree, parents, author, committer, encoding, message, headers = (
+            self._handle.ask("commit", _bytes(revision), field).data for field in range(7)
         )
         names = tuple(parents.decode("ascii").split())
-        return Commit(tree.decode("ascii"), names, author, committer, _text(encoding) or None, message)
+        return Commit(tree.decode("ascii"), names, author, committer, _text(encoding) or None, message, headers)
+
+    def tag(self, revision: Text) -> Tag:
+        """The tag that a revision gives; of a commit, also one that is tagged, it raises `faults.WrongKind`."""
+        target, name, tagger, message = (self._handle.ask("tag", _bytes(revision), field).data for field in range(4))
+        return Tag(target.decode("ascii"), _text(name), tagger or None, message)
 
     def ls(self, revision: Text, recursive: bool = False) -> List[Entry]:
         """The entries of a revision's tree, as `git ls-tree` lists them; or all of its files, as with `-r`."""
@@ -242,6 +291,14 @@ class Repository:
         if file is not None:
             file.write(stream)
         return stream
+
+    def bundle(self, *words: Text, head: Optional[Text] = None) -> bytes:
+        """The repository as a bundle for `git clone` and `git fetch`: its refs, or those that range words name, with
+        what they reach and what the words exclude doesn't.
+
+        The ref that `head` names, as `main`, is HEAD, too, which `git clone` checks out.
+        """
+        return self._handle.ask_range("bundle", [_bytes(word) for word in words], _bytes(head or b"")).data
 
     def archive(self, revision: Text, prefix: Text = b"") -> bytes:
         """The tree of a revision as a tar archive, byte for byte that of `git archive`."""

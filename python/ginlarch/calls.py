@@ -51,6 +51,7 @@ _ARGUMENTS = {
     "text": [],
     "growing_text": [],
     "import": _text + _flag + _flag,
+    "import_objects": _text + _flag,
     "refs": [],
     "file": _text + _text,
     "object": _text,
@@ -59,10 +60,12 @@ _ARGUMENTS = {
     "walk": [],
     "ls": _text,
     "commit": _text + [ctypes.c_uint32],
+    "tag": _text + [ctypes.c_uint32],
     "archive": _text + _text,
     "export": [],
     "changes": _flag,
     "range": _flag,
+    "bundle": _text,
 }
 
 
@@ -110,7 +113,7 @@ class Handle:
         self._call(name, *arguments)
         return Answer(self._data(), _number(self._pointer()), _count(self._pointer()))
 
-    def ask_range(self, name: str, words: Sequence[bytes], *arguments: bool) -> Answer:
+    def ask_range(self, name: str, words: Sequence[bytes], *arguments: Union[bytes, bool]) -> Answer:
         """What a call answers of the commits that range words list.
 
         The next such call has its own words alone, whatever ends this one.

@@ -9,8 +9,8 @@ class Closed(Exception):
 class Refused(Exception):
     """A call was refused: `word` is the word of docs/FAULTS.md, after which the class is named.
 
-    `number` is that of the command of a stream, or of the range word, that is at fault, and 0 for any other
-    call. `checkpoints` tells how many of a stream were applied before.
+    `number` is that of the command of a stream, of the item of a text of objects, or of the range word, that
+    is at fault, and 0 for any other call. `checkpoints` tells how many of a stream were applied before.
     """
 
     def __init__(self, word: str, number: int = 0, checkpoints: int = 0) -> None:
@@ -32,9 +32,11 @@ Truncated BadMagic BadVersion BadRecord NameMismatch BadObject Dangling Duplicat
 BadRows
 """
 
+_OBJECTS = "Missing Empty"
+
 _CLASSES: Dict[str, Type[Refused]] = {
     word: type(word, (Refused,), {"__doc__": f"The fault {word} of docs/FAULTS.md.", "__module__": __name__})
-    for word in (_REVISIONS + _STREAMS + _STORES).split()
+    for word in (_REVISIONS + _STREAMS + _STORES + _OBJECTS).split()
 }
 
 globals().update(_CLASSES)

@@ -11,12 +11,15 @@ enum { HANDLES = 3, MOST = 2048 };
     "00000000000000000000 00000000000000000000 0000000000000000000000000000000000000000000000000000000000000000\n" \
     "objects 0\nrows 0\n\nruns 0\nrefs 0\nend\n"
 
+/* as `git cat-file --batch` prints it */
+#define BLOB "587be6b4c3f93f93c489c0111bba5596147a26cb blob 2\nx\n\n"
+
 static const char *const WORDS[] = {
     "main", "v1", "refs/heads/main", "main^", "main~2", "main:a", "main:", "^main", "main..v1", "...", "@", "main^{tree}", "", "a/../b", "a",
     "blob\nmark :1\ndata 1\nx\n", "feature done\n", "done\n", "checkpoint\n", "progress hello\n", "reset refs/heads/b\nfrom refs/heads/main\n\n",
     "commit refs/heads/main\ncommitter A <a@x> 1 +0000\ndata 2\nv1\nM 100644 inline a\ndata 1\nx\n",
     "tag v1\nfrom refs/heads/main\ntagger A <a@x> 1 +0000\ndata 1\nt\n", "gxstore 2\nobjects 0\nrefs 0\nend\n", "gxstore 2\nobjects 1\nblob 0 ",
-    EMPTY_GROWING, "gxstore 3\na\n",
+    EMPTY_GROWING, "gxstore 3\na\n", BLOB, "0000000000000000000000000000000000000000 refs/tags/v1\n",
 };
 
 static uint64_t state;
@@ -69,6 +72,9 @@ static uint32_t ask(ginlarch_store *store, uint32_t call, const uint8_t *a, size
     case 15: return ginlarch_ls(store, a, n);
     case 16: return ginlarch_commit(store, a, n, next(8));
     case 17: return ginlarch_growing_text(store);
+    case 18: return ginlarch_tag(store, a, n, next(5));
+    case 19: return ginlarch_import_objects(store, a, n, next(2));
+    case 20: return ginlarch_bundle(store, a, n);
     default: return ginlarch_range(store, next(2));
     }
 }
@@ -103,7 +109,7 @@ int main(int argc, char **argv) {
         case 1: case 2: case 3:
             expect(ginlarch_open(store, a, n) == (was_open ? GINLARCH_IN_USE : GINLARCH_DONE), "a handle isn't opened");
             break;
-        default: look(store, ask(store, next(19), a, n, b, m), was_open);
+        default: look(store, ask(store, next(22), a, n, b, m), was_open);
         }
         free(a), free(b);
     }

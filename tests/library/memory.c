@@ -9,7 +9,9 @@
 
 static const char STREAM[] =
     "feature done\nprogress hello\ncommit refs/heads/main\ncommitter A <a@x> 1 +0000\ndata 2\nv1\nM 100644 inline d/a\ndata 1\nx\n"
-    "checkpoint\ndone\n";
+    "tag v1\nfrom refs/heads/main^0\ntagger T <t@x> 2 -0100\ndata 5\nfirst\ncheckpoint\ndone\n";
+
+static const char OBJECTS[] = "587be6b4c3f93f93c489c0111bba5596147a26cb blob 2\nx\n\n0000000000000000000000000000000000000000 refs/tags/v1\n";
 
 static long asked, refused = -1;
 
@@ -50,14 +52,17 @@ static int ask(ginlarch_store *store) {
     int count = look(store, ginlarch_refs(store)) + look(store, ginlarch_file(store, TEXT("main"), TEXT("d/a")))
         + look(store, ginlarch_object(store, TEXT("main^{tree}"))) + look(store, ginlarch_name(store, TEXT("main~0")))
         + look(store, ginlarch_ls(store, TEXT("main:d")));
-    for (uint32_t field = 0; field < 6; field++) count += look(store, ginlarch_commit(store, TEXT("main"), field));
+    for (uint32_t field = 0; field < 7; field++) count += look(store, ginlarch_commit(store, TEXT("main"), field));
+    for (uint32_t field = 0; field < 4; field++) count += look(store, ginlarch_tag(store, TEXT("v1"), field));
     count += look(store, ginlarch_word(store, TEXT("main"))) + look(store, ginlarch_walk(store));
     count += look(store, ginlarch_word(store, TEXT("main"))) + look(store, ginlarch_range(store, true));
     count += look(store, ginlarch_archive(store, TEXT("main"), TEXT("p/"))) + look(store, ginlarch_export(store));
+    count += look(store, ginlarch_word(store, TEXT("main"))) + look(store, ginlarch_bundle(store, TEXT("main")));
     count += look(store, ginlarch_changes(store, true)) + look(store, ginlarch_text(store));
     count += load_answer(store);
     count += look(store, ginlarch_growing_text(store));
     count += load_answer(store);
+    count += look(store, ginlarch_import_objects(store, TEXT(OBJECTS), false));
     return count + look(store, ginlarch_text(store));
 }
 

@@ -9,7 +9,7 @@ use Rattle.gx_rev.specs.declared.fault.RevFault.TheVariants.{OutOfMemory}
 use Rattle.gx_c.specs.Answers.{AnswersSo, AnswersWords, digits_line}
 use Rattle.gx_c.specs.declared.answer.Answer.{Answer}
 use Rattle.gx_c.specs.declared.answer.Why.{Why}
-use Rattle.gx_c.specs.declared.answer.Why.TheVariants.{Done, Field, Import, Revision, Store}
+use Rattle.gx_c.specs.declared.answer.Why.TheVariants.{Done, Empty, Field, Import, Item, Revision, Store, Unsupported}
 
 -- names by their bytes
 lines_of : (names : List Name) → flat_map (λ name. digits_line name.bytes) names ≡ flat_map digits_line (map (λ name. name.bytes) names)
@@ -32,4 +32,7 @@ module _ {A : Type 0} (given : Result (List Bytes) WordFault) (answer : Answer A
   walked (Revision fault) none h = absurd (cc h.0)
   walked (Import fault) none h = absurd h
   walked (Store fault) none h = absurd h
+  walked (Item told) none h = absurd h
+  walked Empty none h = absurd h
   walked Field none h = absurd h
+  walked Unsupported none h = absurd h

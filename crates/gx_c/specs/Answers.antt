@@ -23,7 +23,7 @@ use Rattle.gx_growing.specs.Faults as store_words
 use Rattle.gx_rev.specs.Walking.{IsWordFault}
 use Rattle.gx_c.specs.declared.answer.Answer.{Answer}
 use Rattle.gx_c.specs.declared.answer.Why.{Why}
-use Rattle.gx_c.specs.declared.answer.Why.TheVariants.{Done, Field, Import, Revision, Store}
+use Rattle.gx_c.specs.declared.answer.Why.TheVariants.{Done, Empty, Field, Import, Item, Revision, Store, Unsupported}
 
 -- 0 for a call that was accepted, and 1 for one that was refused
 abbrev pub status_of : Why → ℕ
@@ -31,7 +31,10 @@ status_of Done = 0
 status_of (Revision fault) = 1
 status_of (Import fault) = 1
 status_of (Store fault) = 1
+status_of (Item told) = 1
+status_of Empty = 1
 status_of Field = 1
+status_of Unsupported = 1
 
 -- the name of the fault
 abbrev pub word_of_why : Why → Bytes
@@ -39,7 +42,10 @@ word_of_why Done = []
 word_of_why (Revision fault) = rev.word fault
 word_of_why (Import fault) = import_words.word_of fault
 word_of_why (Store fault) = store_words.word fault
+word_of_why (Item told) = told.now
+word_of_why Empty = codes "Empty"
 word_of_why Field = codes "UnknownField"
+word_of_why Unsupported = codes "Unsupported"
 
 -- The number and the bytes are those that are given, or the fault is told, with no bytes; unless memory ran out.
 abbrev pub AnswersSo : {A : Type 0} → Given (ℕ × Bytes) → Why → Answer A → Type 0
@@ -47,7 +53,10 @@ AnswersSo given Done answer = given ≡ Ok (answer.number, answer.bytes.items)
 AnswersSo given (Revision fault) answer = IsFaultOf (rev.fault_of fault) given × (answer.bytes.items ≡ [])
 AnswersSo given (Import fault) answer = ⊥
 AnswersSo given (Store fault) answer = ⊥
+AnswersSo given (Item told) answer = ⊥
+AnswersSo given Empty answer = ⊥
 AnswersSo given Field answer = ⊥
+AnswersSo given Unsupported answer = ⊥
 
 abbrev pub Answers : {A : Type 0} → Given (ℕ × Bytes) → Answer A → Type 0
 Answers given answer = AnswersSo given answer.why answer
@@ -62,7 +71,10 @@ AnswersWords given IsText Done answer = IsText answer.bytes.items
 AnswersWords given IsText (Revision fault) answer = IsWordFault answer.number (rev.fault_of fault) given × (answer.bytes.items ≡ [])
 AnswersWords given IsText (Import fault) answer = ⊥
 AnswersWords given IsText (Store fault) answer = ⊥
+AnswersWords given IsText (Item told) answer = ⊥
+AnswersWords given IsText Empty answer = ⊥
 AnswersWords given IsText Field answer = ⊥
+AnswersWords given IsText Unsupported answer = ⊥
 
 -- the digits of a name, in a line
 abbrev pub digits_line : Bytes → Bytes

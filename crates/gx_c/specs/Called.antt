@@ -1,12 +1,10 @@
 -- What each call makes of what a handle holds.
 -- Source: gitrevisions(7), git-cat-file(1), git-show-ref(1), git-rev-list(1), git-archive(1), git-fast-export(1) and git-fast-import(1).
-use Rattle.std.specs.Prelude.{◌≡◌, ℕ, Bool, List, [], ◌∷◌, ◌++◌, map, Result, Ok, Err}
+use Rattle.std.specs.Prelude.{◌≡◌, ℕ, Bool, false, List, [], ◌∷◌, ◌++◌, map, Some, Result, Ok, Err}
 use Rattle.std.specs.List.{flat_map}
 use Rattle.std.specs.declared.alloc.Global.{Global}
 use Rattle.sha1.specs.Sha1.{sha1}
 use Rattle.gx_model.specs.declared.objects.Kind.{Kind}
-use Rattle.gx_model.specs.Changes.{changes_text}
-use Rattle.gx_model.specs.Export.{export_text}
 use Rattle.gx_model.specs.Faults.{Given, IsFaultOf, ◌>>=◌}
 use Rattle.gx_model.specs.Histories.{History, Records}
 use Rattle.gx_model.specs.Objects.Naming.{record_text}
@@ -20,15 +18,22 @@ use Rattle.gx_rev.specs.RevFaults.{fault_of}
 use Rattle.gx_rev.specs.Views.{shown_range}
 use Rattle.gx_rev.specs.declared.fault.RevFault.{RevFault}
 use Rattle.gx_rev.specs.declared.range.Range.{Range as RangeHeld}
+use Rattle.gx_object.specs.declared.namer.Sha1Namer.{Sha1Namer}
+use Rattle.gx_repo.specs.Repositories.{Repository}
+use Rattle.gx_taken.specs.Calls.{TakesText}
+use Rattle.gx_taken.specs.declared.fault.TakeFault.{TakeFault}
 use Rattle.gx_versions.specs.declared.forms.StoreForm.{StoreForm}
 use Rattle.gx_versions.specs.declared.forms.StoreForm.TheVariants.{Growing}
 use Rattle.gx_versions.specs.Versions.{form_of, opened_of, text_in}
 use Rattle.gx_c.specs.Answers as answers
+use Rattle.gx_c.specs.Bundles.{AnswersBundle}
 use Rattle.gx_c.specs.Answers.{Answers, AnswersText}
-use Rattle.gx_c.specs.Written.{AnswersRange, archive_answer}
+use Rattle.gx_c.specs.Written.{AnswersChanges, AnswersExport, AnswersRange, archive_answer}
 use Rattle.gx_c.specs.Fields.{AnswersField}
 use Rattle.gx_c.specs.Listings.{listing_of}
+use Rattle.gx_c.specs.Tags.{AnswersTag}
 use Rattle.gx_c.specs.Importing.{AnswersImport, features_of}
+use Rattle.gx_c.specs.Objects.{TellsTaken}
 use Rattle.gx_c.specs.declared.answer.Answer.{Answer}
 use Rattle.gx_c.specs.declared.answer.Why.{Why}
 use Rattle.gx_c.specs.declared.answer.Why.TheVariants as why
@@ -78,14 +83,17 @@ Lists revision = Asks (λ repository. AnswersText (listing_of git_name (history_
 abbrev pub Commit : Bytes → ℕ → Opened → Opened → Type 0
 Commit revision number = Asks (λ repository. AnswersField git_name (history_of repository) revision number)
 
+abbrev pub Tag : Bytes → ℕ → Opened → Opened → Type 0
+Tag revision number = Asks (λ repository. AnswersTag git_name (history_of repository) revision number)
+
 abbrev pub Archive : Bytes → Bytes → Opened → Opened → Type 0
 Archive revision prefix = Asks (λ repository. AnswersText (archive_answer git_name (history_of repository) revision prefix))
 
 abbrev pub Export : Opened → Opened → Type 0
-Export = Asks (λ repository. AnswersText (Ok (export_text (history_of repository))))
+Export = Asks (λ repository. AnswersExport (history_of repository))
 
 abbrev pub Changes : Bool → Opened → Opened → Type 0
-Changes closed = Asks (λ repository. AnswersText (Ok (changes_text git_name closed (history_of repository))))
+Changes closed = Asks (λ repository. AnswersChanges git_name (history_of repository) closed)
 
 -- The words are used up, and this is answered.
 pub record Uses (IsAnswer : History → List RangeWord → Answer Global → Type 0) (was now : Opened) : Type 0 where
@@ -111,7 +119,10 @@ AddsWord given why.Done was now = (given >>= λ word. Ok (words_of was ++ word �
 AddsWord given (why.Revision fault) was now = IsFaultOf (fault_of fault) given × (words_of now ≡ words_of was)
 AddsWord given (why.Import fault) was now = ⊥
 AddsWord given (why.Store fault) was now = ⊥
+AddsWord given (why.Item told) was now = ⊥
+AddsWord given why.Empty was now = ⊥
 AddsWord given why.Field was now = ⊥
+AddsWord given why.Unsupported was now = ⊥
 
 pub record Word (text : Bytes) (was now : Opened) : Type 0 where
   pub repository : now.repo ≡ was.repo
@@ -126,7 +137,10 @@ LoadsSo form read why.Done was now = (read ≡ Ok now.repo.1) × (now.form ≡ f
 LoadsSo form read (why.Store fault) was now = IsGrownFault fault read × (now.repo ≡ was.repo) × (now.form ≡ was.form)
 LoadsSo form read (why.Revision fault) was now = ⊥
 LoadsSo form read (why.Import fault) was now = ⊥
+LoadsSo form read (why.Item told) was now = ⊥
+LoadsSo form read why.Empty was now = ⊥
 LoadsSo form read why.Field was now = ⊥
+LoadsSo form read why.Unsupported was now = ⊥
 
 pub record Loads (text : Bytes) (was now : Opened) : Type 0 where
   pub words : now.words ≡ was.words
@@ -138,3 +152,18 @@ pub record Imports (done force : Bool) (stream : Bytes) (was now : Opened) : Typ
   pub form : now.form ≡ was.form
   pub words : now.words ≡ was.words
   pub imported : AnswersImport (λ _. git_name) (features_of done force) was.repo now.repo stream now.answer
+
+-- a text of refs and objects is taken, and the form and the words stay
+pub record ImportsObjects (force : Bool) (text : Bytes) (was now : Opened) : Type 0 where
+  pub form : now.form ≡ was.form
+  pub words : now.words ≡ was.words
+  pub result : Result (Repository Sha1Namer) (TakeFault Global)
+  pub taken : TakesText git_name force was.repo.1 (Some (record { bytes = text; fails = false })) result
+  pub told : TellsTaken was.repo now.repo result now.answer
+
+-- the words are used up, and a bundle of what they name is answered
+pub record Bundles (head : Bytes) (was now : Opened) : Type 0 where
+  pub repository : now.repo ≡ was.repo
+  pub form : now.form ≡ was.form
+  pub words : now.words.items ≡ []
+  pub answer : AnswersBundle git_name was.repo.1 (words_of was) head now.answer

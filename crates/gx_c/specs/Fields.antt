@@ -15,18 +15,19 @@ use Rattle.gx_c.specs.Answers.{AnswersText, digits_line}
 use Rattle.gx_c.specs.declared.answer.Answer.{Answer}
 use Rattle.gx_c.specs.declared.answer.Why.TheVariants as why
 use Rattle.gx_c.specs.declared.fields.Field.{Field}
-use Rattle.gx_c.specs.declared.fields.Field.TheVariants.{Tree, Parents, Author, Committer, Encoding, Message}
+use Rattle.gx_c.specs.declared.fields.Field.TheVariants.{Tree, Parents, Author, Committer, Encoding, Message, Headers}
 
 -- the fields in the order of their numbers, from 0
 abbrev pub fields : List Field
-fields = Tree ∷ Parents ∷ Author ∷ Committer ∷ Encoding ∷ Message ∷ []
+fields = Tree ∷ Parents ∷ Author ∷ Committer ∷ Encoding ∷ Message ∷ Headers ∷ []
 
 -- the bytes, or none
 abbrev pub or_empty : Option Bytes → Bytes
 or_empty None = []
 or_empty (Some bytes) = bytes
 
--- The text of a field: the tree's digits, those of each parent in a line, an identity, an encoding or nothing, and the message.
+-- The text of a field: the tree's digits, those of each parent in a line, an identity, an encoding or nothing, the message, and the
+-- header lines behind the committer's.
 abbrev pub field_text : Field → CommitParts → Bytes
 field_text Tree parts = hex parts.tree
 field_text Parents parts = flat_map digits_line parts.parents
@@ -34,9 +35,10 @@ field_text Author parts = parts.text.author
 field_text Committer parts = parts.text.committer
 field_text Encoding parts = or_empty (encoding_in parts.text.headers)
 field_text Message parts = parts.text.message
+field_text Headers parts = parts.text.headers
 
 -- What a call answers of a field. Where no field has the number, that is told, whatever the others give.
-abbrev pub AnswersNumbered : {A : Type 0} → Option Field → (Field → Given Bytes) → Answer A → Type 0
+abbrev pub AnswersNumbered : {F A : Type 0} → Option F → (F → Given Bytes) → Answer A → Type 0
 AnswersNumbered (Some field) given answer = AnswersText (given field) answer
 AnswersNumbered None given answer = (answer.why ≡ why.Field) × (answer.bytes.items ≡ [])
 

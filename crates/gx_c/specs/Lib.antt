@@ -1,8 +1,11 @@
 pub mod Answers
+pub mod Bundles
 pub mod Called
 pub mod Calls
 pub mod Fields
 pub mod Importing
 pub mod Listings
+pub mod Objects
 pub mod Owned
+pub mod Tags
 pub mod Written

@@ -21,8 +21,14 @@ pub enum Why {
     Import(Fault),
     /// A store's text.
     Store(GrowingFault),
-    /// The number of a commit's field.
+    /// An item of a text of refs and objects, by the word of what is against it.
+    Item(&'static str),
+    /// Range words of a bundle that name no ref.
+    Empty,
+    /// The number of a field.
     Field,
+    /// An export, of a commit that has a header but that of an encoding: no stream can say it. Or a bundle, of 2^32 objects or more.
+    Unsupported,
 }
 
 impl Why {
@@ -35,7 +41,10 @@ impl Why {
             Why::Revision(fault) => fault.word(),
             Why::Import(fault) => fault.word(),
             Why::Store(fault) => fault.word(),
+            Why::Item(word) => word,
+            Why::Empty => "Empty",
             Why::Field => "UnknownField",
+            Why::Unsupported => "Unsupported",
         }
     }
 
@@ -45,7 +54,13 @@ impl Why {
     {
         match self {
             Why::Done => DONE,
-            Why::Revision(_) | Why::Import(_) | Why::Store(_) | Why::Field => REFUSED,
+            Why::Revision(_)
+            | Why::Import(_)
+            | Why::Store(_)
+            | Why::Item(_)
+            | Why::Empty
+            | Why::Field
+            | Why::Unsupported => REFUSED,
         }
     }
 }
@@ -59,7 +74,7 @@ pub struct Answer<A: Allocator> {
     pub bytes: Vec<u8, A>,
     /// The mode of a file, or the kind of an object; of an import its commands; the number of what is refused.
     pub number: u64,
-    /// Of an import its objects, or the checkpoints before its fault.
+    /// Of an import its new objects, or the checkpoints before its fault.
     pub count: u64,
 }
 

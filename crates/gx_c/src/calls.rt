@@ -8,7 +8,7 @@ ghost use Rattle.gx_c.specs.Called as called;
 use crate::handing::{put_back, taken};
 use crate::opened::Opened;
 use crate::store::{CLOSED, IN_USE, OUT_OF_MEMORY, Store};
-use crate::{asking, fields, listing, writing};
+use crate::{asking, fields, listing, tags, writing};
 use gx_versions::StoreForm;
 use std::alloc::Global;
 
@@ -62,6 +62,24 @@ pub extern "C" fn ginlarch_import(
         return CLOSED;
     };
     opened.import(alloc, stream, done, force);
+    put_back(store, opened)
+}
+
+/// Takes a text of refs and objects into the repository; with `force` refs may lose commits. Where the text is refused the
+/// repository stays as it was.
+#[unsafe(no_mangle)]
+pub extern "C" fn ginlarch_import_objects(
+    alloc: Global,
+    store: &mut Store,
+    text: &[u8],
+    force: bool,
+) -> u32
+    ensures { Calls (called.ImportsObjects force text.now) store.old store.new result }
+{
+    let Some(mut opened) = taken(alloc, store) else {
+        return CLOSED;
+    };
+    opened.import_objects(alloc, text, force);
     put_back(store, opened)
 }
 
@@ -168,6 +186,18 @@ pub extern "C" fn ginlarch_commit(
         return CLOSED;
     };
     opened.answer = fields::commit_field(alloc, &opened.repo, revision, field);
+    put_back(store, opened)
+}
+
+/// Answers a field of a revision's tag, by its number.
+#[unsafe(no_mangle)]
+pub extern "C" fn ginlarch_tag(alloc: Global, store: &mut Store, revision: &[u8], field: u32) -> u32
+    ensures { Calls (called.Tag revision.now field) store.old store.new result }
+{
+    let Some(mut opened) = taken(alloc, store) else {
+        return CLOSED;
+    };
+    opened.answer = tags::tag_field(alloc, &opened.repo, revision, field);
     put_back(store, opened)
 }
 

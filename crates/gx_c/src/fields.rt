@@ -25,11 +25,12 @@ pub(crate) enum Field {
     Committer,
     Encoding,
     Message,
+    Headers,
 }
 
 /// A field of the commit that a text gives as a revision, by its number: 0 for the digits of its tree, 1 for those of
 /// its parents, each in a line, 2 for the author, 3 for the committer, 4 for the encoding of the message where one is
-/// told, and 5 for the message.
+/// told, 5 for the message, and 6 for the header lines behind the committer's, as they stand.
 ///
 /// Refused, whatever the revision, where no field has the number; else by the first fault of the revision's text and of
 /// what it gives. Cost: that of `gx_rev::commit`, and the text's length.
@@ -59,6 +60,7 @@ fn numbered(number: u32) -> Option<Field>
         3 => Some(Field::Committer),
         4 => Some(Field::Encoding),
         5 => Some(Field::Message),
+        6 => Some(Field::Headers),
         _ => None,
     }
 }
@@ -107,6 +109,7 @@ fn field_text<A: Allocator + Copy>(
         Field::Committer => Vec::from_slice(alloc, commit.committer()),
         Field::Encoding => Vec::from_slice(alloc, encoding_of(commit)),
         Field::Message => Vec::from_slice(alloc, commit.message()),
+        Field::Headers => Vec::from_slice(alloc, commit.headers()),
     }
 }
 

@@ -13,7 +13,7 @@ use gx_text::{Bytes, Growing};
 use std::alloc::Allocator;
 
 /// So many bytes of a stream are given at once.
-const PIECE: usize = 0x1_0000;
+pub(crate) const PIECE: usize = 0x1_0000;
 
 /// Imports a stream, which with `done` has to end with the command `done`, and which with `force` may take commits from
 /// a branch.

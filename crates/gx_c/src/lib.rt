@@ -4,6 +4,7 @@
 
 mod answer;
 mod asking;
+mod bundling;
 mod calls;
 mod fields;
 mod handing;
@@ -11,9 +12,11 @@ mod held;
 mod importing;
 mod keys;
 mod listing;
+mod objects;
 mod opened;
 mod reading;
 mod store;
+mod tags;
 #[cfg(test)]
 mod tests;
 mod writing;

@@ -10,8 +10,10 @@ ghost use Rattle.gx_c.specs.Calls.{IsNew};
 
 use crate::answer::{Answer, Why};
 use crate::asking::commits;
+use crate::bundling::bundle;
 use crate::importing::import;
 use crate::keys::hashing_state;
+use crate::objects::{refusal, taken_into, with_objects};
 use crate::writing::range;
 use gx_model::FileFault;
 use gx_object::Sha1Namer;
@@ -72,6 +74,19 @@ impl Opened {
         self.answer = import(alloc, &mut self.repo, stream, done, force);
     }
 
+    /// Takes a text of refs and objects into the repository, which stays as it is where the text is refused.
+    pub(crate) fn import_objects(&mut self, alloc: Global, text: &[u8], force: bool)
+        ensures { called.ImportsObjects force text.now self.old self.new }
+    {
+        match with_objects(alloc, &self.repo, self.state, text, force) {
+            Ok(repo) => {
+                self.answer = taken_into(alloc, &self.repo, &repo);
+                self.repo = repo;
+            }
+            Err(fault) => self.answer = refusal(alloc, &fault),
+        }
+    }
+
     /// Puts a range word behind the others.
     pub(crate) fn add_word(&mut self, alloc: Global, word: &[u8])
         ensures { called.Word word.now self.old self.new }
@@ -96,6 +111,14 @@ impl Opened {
     {
         let words = replace(&mut self.words, Vec::new(alloc));
         self.answer = range(alloc, &self.repo, &words, closed);
+    }
+
+    /// Bundles what the words name, and forgets them. The ref of a name that isn't empty is HEAD, too.
+    pub(crate) fn bundle(&mut self, alloc: Global, head: &[u8])
+        ensures { called.Bundles head.now self.old self.new }
+    {
+        let words = replace(&mut self.words, Vec::new(alloc));
+        self.answer = bundle(alloc, &self.repo, self.state, &words, head);
     }
 }
 

@@ -45,6 +45,19 @@ pub extern "C" fn ginlarch_range(alloc: Global, store: &mut Store, closed: bool)
     put_back(store, opened)
 }
 
+/// Answers the bundle of the refs that the words name, or of all where there are no words, and forgets the words. The ref
+/// of a name that isn't empty is HEAD, too.
+#[unsafe(no_mangle)]
+pub extern "C" fn ginlarch_bundle(alloc: Global, store: &mut Store, head: &[u8]) -> u32
+    ensures { Calls (called.Bundles head.now) store.old store.new result }
+{
+    let Some(mut opened) = taken(alloc, store) else {
+        return CLOSED;
+    };
+    opened.bundle(alloc, head);
+    put_back(store, opened)
+}
+
 /// How many bytes the last call answered.
 #[unsafe(no_mangle)]
 pub extern "C" fn ginlarch_length(alloc: Global, store: &mut Store) -> usize

@@ -23,6 +23,11 @@ enum Call<'a> {
     Name(&'a [u8]),
     Ls(&'a [u8]),
     Commit(&'a [u8], u32),
+    Tag(&'a [u8], u32),
+    /// Of a text of refs and objects.
+    Objects(&'a [u8]),
+    /// Of a ref that is to be HEAD.
+    Bundle(&'a [u8]),
     Archive(&'a [u8], &'a [u8]),
     Export,
     Changes,
@@ -36,6 +41,8 @@ enum Call<'a> {
 enum Told<'a> {
     /// A text and a number.
     Text(&'a [u8], u64),
+    /// A text that begins so.
+    Front(&'a [u8]),
     /// A text that has this name as a blob.
     Blob(&'a [u8]),
     /// A stream of the same repository, which ends with `done` or not.
@@ -49,11 +56,22 @@ enum Told<'a> {
 const STREAM: &[u8] =
     b"commit refs/heads/main\ncommitter A <a@x> 1 +0000\ndata 2\nv1\nM 100644 inline test.txt\ndata 10\nversion 1\n\ndone\n";
 
+/// A tag of its commit.
+const TAG: &[u8] = b"tag v1\nfrom refs/heads/main^0\ntagger T <t@x> 2 -0100\ndata 5\nfirst";
+
+/// A blob as `git cat-file --batch` prints it, and that the tag goes.
+const OBJECTS: &[u8] =
+    b"587be6b4c3f93f93c489c0111bba5596147a26cb blob 2\nx\n\n0000000000000000000000000000000000000000 refs/tags/v1\n";
+
+/// What a bundle of the repository begins with, where `main` is HEAD.
+const BUNDLE: &[u8] =
+    b"# v2 git bundle\n02d6adf1689e06135d2b4b4d471f1ae489887b53 HEAD\n02d6adf1689e06135d2b4b4d471f1ae489887b53 refs/heads/main\n\nPACK\0\0\0\x02\0\0\0\x03";
+
 /// As `git show-ref` has it.
 const REFS: &[u8] = b"02d6adf1689e06135d2b4b4d471f1ae489887b53 refs/heads/main\n";
 
 /// Calls on the repository of that stream, as git has its commit, tree and fields, and the archive of `main` with the prefix `p/`.
-const ROWS: [(Call<'static>, Told<'static>); 25] = [
+const ROWS: [(Call<'static>, Told<'static>); 42] = [
     (Call::Refs, Told::Text(REFS, 0)),
     (
         Call::File(b"main", b"test.txt"),
@@ -95,12 +113,38 @@ const ROWS: [(Call<'static>, Told<'static>); 25] = [
     (Call::Commit(b"main", 3), Told::Text(b"A <a@x> 1 +0000", 0)),
     (Call::Commit(b"main", 4), Told::Text(b"", 0)),
     (Call::Commit(b"main", 5), Told::Text(b"v1", 0)),
-    (Call::Commit(b"gone", 6), Told::Refused(b"UnknownField")),
+    (Call::Commit(b"main", 6), Told::Text(b"", 0)),
+    (Call::Commit(b"gone", 7), Told::Refused(b"UnknownField")),
     (Call::Export, Told::Stream(false)),
     (Call::Changes, Told::Stream(true)),
     (Call::Word(b"main"), Told::Status(DONE)),
     (Call::Range, Told::Stream(true)),
     (Call::Text, Told::Store),
+    (Call::Tag(b"main", 3), Told::Refused(b"WrongKind")),
+    (Call::Tag(b"gone", 4), Told::Refused(b"UnknownField")),
+    (Call::Import(TAG, false), Told::Text(b"", 1)),
+    (
+        Call::Tag(b"v1", 0),
+        Told::Text(b"02d6adf1689e06135d2b4b4d471f1ae489887b53", 0),
+    ),
+    (Call::Tag(b"v1", 1), Told::Text(b"v1", 0)),
+    (Call::Tag(b"v1", 2), Told::Text(b"T <t@x> 2 -0100", 0)),
+    (Call::Tag(b"v1", 3), Told::Text(b"first", 0)),
+    (Call::Tag(b"v1^{}", 0), Told::Refused(b"WrongKind")),
+    (Call::Objects(OBJECTS), Told::Text(b"", 0)),
+    (
+        Call::Object(b"587be6b4c3f93f93c489c0111bba5596147a26cb"),
+        Told::Text(b"x\n", 3),
+    ),
+    (Call::Tag(b"v1", 0), Told::Refused(b"UnknownRef")),
+    (
+        Call::Objects(b"1111111111111111111111111111111111111111 refs/heads/a\n"),
+        Told::Refused(b"Dangling"),
+    ),
+    (Call::Bundle(b"main"), Told::Front(BUNDLE)),
+    (Call::Bundle(b"v1"), Told::Refused(b"UnknownRef")),
+    (Call::Word(b"^main"), Told::Status(DONE)),
+    (Call::Bundle(b""), Told::Refused(b"Empty")),
     (
         Call::File(b"gone", b"test.txt"),
         Told::Refused(b"UnknownRef"),
@@ -132,6 +176,9 @@ fn made(alloc: Global, store: &mut Store, call: Call<'_>) -> u32 {
         Call::Name(revision) => ginlarch_name(alloc, store, revision),
         Call::Ls(revision) => ginlarch_ls(alloc, store, revision),
         Call::Commit(revision, field) => ginlarch_commit(alloc, store, revision, field),
+        Call::Tag(revision, field) => ginlarch_tag(alloc, store, revision, field),
+        Call::Objects(text) => ginlarch_import_objects(alloc, store, text, false),
+        Call::Bundle(head) => ginlarch_bundle(alloc, store, head),
         Call::Archive(revision, prefix) => ginlarch_archive(alloc, store, revision, prefix),
         Call::Export => ginlarch_export(alloc, store),
         Call::Changes => ginlarch_changes(alloc, store, true),
@@ -179,6 +226,7 @@ fn is_text(alloc: Global, store: &mut Store, told: Told<'_>, room: &mut [u8]) ->
     let text = room.get(..count).unwrap_or(b"");
     count == ginlarch_length(alloc, store)
         && match told {
+            Told::Front(front) => text.starts_with(front),
             Told::Blob(digits) => Sha1Namer.name(Kind::Blob, text).hex().as_slice() == digits,
             Told::Stream(done) => has_refs(alloc, Call::Import(text, done)),
             Told::Store => has_refs(alloc, Call::Load(text)),
@@ -221,7 +269,7 @@ fn calls_are_answered_as_by_git_or_refused(rt: HostRuntime) {
     let mut store = closed();
     assert!(rt; room.resize(20_000, 0).is_ok());
     assert!(rt; is_opened(rt.alloc(), &mut store));
-    for place in 0..25usize {
+    for place in 0..42usize {
         assert!(rt;
             is_told(rt.alloc(), &mut store, ROWS[place], room.as_mut_slice()),
             "{place}"

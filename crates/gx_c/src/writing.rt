@@ -1,19 +1,17 @@
 //! The texts that a repository is written as. Source: git-fast-export(1), git-archive(1), and this project's own
 //! format.
 
-ghost use Rattle.std.specs.Prelude.{◌≡◌, Ok, map};
-ghost use Rattle.gx_model.specs.Changes.{changes_text};
-ghost use Rattle.gx_model.specs.Export.{export_text};
+ghost use Rattle.std.specs.Prelude.{map};
 ghost use Rattle.gx_model.specs.Records.HistoryOf.{history_of};
 ghost use Rattle.gx_rev.specs.Views.{shown_range};
 ghost use Rattle.gx_archive.specs.Archives.{archive_of};
 ghost use Rattle.gx_versions.specs.Versions.{text_in};
 ghost use Rattle.gx_c.specs.Answers.{AnswersText};
-ghost use Rattle.gx_c.specs.Written.{AnswersRange, archive_answer};
+ghost use Rattle.gx_c.specs.Written.{AnswersChanges, AnswersExport, AnswersRange, archive_answer};
 
 use crate::answer::{Answer, Why};
 use gx_archive::{ArchiveFault, archive};
-use gx_export::{RangeFault, export, export_changes, export_range};
+use gx_export::{ExportFault, RangeFault, export, export_changes, export_range};
 use gx_object::Namer;
 use gx_repo::Repo;
 use gx_rev::{Range, RevFault, Revision};
@@ -40,14 +38,15 @@ pub(crate) fn text<N: Namer, A: Allocator + Copy>(
 
 /// The repository as a stream, each commit with all of its files.
 ///
-/// Refused for want of memory alone, also where the text had more than 2^63 - 1 bytes. Cost: that of
-/// `gx_export::export`, and the text.
+/// Refused where a commit that refs reach has a header but that of an encoding, and for want of memory, also where the
+/// text had more than 2^63 - 1 bytes. Cost: that of `gx_export::export`, and the text.
 pub(crate) fn stream<N: Namer, A: Allocator + Copy>(alloc: A, repo: &Repo<N, A>) -> Answer<A>
-    ensures { AnswersText (Ok (export_text (history_of repo.now.1))) result }
+    ensures { AnswersExport (history_of repo.now.1) result }
 {
     let mut text = Growing::new(alloc);
     match export(alloc, repo, &mut text) {
         Ok(()) => Answer::given(text.into_bytes(), 0),
+        Err(ExportFault::Unsupported) => Answer::refused(alloc, Why::Unsupported, 0),
         Err(_) => Answer::refused(alloc, Why::Revision(RevFault::OutOfMemory), 0),
     }
 }
@@ -61,19 +60,19 @@ pub(crate) fn changes<N: Namer, A: Allocator + Copy>(
     repo: &Repo<N, A>,
     closed: bool,
 ) -> Answer<A>
-    ensures { AnswersText (Ok (changes_text (N.name_of repo.now.0) closed (history_of repo.now.1)))
-        result }
+    ensures { AnswersChanges (N.name_of repo.now.0) (history_of repo.now.1) closed result }
 {
     let mut text = Growing::new(alloc);
     match export_changes(alloc, repo, &mut text, closed) {
         Ok(()) => Answer::given(text.into_bytes(), 0),
+        Err(ExportFault::Unsupported) => Answer::refused(alloc, Why::Unsupported, 0),
         Err(_) => Answer::refused(alloc, Why::Revision(RevFault::OutOfMemory), 0),
     }
 }
 
 /// The same of the commits that range words list.
 ///
-/// Refused by the first word that gives nothing, with its number, and for want of memory. Cost: that of
+/// Refused by the first word that gives nothing, with its number, and as `stream` is. Cost: that of
 /// `gx_export::export_range`, and the text.
 pub(crate) fn range<N: Namer, A: Allocator + Copy>(
     alloc: A,
@@ -89,6 +88,9 @@ pub(crate) fn range<N: Namer, A: Allocator + Copy>(
         Ok(()) => Answer::given(text.into_bytes(), 0),
         Err(RangeFault::Walk(fault)) => {
             Answer::refused(alloc, Why::Revision(fault.kind), fault.word as u64)
+        }
+        Err(RangeFault::Export(ExportFault::Unsupported)) => {
+            Answer::refused(alloc, Why::Unsupported, 0)
         }
         Err(RangeFault::Export(_)) => {
             Answer::refused(alloc, Why::Revision(RevFault::OutOfMemory), 0)

@@ -1,15 +1,13 @@
 use Rattle.std.proofs.Common.{ap, subst}
 use Rattle.gx_model.specs.Records.HistoryOf.{history_of}
-use Rattle.std.specs.Prelude.{Ok}
-use Rattle.gx_model.specs.Export.{export_text}
-use Rattle.gx_c.specs.Answers.{AnswersText}
 use Rattle.gx_c.specs.Called as called
+use Rattle.gx_c.specs.Written.{AnswersExport}
 use Rattle.gx_c.proofs.Calling.{goes_over}
 use Rattle.gx_c.proofs.calls.ginlarch_export.Goals as goal
 
 pub returns : goal.returns
 returns c =
-    let answered = subst (λ opened. AnswersText (Ok (export_text (history_of opened.repo.1))) c.stream.result) c.deref.ensures c.stream.ensures in
+    let answered = subst (λ opened. AnswersExport (history_of opened.repo.1) c.stream.result) c.deref.ensures c.stream.ensures in
     goes_over called.Export c.args.store.now c.put_back.new.store c.in-Some.ensures.1 c.put_back.ensures.held
     (record { repository = ap (λ opened. opened.repo) c.deref_mut.ensures.value; form = ap (λ opened. opened.form) c.deref_mut.ensures.value; words = ap (λ opened. opened.words) c.deref_mut.ensures.value; answer = answered })
     c.put_back.ensures.status c.put_back.ensures.open

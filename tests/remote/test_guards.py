@@ -118,6 +118,18 @@ def test_let_go_between(world: World) -> None:
     assert world.named()["refs/heads/above"] == above
 
 
+def test_collected_between(world: World) -> None:
+    """What a gc takes away before its refs are set is sent again."""
+    world.started()
+    above = world.commit({"file": "above"})
+    begun = world.folder / "begun"
+    gc = f'"$gx" gc --report {world.remote}'
+    script = f'if [[ "$*" == *--push=* ]] && mkdir {begun} 2> /dev/null; then {gc}; fi'
+    done = world.run("push", "origin", "main:above", ":side", more=world.wrapped(script))
+    assert done.status == 0 and b"warning: gx: pruned objects: 3" not in done.err, done.err
+    assert world.short_named()["above"] == above and "side" not in world.short_named()
+
+
 @pytest.mark.parametrize(
     "text, held, told",
     [

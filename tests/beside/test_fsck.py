@@ -24,7 +24,6 @@ PLACE = re.compile(rb"objects/([0-9a-f]{2})/([0-9a-f]{38})")
 PERSON = re.compile(rb"^(?:author|committer|tagger) (.*)$", re.M)
 SIGNED = re.compile(rb"> [\s+]+\d+ [+-]\d+\Z")
 TIME = re.compile(rb"> (\d+) [+-](\d+)\Z")
-COMMIT = rb"\Atree .*\n(?:parent .*\n)*author .*\ncommitter .*\n"
 TAG = rb"\Aobject .*\ntype .*\ntag .*\n(?:tagger .*\n)?"
 # git-check-ref-format(1), of what stands behind refs/tags/
 NO_REF = re.compile(rb"\.\.|@\{|[\0-\x20\x7f~^:?*\[\\]|\.lock(?:/|\Z)|(?:\A|/)(?:\.|/|\Z)|\.\Z")
@@ -60,7 +59,6 @@ GIT_ALONE: dict[str, Callable[[bytes], bool]] = {
     "a `+` or a space before the seconds": lambda body: any(map(SIGNED.search, people(body))),
     "a zone above 1400": lambda body: any(int(zone) > 1400 for _, zone in times(body)),
     "a tag whose name makes no ref": names_no_ref,
-    "further headers of a commit": has(COMMIT + rb"(?!\n|encoding .+\n(?:\n|\Z))[^\n]"),
     "further headers of a tag": has(TAG + rb"(?!\n)[^\n]"),
 }
 GX_ALONE: dict[str, Callable[[bytes], bool]] = {

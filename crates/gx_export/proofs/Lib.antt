@@ -24,4 +24,4 @@ pub mod ChangedTexts
 pub mod ChangesTexts
 pub mod ChangedLists
 pub mod BaseFiles
-pub mod Sayable
+pub mod SayableCommits

@@ -1,5 +1,5 @@
 -- Whether a stream can say the commits that are to go out: it says no header of theirs but that of an encoding.
-use Rattle.std.specs.Prelude.{◌≡◌, Option, Result, Ok, Err}
+use Rattle.std.specs.Prelude.{◌≡◌, List, Option, Result, Ok, Err}
 use Rattle.gx_model.specs.Histories.Values.{Commit}
 use Rattle.gx_model.specs.Laws.ExportLaws.{HaveEncodingsAlone}
 use Rattle.gx_model.specs.Texts.Sinks.{Taken}

@@ -6,7 +6,7 @@ use Rattle.gx_model.specs.Export.{reached_commits}
 use Rattle.gx_rev.specs.Reached.{is_wanted}
 use Rattle.gx_export.specs.Exports.{SendsExport, commits_text}
 use Rattle.gx_export.proofs.Numbering.{none_written}
-use Rattle.gx_export.proofs.Sayable.{said, unsaid}
+use Rattle.gx_export.proofs.SayableCommits.{said, unsaid}
 use Rattle.gx_export.proofs.Writing.{nothing_yet}
 use Rattle.gx_export.proofs.exporting.export.Goals as goal
 

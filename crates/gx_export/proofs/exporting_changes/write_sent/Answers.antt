@@ -11,7 +11,7 @@ use Rattle.gx_export.specs.Branches.{picked, targets}
 use Rattle.gx_export.specs.ChangedParts.{DeliversText, sending_front}
 use Rattle.gx_model.specs.Export.{items_text}
 use Rattle.gx_export.proofs.Numbering.{none_written}
-use Rattle.gx_export.proofs.Sayable.{said, unsaid}
+use Rattle.gx_export.proofs.SayableCommits.{said, unsaid}
 use Rattle.gx_export.proofs.SentMarks.{told_left}
 use Rattle.gx_export.proofs.Writing.{nothing_yet}
 use Rattle.gx_export.proofs.exporting_changes.write_sent.Goals as goal

@@ -5,7 +5,7 @@ use Rattle.gx_model.specs.Texts.Headers.{is_encoding_alone}
 use Rattle.gx_model.proofs.Records.Standing.{at_within, commit_name_there}
 use Rattle.gx_model.proofs.Texts.AloneHeaders.{alone_decides}
 use Rattle.gx_export.proofs.CommitTexts.{same_commit, shown_as}
-use Rattle.gx_export.proofs.Sayable.{not_alone}
+use Rattle.gx_export.proofs.SayableCommits.{not_alone}
 use Rattle.gx_export.proofs.sayable.check_commit.Goals as goal
 
 pub name_at-commit-requires : goal.name_at-commit-requires
@@ -16,8 +16,8 @@ view_of-view-requires g c =
     commit_name_there (g.N.Namer.name_of c.args.repo.now.0) (g.met.N.Namer.is_namer c.args.repo.now.0) c.args.repo.now.1 c.sound.ensures c.name_at-commit.result.bytes c.args.place c.requires.0
     c.name_at-commit.ensures.held c.name_at-commit.ensures.value c.requires.1
 
-pub returns-in-else : goal.returns-in-else
-returns-in-else g c = λ made e each.
+pub returns-else-has_encoding_alone : goal.returns-else-has_encoding_alone
+returns-else-has_encoding_alone g c = λ made e each.
     let name = g.N.Namer.name_of c.args.repo.now.0 in
     let namer = g.met.N.Namer.is_namer c.args.repo.now.0 in
     let r = c.args.repo.now.1 in
@@ -26,8 +26,8 @@ returns-in-else g c = λ made e each.
     let text = (shown_as name namer r c.sound.ensures c.name_at-commit.result.bytes c.view_of-view.result held c.view_of-view.ensures).text ∙ ap text_of same in
     not_alone (text_of made).headers (ap (λ t. is_encoding_alone t.headers) (sym text) ∙ sym c.has_encoding_alone.ensures ∙ c.if-has_encoding_alone.false) each.0
 
-pub returns-in-then : goal.returns-in-then
-returns-in-then g c = λ made e.
+pub returns-then-has_encoding_alone : goal.returns-then-has_encoding_alone
+returns-then-has_encoding_alone g c = λ made e.
     let name = g.N.Namer.name_of c.args.repo.now.0 in
     let namer = g.met.N.Namer.is_namer c.args.repo.now.0 in
     let r = c.args.repo.now.1 in

@@ -8,7 +8,7 @@ use Rattle.gx_model.specs.Laws.RepositoryLaws.{values_of}
 use Rattle.gx_export.specs.Branches.{picked}
 use Rattle.gx_export.specs.Sayable.{TellsSayable}
 use Rattle.gx_export.proofs.CommitLists.{marked_commit, picked_next, picked_parts, picked_passed}
-use Rattle.gx_export.proofs.Sayable.{one_more, refused_among}
+use Rattle.gx_export.proofs.SayableCommits.{one_more, refused_among}
 use Rattle.gx_export.proofs.sayable.check_sayable.Goals as goal
 use Rattle.gx_export.proofs.sayable.check_sayable.Goals.{then-marks-place+in_ok-check_commit, else-marks-place}
 

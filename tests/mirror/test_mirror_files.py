@@ -45,7 +45,7 @@ def test_what_a_run_takes(world: World, counted: Counted) -> None:
     repository.git("update-ref", "refs/heads/main", "main~1")
     world.follows(env=counted.environment)
     assert counted.runs("gx") == ["refs", "import", "import"]
-    assert counted.log.read_text().count("cat-file --batch --buffer") == 1
+    assert counted.log.read_text().count("\ngit cat-file --batch --buffer\n") == 1
 
 
 def test_head(world: World) -> None:

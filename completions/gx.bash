@@ -111,7 +111,7 @@ __gx_options() {
     refs) __gx_answer '' "$1" --points-at --contains --no-contains --merged --no-merged --help ;;
     export) __gx_answer '' "$1" --changes --no-done --help ;;
     log) __gx_answer '' "$1" --all --stdin --merges --no-merges --since --until --skip --max-count -n --format --reverse --count --parents --help ;;
-    diff) __gx_answer '' "$1" --name-status --name-only --raw --count --quiet --exit-code -z --help ;;
+    diff) __gx_answer '' "$1" --name-status --name-only --raw --count --patch -p -u --quiet --exit-code -z --help ;;
     merge-base) __gx_answer '' "$1" --all --octopus --is-ancestor --help ;;
     *) __gx_answer '' "$1" --help ;;
   esac

@@ -6,7 +6,7 @@ from dataclasses import dataclass
 from pathlib import Path
 
 IDENT = rb"(?:[^<>\n]* )?<[^<>\n]*> \d+ [+-]\d{4}\n"
-END = rb"(?:encoding [^\n]+\n)?\n"
+END = rb"(?:[^\n]+\n)*\n"
 COMMIT = re.compile(rb"tree (\w{40})\n((?:parent \w{40}\n)*)author " + IDENT + b"committer " + IDENT + END)
 TAG = re.compile(rb"object (\w{40})\ntype commit\ntag [^\n]+\n(?:tagger " + IDENT + rb")?\n")
 ENTRY = re.compile(rb"(\d+) ([^\0]+)\0(.{20})", re.S)

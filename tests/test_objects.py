@@ -145,7 +145,7 @@ def test_zeros_drop_a_ref_and_its_last_line_wins(gx: Program, store: Path) -> No
         (b"%s refs/heads/a..b\n" % BLOB.digits, "object 1: BadRefName"),
         (BLOB.text + BLOB.text.replace(b"hi\n", b"ho\n"), "object 2: NameMismatch"),
         (b"a" * 64 + b" refs/heads/main\n", "object 1: BadLine"),
-        (commit(TREE.digits, headers=b"gpgsig x\n").text, "object 1: BadObject"),
+        (commit(TREE.digits, headers=b"gpgsig x").text, "object 1: BadObject"),
         (tree(("100664", b"a", BLOB.digits)).text + BLOB.text, "object 1: BadObject"),
         (tag(b"v1", BLOB.digits, b"blob").text + BLOB.text, "object 1: BadObject"),
         (MAIN + SECOND.text + TREE.text + BLOB.text, "object 2: Dangling"),

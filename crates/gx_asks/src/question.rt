@@ -64,6 +64,8 @@ pub enum DiffForm {
     Raw,
     /// How many there are of each status.
     Count,
+    /// The lines that change at each, as a patch.
+    Patch,
     /// Nothing.
     Quiet,
 }
@@ -73,7 +75,7 @@ pub enum DiffForm {
 pub struct DiffOptions {
     /// What is printed.
     pub form: DiffForm,
-    /// Each line of a path ends with a NUL, and the path isn't quoted.
+    /// Each line of a path ends with a NUL, and the path isn't quoted. It changes no patch.
     pub nul: bool,
     /// The answer is no where paths differ. It is with the form that prints nothing, too.
     pub exit_code: bool,

@@ -12,7 +12,7 @@ use Rattle.gx_model.specs.Objects.{hex}
 use Rattle.gx_model.specs.Texts.{Bytes}
 use Rattle.gx_model.specs.Texts.Paths.{path_text, printed}
 use Rattle.gx_asks.specs.declared.question.DiffForm.{DiffForm}
-use Rattle.gx_asks.specs.declared.question.DiffForm.TheVariants.{Status, Paths, Raw, Count, Quiet}
+use Rattle.gx_asks.specs.declared.question.DiffForm.TheVariants.{Status, Paths, Raw, Count, Patch, Quiet}
 use Rattle.gx_asks.specs.declared.question.DiffOptions.{DiffOptions}
 use Rattle.gx_differences.specs.Listed.{Standing}
 
@@ -69,6 +69,7 @@ line_of Status nul s = status_fields nul s
 line_of Paths nul s = path_field nul (path_text s.0)
 line_of Raw nul s = files_fields s ++ status_fields nul s
 line_of Count nul s = []
+line_of Patch nul s = []
 line_of Quiet nul s = []
 
 -- ---- how many there are

@@ -7,5 +7,6 @@ mod lines;
 mod paths;
 mod texts;
 
+pub use lines::{name_field, status_of};
 pub use paths::retain_asked;
 pub use texts::{ends_well, text_of};

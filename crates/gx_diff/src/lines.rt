@@ -28,7 +28,7 @@ pub(crate) fn put_line<A: Allocator + Copy>(
             put_files(text, difference)?;
             put_status(text, nul, difference)
         }
-        DiffForm::Count | DiffForm::Quiet => Ok(()),
+        DiffForm::Count | DiffForm::Patch | DiffForm::Quiet => Ok(()),
     }
 }
 
@@ -98,8 +98,10 @@ fn mode_field(leaf: &Option<FileLeaf>) -> [u8; 6]
     }
 }
 
-/// The digits of what a file holds, likewise.
-fn name_field(leaf: &Option<FileLeaf>) -> [u8; 40]
+/// The digits of what a file holds, and zeros where there is none. Takes no memory.
+///
+/// Source: git-diff-tree(1), "RAW OUTPUT FORMAT".
+pub fn name_field(leaf: &Option<FileLeaf>) -> [u8; 40]
     ensures { result ≡ name_field (shown_leaf leaf.now) }
 {
     match leaf {
@@ -108,8 +110,11 @@ fn name_field(leaf: &Option<FileLeaf>) -> [u8; 40]
     }
 }
 
-/// The letter of what became of a path.
-pub(crate) fn status_of<A: Allocator>(difference: &Difference<A>) -> u8
+/// The letter of what became of a path: A where it is new, D where it is gone, T where it has another type, and else M.
+/// Takes no memory.
+///
+/// Source: git-diff-tree(1), "RAW OUTPUT FORMAT".
+pub fn status_of<A: Allocator>(difference: &Difference<A>) -> u8
     ensures { result ≡ status_of (shown_difference difference.now) }
 {
     status(&difference.old, &difference.new)

@@ -11,7 +11,7 @@ use gx_asks::{DiffForm, DiffOptions};
 use gx_differences::Difference;
 use std::alloc::{AllocError, Allocator};
 
-/// The text that tells of these paths: a line for each, or how many there are, or nothing.
+/// The text that tells of these paths: a line for each, or how many there are, or nothing, as for a patch, which `gx_patch` writes.
 ///
 /// Cost: its length, at most four bytes for each of a path's. Memory: the text.
 /// Source: git-diff-tree(1), "RAW OUTPUT FORMAT", and `--name-status`, `--name-only`, `-z`.

@@ -7,3 +7,4 @@ mod PathRuns
 mod SidesByPairs
 mod ListedPairs
 mod ListedSteps
+mod HeldLeaves

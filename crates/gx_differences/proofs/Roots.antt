@@ -62,7 +62,7 @@ module _ (name : Kind → Bytes → Bytes) (namer : IsNamer name) (r : Records) 
   root_if (Some t) h = root_held t h
 
   -- what its files name is held
-  files_held : (t : Option Name) → IsTreeIf r t → AllByRecursion (IsHeldFile r) (names_if name r t)
+  pub files_held : (t : Option Name) → IsTreeIf r t → AllByRecursion (IsHeldFile r) (names_if name r t)
   files_held None h = tt
   files_held (Some t) h =
       let f = files_at r t in

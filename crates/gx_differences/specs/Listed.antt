@@ -1,12 +1,14 @@
 -- Every path at which the files of two trees differ, in byte order, with what stood there and what stands there.
 -- Source: git-diff-tree(1), `-r`, and "RAW OUTPUT FORMAT".
-use Rattle.std.specs.Prelude.{◌≡◌, ◌++◌, ℕ, [], ◌∷◌, Bool, false, not, List, map, Option, Some, None}
-use Rattle.std.specs.List.{filter}
+use Rattle.std.specs.Prelude.{◌≡◌, ◌≢◌, ◌++◌, ℕ, [], ◌∷◌, Bool, false, not, List, map, Option, Some, None, ⊤}
+use Rattle.std.specs.List.{AllByRecursion, filter}
 use Rattle.std.specs.declared.cmp.Ordering.{Ordering}
 use Rattle.gx_model.specs.declared.objects.Kind.{Kind}
+use Rattle.gx_model.specs.declared.objects.Mode.TheVariants.{Dir}
 use Rattle.gx_model.specs.Changes.{is_this_leaf}
 use Rattle.gx_model.specs.Histories.Files.{FileMap, Leaf}
 use Rattle.gx_model.specs.Histories.{Records}
+use Rattle.gx_model.specs.Records.Sound.{IsHeldAs}
 use Rattle.gx_model.specs.Texts.{Bytes}
 use Rattle.gx_model.specs.Texts.Paths.{Path, path_cmp}
 use Rattle.gx_object.specs.declared.entry.Entry.{Entry}
@@ -88,6 +90,19 @@ shown_differences found = map shown_difference found
 abbrev pub AreListed : {A : Type 0} → (Kind → Bytes → Bytes) → Option Name → Option Name → Records → List (Difference A) → Type 0
 AreListed name old new repository found =
     shown_differences found ≡ differing (names_if name repository old) (names_if name repository new)
+
+-- what a file names is held, and it is no directory, where one is there
+abbrev pub HasLeaf : Option (Leaf Bytes) → Records → Type 0
+HasLeaf None repository = ⊤
+HasLeaf (Some leaf) repository = (leaf.0 ≢ Dir) × IsHeldAs repository.records leaf.0 leaf.1
+
+-- so it is of both files at a path
+abbrev pub HasLeaves : Standing → Records → Type 0
+HasLeaves s repository = HasLeaf s.1.0 repository × HasLeaf s.1.1 repository
+
+-- and of all that is found
+abbrev pub HaveLeaves : {A : Type 0} → List (Difference A) → Records → Type 0
+HaveLeaves found repository = AllByRecursion (λ s. HasLeaves s repository) (shown_differences found)
 
 -- these stand behind those that were found before
 abbrev pub Adds : {A : Type 0} → List Standing → List (Difference A) → List (Difference A) → Type 0

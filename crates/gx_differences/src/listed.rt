@@ -6,7 +6,7 @@ ghost use Rattle.gx_export.specs.Compared.{IsTreeIf};
 ghost use Rattle.gx_export.specs.Pairs.{is_same, shown_pair};
 ghost use Rattle.gx_questions.specs.Answers.{IsOfTold, RefusesUntold};
 ghost use Rattle.gx_differences.specs.Differences.{ArePair, AreTrees};
-ghost use Rattle.gx_differences.specs.Listed.{Adds, AreListed, ListsPair, ListsTrees, entry_leaf, shown_leaf};
+ghost use Rattle.gx_differences.specs.Listed.{Adds, AreListed, HaveLeaves, ListsPair, ListsTrees, entry_leaf, shown_leaf};
 
 use crate::differences::{child, entries_in, one_of};
 use gx_export::{Pair, Pairs, is_same, name_in};
@@ -48,6 +48,7 @@ pub fn list<O: Objects, A: Allocator + Copy>(
     requires new { IfSome (O.told objects.now) (λ r. IsTreeIf r new) }
     ensures found { IsOfTold (O.told objects.now)
         (λ r found. AreListed (O.name_of objects.now) old new r found.items) result }
+    ensures held { IsOfTold (O.told objects.now) (λ r found. HaveLeaves found.items r) result }
     ensures fault { RefusesUntold (O.told objects.now) result }
 {
     objects.sound_if_told();

@@ -1,8 +1,9 @@
 -- What clap is told of an argument that is refused where another one is missing, or beside another one.
-use Rattle.std.proofs.Common.{◌≡◌, Bool, true, false, not, ◌&&◌, ◌∷◌, [], refl, ap, ◌∙◌}
+use Rattle.std.proofs.Common.{◌≡◌, ℕ, Bool, true, false, not, ◌&&◌, ◌∷◌, [], ◌++◌, map, refl, ap, ◌∙◌}
 use Rattle.std.specs.Borrow.{Bor}
+use Rattle.std.proofs.lemmas.List.{map-append}
 use Rattle.clap.proofs.SimpleLemmas.{not_empty}
-use Rattle.clap.specs.Adds.{AddsConflicts, AddsRequiredUnless, AddsRequirements}
+use Rattle.clap.specs.Adds.{AddsConflicts, AddsRequiredUnless, AddsRequirements, AddsShortAliases}
 use Rattle.clap.specs.Walk.{is_empty}
 use Rattle.clap.specs.Words.{Text, rule_of}
 use Rattle.clap.specs.declared.builder.arg.Arg.{Arg}
@@ -37,6 +38,11 @@ conflict_rule old new other h =
     && (is_empty old.r_ifs.items && (is_empty old.r_ifs_all.items && (is_empty old.r_unless.items && is_empty old.r_unless_all.items))) in
     let some : is_empty new.conflicts.items ≡ false = ap is_empty h.1 ∙ not_empty old.conflicts.items other in
     ap rule_of h.0 ∙ ap (λ free. record (rule_of old) { is_free = free }) (second_false (not old.exclusive) (is_empty new.conflicts.items) others some)
+
+-- it is given by one letter more
+pub alias_rule : (old new : Arg) (letter : ℕ × Bool) → AddsShortAliases old new (letter ∷ []) → rule_of new ≡ record (rule_of old) { short_aliases = (rule_of old).short_aliases ++ letter.0 ∷ [] }
+alias_rule old new letter h =
+    ap rule_of h.0 ∙ ap (λ letters. record (rule_of old) { short_aliases = letters }) (ap (λ found. map (λ alias. alias.0) found) h.1 ∙ map-append (λ alias. alias.0) old.short_aliases.items (letter ∷ []))
 
 -- it is refused where it is missing with another argument
 pub unless_rule : (old new : Arg) (other : Bor Text) → AddsRequiredUnless old new (other ∷ []) → rule_of new ≡ bound (rule_of old)

@@ -1,5 +1,5 @@
 -- What clap is told of the arguments of the commands: how a line gives each one, and whether it may be left out.
-use Rattle.std.specs.Prelude.{ℕ, true, false, Some, codes}
+use Rattle.std.specs.Prelude.{ℕ, [], ◌∷◌, true, false, Some, codes}
 use Rattle.clap.specs.Lexer.{usize_max}
 use Rattle.clap.specs.Words.{Rule, Text, new_rule}
 use Rattle.clap.specs.declared.builder.action.ArgAction.TheVariants.{SetTrue}
@@ -240,6 +240,10 @@ raw = bound (flag (codes "raw"))
 
 abbrev pub diff_count : Rule
 diff_count = flag (codes "count")
+
+-- --patch, -p or -u
+abbrev pub patch : Rule
+patch = bound (record (letter_flag (codes "patch") 112) { short_aliases = 117 ∷ [] })
 
 abbrev pub quiet : Rule
 quiet = flag (codes "quiet")

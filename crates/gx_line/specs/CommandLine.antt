@@ -159,9 +159,13 @@ abbrev pub formed_command : App
 formed_command =
     with_rule (with_rule (with_rule (with_rule told_command rules.name_status) rules.name_only) rules.raw) rules.diff_count
 
+-- the lines that change are printed of it
+abbrev pub patched_command : App
+patched_command = with_rule formed_command rules.patch
+
 -- and how
 abbrev pub diff_command : App
-diff_command = with_rule (with_rule (with_rule formed_command rules.quiet) rules.exit_code) rules.nul
+diff_command = with_rule (with_rule (with_rule patched_command rules.quiet) rules.exit_code) rules.nul
 
 -- what clap was told of a command, none of whose arguments are for the commands below it, too
 abbrev pub IsMade : Command → App → Type 0
@@ -283,8 +287,10 @@ IsDiffForm rows diff.Count = IsFlag (codes "quiet") rows false × IsFlag (codes 
 IsDiffForm rows diff.Raw = IsFlag (codes "quiet") rows false × (IsFlag (codes "count") rows false × IsFlag (codes "raw") rows true)
 IsDiffForm rows diff.Paths = IsFlag (codes "quiet") rows false × (IsFlag (codes "count") rows false
     × (IsFlag (codes "raw") rows false × IsFlag (codes "name-only") rows true))
+IsDiffForm rows diff.Patch = IsFlag (codes "quiet") rows false × (IsFlag (codes "count") rows false
+    × (IsFlag (codes "raw") rows false × (IsFlag (codes "name-only") rows false × IsFlag (codes "patch") rows true)))
 IsDiffForm rows diff.Status = IsFlag (codes "quiet") rows false × (IsFlag (codes "count") rows false
-    × (IsFlag (codes "raw") rows false × IsFlag (codes "name-only") rows false))
+    × (IsFlag (codes "raw") rows false × (IsFlag (codes "name-only") rows false × IsFlag (codes "patch") rows false)))
 
 abbrev pub AreDiffOptions : List Row → DiffOptions → Type 0
 AreDiffOptions rows options = IsDiffForm rows options.form

@@ -14,3 +14,4 @@ pub mod TakenCommits
 pub mod WalkedCommits
 pub mod FilteredRefs
 mod ToldDifferences
+mod ToldPatches

@@ -34,5 +34,5 @@ module _ (name : Kind → Bytes → Bytes) where
   -- what is told of it of a question that is answered yes or no
   abbrev pub IsTold : Question → Records → Option Taken → Option Taken → Result Bool ToldFault → Type 0
   IsTold (questions.Diff options old new asked) r was now answer =
-      TellsDiff (differing_words name (history_of r) old.now new.now (lent_texts asked.items)) options was now answer
+      TellsDiff r options (differing_words name (history_of r) old.now new.now (lent_texts asked.items)) was now answer
   IsTold question r was now answer = (answer ≡ Ok true) × (now ≡ was)

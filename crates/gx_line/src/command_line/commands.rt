@@ -517,9 +517,27 @@ fn diff_command<'a>(alloc: Global) -> Result<Command<'a>, AllocError>
         'z',
         "Ends the line of a path with a NUL, and quotes no path",
     );
-    let diff = with_argument(formed_command(alloc), quiet);
+    let diff = with_argument(patched_command(alloc), quiet);
     let diff = with_argument(diff, exit_code);
     with_argument(diff, nul)
+}
+
+/// The lines that change, which are refused beside the other forms and beside paths that end with a NUL.
+fn patched_command<'a>(alloc: Global) -> Result<Command<'a>, AllocError>
+    ensures { say.Makes result say.patched_command }
+{
+    let patch = flag(
+        alloc,
+        "patch",
+        "Prints the lines that change at each, as git apply takes them",
+    );
+    let patch = patch.short('p').visible_short_alias('u')?;
+    let patch = patch.conflicts_with("name-status")?;
+    let patch = patch.conflicts_with("name-only")?;
+    let patch = patch.conflicts_with("raw")?;
+    let patch = patch.conflicts_with("count")?;
+    let patch = patch.conflicts_with("nul")?;
+    with_argument(formed_command(alloc), patch)
 }
 
 /// What `diff` prints. Each form is refused beside the others.

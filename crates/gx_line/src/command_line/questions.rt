@@ -124,6 +124,8 @@ fn diff_form_of(matches: &ArgMatches<'_>) -> DiffForm
         DiffForm::Raw
     } else if is_set(matches, "name-only") {
         DiffForm::Paths
+    } else if is_set(matches, "patch") {
+        DiffForm::Patch
     } else {
         DiffForm::Status
     }

@@ -103,6 +103,12 @@ Output:
   end, and no path is quoted. With --count four lines: A, D, M and T, each with a
   TAB and how many there are.
 
+  With --patch what git apply takes to make NEW of OLD, as git diff --full-index
+  --no-renames writes it, but for a line of its function behind the head of a
+  hunk. A file of type T goes and comes again. Of a file with a NUL among its
+  first 8000 bytes it has the line that git has, which git apply doesn't take:
+  Binary files a/F and b/F differ
+
 Exit status:
   3  with --exit-code or --quiet: paths differ
 

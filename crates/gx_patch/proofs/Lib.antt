@@ -1,0 +1,4 @@
+pub mod Some
+mod Told
+mod Files
+mod Putting

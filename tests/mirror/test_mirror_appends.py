@@ -73,8 +73,8 @@ def cost_in(trace: Path, store: Path) -> Cost:
 
 
 def test_appended_once(world: World, cost: Callable[[], Cost]) -> None:
-    """A commit, a tag and a branch that is forced: of objects, and then of refs, a segment, a slot and
-    a byte are written."""
+    """A commit, a tag and a branch that is forced: of objects, and then of refs, a segment, a slot
+    and a byte are written."""
     repository, size = world.repository, world.store.path.stat().st_size
     inode = world.store.path.stat().st_ino
     repository.commit("main")

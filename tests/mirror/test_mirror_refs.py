@@ -66,8 +66,8 @@ def test_what_no_store_holds(world: World) -> None:
 
 
 def test_tree_that_no_store_holds(world: World, counted: Counted) -> None:
-    """A mode that git writes no more. It is found once, and what comes from it stays without another
-    import."""
+    """A mode that git writes no more. It is found once, and what comes from it stays without
+    another import."""
     repository = world.repository
     blob = repository.git("hash-object", "-w", "--stdin", stdin=b"text").strip()
     text = b"100664 file\0" + bytes.fromhex(blob.decode())

@@ -150,7 +150,8 @@ class World:
     def before_import(self, command: str) -> dict[str, str]:
         """A program that runs a command before its first import."""
         begun = self.folder / "begun"
-        return self.wrapped(f'if [ "$2" = import ] && mkdir {begun} 2> /dev/null; then {command}; fi')
+        first = f'[ "$2" = import ] && mkdir {begun} 2> /dev/null'
+        return self.wrapped(f"if {first}; then {command}; fi")
 
     def pushed_at_once(self, pushes: list[tuple[str, str]]) -> list[int]:
         """The status of each push, of a repository and what it sends, all at the same time."""

@@ -96,8 +96,8 @@ def test_fetch_sets_no_refs(world: World, monkeypatch: pytest.MonkeyPatch) -> No
 
 
 def test_refusal_of_many_branches(world: World) -> None:
-    """A root that no store holds refuses 40 branches above it by one import, in at most twice the time
-    that it takes for one branch; and what stands beside goes by one more."""
+    """A root that no store holds refuses 40 branches above it by one import, in at most twice the
+    time that it takes for one branch; and what stands beside goes by one more."""
     world.git("commit", "-q", "--allow-empty", "-m", "Root")
     root = world.early()
     stream = line_of_commits(2000, repeat(b"refs/heads/main"))
@@ -165,9 +165,9 @@ def read_by(world: World, *words: str, where: str = "work") -> int:
 
 @needs_strace
 def test_reads_of_a_growing_store(world: World) -> None:
-    """A clone reads at most 2.2 times the bytes of a growing store with annotated tags: a bundle reads
-    what it looks through, and then what it sends. What brings nothing new reads a twentieth at most,
-    whether the tags are there or not."""
+    """A clone reads at most 2.2 times the bytes of a growing store with annotated tags: a bundle
+    reads what it looks through, and then what it sends. What brings nothing new reads a twentieth
+    at most, whether the tags are there or not."""
     stream = b"blob\ndata 4000000\n%s\n" % bytes(4000000)
     stream += line_of_commits(1000, repeat(b"refs/heads/main"))
     stream += b"".join(TAG % (row, row) for row in range(1, 10))

@@ -122,7 +122,8 @@ def test_fetch_between(world: World, change: str) -> None:
     done = world.run("fetch", "origin", where="clone", more=world.wrapped(script))
     assert done.status != 0 and world.git("for-each-ref", where="clone") == before, done.err
     world.git("fetch", "-q", "--prune", "origin", where="clone")
-    held = world.git("for-each-ref", "--format=%(objectname)", "refs/remotes/origin/main", where="clone")
+    asked = ["for-each-ref", "--format=%(objectname)", "refs/remotes/origin/main"]
+    held = world.git(*asked, where="clone")
     assert held == world.named().get("refs/heads/main", "")
     world.git("rev-list", "--objects", "--branches", "--remotes", where="clone")
 

@@ -1,5 +1,5 @@
-"""Commits with any headers go to a store and come back: those that are signed, that merge signed tags,
-and that other systems wrote."""
+"""Commits with any headers go to a store and come back: those that are signed, that merge signed
+tags, and that other systems wrote."""
 
 from __future__ import annotations
 
@@ -41,14 +41,15 @@ def history(world: World) -> dict[str, str]:
     root = world.commit({"file": "1\n", "dir/file": "2\n"})
     tag = world.git("cat-file", "tag", world.git("mktag", stdin=tag_of(root)))
     folded = "".join(f" {line}\n" for line in tag.split("\n"))
+    signature = ["BEGIN PGP SIGNATURE-----", "", "iQ", "=x", "-----END PGP SIGNATURE-----"]
     headers = {
-        "signed": "gpgsig -----BEGIN PGP SIGNATURE-----\n \n iQ\n =x\n -----END PGP SIGNATURE-----\n",
+        "signed": "gpgsig -----" + "\n ".join(signature) + "\n",
         "merged": f"mergetag{folded}",
         "two": f"mergetag{folded}mergetag{folded}gpgsig x\n y\n",
         "mercurial": "HG:extra rebase_source:1\nHG:rename a:b\n",
         "latin": "encoding ISO-8859-1\ngpgsig x\n",
         "late": "gpgsig x\nencoding ISO-8859-1\n",
-        "odd": "x\n \n\n y\n".replace("\n\n", "\n") + "gpgsig-sha256 z\n",
+        "odd": "x\n \n y\ngpgsig-sha256 z\n",
     }
     made = {}
     for name, lines in headers.items():
@@ -56,7 +57,8 @@ def history(world: World) -> dict[str, str]:
         world.git("branch", name, root)
     world.git("tag", "-m", "Of a signed one", "v-signed", made["signed"])
     world.git("tag", "light-signed", made["two"])
-    world.git("branch", "-f", "above", world.git("commit-tree", "-p", root, "-m", "A", "main^{tree}"))
+    above = world.git("commit-tree", "-p", root, "-m", "A", "main^{tree}")
+    world.git("branch", "-f", "above", above)
     return made
 
 
@@ -80,8 +82,8 @@ def test_headers_come_back(signing: World) -> None:
     signing.git("clone", "-q", "--mirror", signing.url, "mirror", where=".")
     equal(signing, "mirror")
     for name, digits in made.items():
-        texts = [signing.git("cat-file", "commit", digits, where=where) for where in ("work", "mirror")]
-        assert texts[0] == texts[1], name
+        asked = ["cat-file", "commit", digits]
+        assert signing.git(*asked, where="mirror") == signing.git(*asked), name
 
 
 def test_increments_rewinds_and_deletions(signing: World) -> None:
@@ -91,13 +93,13 @@ def test_increments_rewinds_and_deletions(signing: World) -> None:
     signing.git("clone", "-q", "--mirror", signing.url, "mirror", where=".")
     signing.git("checkout", "-q", "signed")
     steps = [
-        lambda: signing.git("branch", "-f", "more", with_headers(signing, "gpgsig x\n", "signed")),
+        lambda: signing.git("branch", "more", with_headers(signing, "gpgsig x\n", "signed")),
         lambda: signing.git("branch", "-f", "more", "signed~1"),
         lambda: signing.git("branch", "-D", "above", "late"),
         lambda: signing.git("tag", "-f", "-m", "Moved", "v-signed", "two"),
         lambda: signing.commit({"dir/new": "3\n"}),
         lambda: signing.git("reset", "-q", "--hard", "latin"),
-        lambda: signing.git("branch", "late", with_headers(signing, "HG:extra z\n", "odd", "merged")),
+        lambda: signing.git("branch", "late", with_headers(signing, "HG:a z\n", "odd", "merged")),
     ]
     for step in steps:
         step()

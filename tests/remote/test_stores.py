@@ -53,8 +53,8 @@ def test_unheld(world: World) -> None:
 
 
 def test_odd_forms(world: World) -> None:
-    """What no store holds is told, and what doesn't reach it goes: an odd tree, also deep in others,
-    and commits that have it from their parents."""
+    """What no store holds is told, and what doesn't reach it goes: an odd tree, also deep in
+    others, and commits that have it from their parents."""
     world.started()
     world.commit({"file": "4\n"})
     tree = b"100664 f\0" + bytes.fromhex(world.git("rev-parse", "HEAD:file"))
@@ -83,8 +83,8 @@ def test_odd_forms(world: World) -> None:
         assert f"{name} (BadObject: tree {tree} of commit {deep})" in said, said
     assert "long (Unsupported: the form of the tag long)" in said
     assert "refs/heads/main" in named, said
-    odd = {"refs/tags/long"} | {f"refs/heads/{name}" for name in ("group", "deep", "merged", "gone")}
-    assert not odd & named.keys()
+    names = ("group", "deep", "merged", "gone")
+    assert not {"refs/tags/long", *(f"refs/heads/{name}" for name in names)} & named.keys()
     assert [name for name, digits in named.items() if wanted.get(name, digits) != digits] == []
     world.git("clone", "-q", "--mirror", world.url, "mirror", where=".")
     assert world.git("rev-list", "--objects", "--all", where="mirror")
@@ -303,8 +303,8 @@ def test_nothing_can_be_told(world: World) -> None:
 
 
 def test_refs_that_are_set_all_the_same(world: World) -> None:
-    """Where gx fails behind the publication of refs, as by a folder that can't be synced, git is told
-    that they are set, with a warning; where it fails before, that they aren't."""
+    """Where gx fails behind the publication of refs, as by a folder that can't be synced, git is
+    told that they are set, with a warning; where it fails before, that they aren't."""
     world.started()
     here = world.commit({"file": "7\n"})
     fails = '[[ "$*" != *--push=* ]] || { %secho "gx: write failed" >&2; exit 1; }'

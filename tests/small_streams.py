@@ -365,7 +365,7 @@ class History:
 
 
 def changes_of(history: History, told: dict[bytes, bytes]) -> bytes:
-    """What is new in a repository, as git-remote-gx has git write it."""
+    """What is new in a repository, as a stream of git's."""
     refs = history.refs()
     changed = [name for name in refs if told.get(name) != refs[name]]
     if not changed:

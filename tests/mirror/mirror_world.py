@@ -48,13 +48,22 @@ class Repository:
         stream = lines_of([*lines, b"", b"get-mark :1"])
         return self.git("fast-import", "--quiet", "--force", stdin=stream).strip()
 
+    def early(self, digits: bytes, *parents: bytes) -> bytes:
+        """A commit as this one, as of a second before 1970, which no store holds."""
+        return self.changed(digits, b"\ncommitter A <a@x> ", b"\ncommitter A <a@x> -", parents)
+
     def signed(self, digits: bytes, *parents: bytes) -> bytes:
-        """A commit as this one, with a line that no stream keeps."""
+        """A commit as this one, with a signature."""
+        return self.changed(digits, b"\n\n", b"\ngpgsig sign\n\n", parents)
+
+    def changed(self, digits: bytes, old: bytes, new: bytes, parents: Iterable[bytes]) -> bytes:
+        """A commit as this one, on more parents, with a text of its head in place of another."""
         head, _, message = self.git("cat-file", "commit", digits).partition(b"\n\n")
         above = b"".join(b"parent %s\n" % parent for parent in parents)
         head = head.replace(b"\nauthor ", b"\n" + above + b"author ", 1)
-        text = head + b"\ngpgsig sign\n\n" + message
-        return self.git("hash-object", "-w", "-t", "commit", "--stdin", stdin=text).strip()
+        text = (head + b"\n\n").replace(old, new, 1) + message
+        words = ["hash-object", "--literally", "-w", "-t", "commit", "--stdin"]
+        return self.git(*words, stdin=text).strip()
 
     def tag(self, name: bytes, kind: bytes, digits: bytes) -> bytes:
         """A tag object that no ref has."""

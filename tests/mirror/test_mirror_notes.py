@@ -42,7 +42,7 @@ def test_branch_that_stays(world: World) -> None:
     repository = world.repository
     last = repository.commit("main")
     world.follows()
-    repository.set({b"refs/heads/early": repository.signed(last, last)})
+    repository.set({b"refs/heads/early": repository.early(last, last)})
     repository.commit("main", b"main~1")
     assert world.mirror().status == STAYS
     assert world.store.notes() == [(last, b"refs/heads/main")]

@@ -7,16 +7,29 @@ import re
 from mirror_world import STAYS, Counted, World
 
 
-def test_signed_commit(world: World, counted: Counted) -> None:
-    """A ref that reaches it stays, the others go, and nothing is exported again."""
-    repository, held = world.repository, world.store.refs()
+def test_signed_commit(world: World) -> None:
+    """It is followed, and what comes from it."""
+    repository = world.repository
     signed = repository.signed(repository.commit("main"))
+    repository.set({b"refs/heads/signed": signed})
+    world.follows()
     repository.commit("main", signed)
-    repository.set({b"refs/heads/early": signed})
+    repository.commit("signed")
+    repository.git("tag", "-m", "Two", "v2", signed)
+    world.follows()
+    assert set(world.store.records()) >= set(repository.objects())
+
+
+def test_commit_that_no_store_holds(world: World, counted: Counted) -> None:
+    """A ref that reaches it stays, the others go, and nothing is sent again."""
+    repository, held = world.repository, world.store.refs()
+    early = repository.early(repository.commit("main"))
+    repository.commit("main", early)
+    repository.set({b"refs/heads/early": early})
     repository.commit("side")
     repository.commit("new")
     done = world.mirror()
-    told = b" stays as it is: Unsupported: gpgsig of commit " + signed
+    told = b" stays as it is: BadObject: commit " + early
     assert done.status == STAYS
     assert [line for line in done.err.splitlines() if told in line] == [
         b"gx-mirror: refs/heads/early" + told,
@@ -30,7 +43,7 @@ def test_signed_commit(world: World, counted: Counted) -> None:
     done = world.mirror(env=counted.environment)
     assert (done.status, world.store.files()) == (STAYS, files)
     assert counted.runs("gx") == ["refs"]
-    assert "fast-export" not in counted.runs("git")
+    assert "\ngit cat-file --batch --buffer\n" not in counted.log.read_text()
 
 
 def test_what_no_store_holds(world: World) -> None:
@@ -52,9 +65,9 @@ def test_what_no_store_holds(world: World) -> None:
     assert world.store.refs() == wanted
 
 
-def test_tree_that_no_stream_has(world: World, counted: Counted) -> None:
-    """A mode that git writes otherwise: the commit would come with another name. It is found once,
-    and what comes from it stays without another export."""
+def test_tree_that_no_store_holds(world: World, counted: Counted) -> None:
+    """A mode that git writes no more. It is found once, and what comes from it stays without
+    another import."""
     repository = world.repository
     blob = repository.git("hash-object", "-w", "--stdin", stdin=b"text").strip()
     text = b"100664 file\0" + bytes.fromhex(blob.decode())
@@ -64,7 +77,7 @@ def test_tree_that_no_stream_has(world: World, counted: Counted) -> None:
     repository.set({b"refs/heads/odd": odd})
     repository.commit("main")
     done = world.mirror()
-    told = b" stays as it is: Unsupported: the form of commit " + odd
+    told = b" stays as it is: BadObject: tree %s of commit %s" % (tree, odd)
     assert done.status == STAYS and b"gx-mirror: refs/heads/odd" + told in done.err, done
     wanted = {ref: held for ref, held in repository.refs().items() if held != odd}
     assert world.store.refs() == wanted
@@ -74,7 +87,6 @@ def test_tree_that_no_stream_has(world: World, counted: Counted) -> None:
     done = world.mirror(env=counted.environment)
     assert done.status == STAYS and b"gx-mirror: refs/heads/above" + told in done.err, done
     assert (world.store.refs(), counted.runs("gx")) == (wanted, ["refs"])
-    assert "fast-export" not in counted.runs("git")
 
 
 def test_directory(world: World) -> None:
@@ -104,14 +116,14 @@ def test_no_refs_of_a_store(world: World) -> None:
     assert first in world.store.names()
 
 
-def test_replaced_by_a_signed_commit(world: World) -> None:
+def test_replaced_by_an_early_commit(world: World) -> None:
     """The commit comes as it was made, and only the ref of what replaces it stays."""
     last = world.repository.commit("main")
-    signed = world.repository.signed(last)
-    world.repository.git("replace", last, signed)
+    early = world.repository.early(last)
+    world.repository.git("replace", last, early)
     done = world.mirror()
-    told = b"gx-mirror: refs/replace/%s stays as it is: Unsupported: gpgsig of commit %s"
-    assert (done.status, told % (last, signed) in done.err) == (STAYS, True)
+    told = b"gx-mirror: refs/replace/%s stays as it is: BadObject: commit %s"
+    assert (done.status, told % (last, early) in done.err) == (STAYS, True)
     assert world.store.refs()[b"refs/heads/main"] == last
 
 

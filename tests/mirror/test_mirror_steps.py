@@ -71,7 +71,7 @@ def meanwhile(
         b"commit refs/heads/main\ncommitter A <a@x> 1 +0000\ndata 0\nfrom refs/heads/main^0\n\n"
     )
     other = f"{world.store.gx.path} import --wait=0 {world.store.path} < {stream} 2> /dev/null"
-    counted.write("gx", f'if [ "$2" = import ] && mkdir {once}; then {other}; fi')
+    counted.write("gx", f'if [ "$2" = import ] && mkdir {once} 2> /dev/null; then {other}; fi')
     return counted.environment
 
 
@@ -149,6 +149,6 @@ def test_imports_all_the_time(world: World, counted: Counted) -> None:
     world.follows(env=counted.environment)
     rows = [line.split() for line in brought.read_bytes().splitlines()]
     made = {row[1] for row in rows if row[2:] == [b"refs/heads/main"]}
-    assert len(made) == 2
+    assert len(made) == 3
     noted = {digits for digits, _ in world.store.notes()}
     assert noted <= made <= world.store.names() and len(noted) == 1, "the last one, and all before"

@@ -18,7 +18,7 @@ REFS = ["for-each-ref", "--format=%(objectname) %(refname)"]
 SETTINGS = "[init]\ndefaultBranch = main\n[advice]\nnestedTag = false\n"
 SIDES = ("AUTHOR", "COMMITTER")
 WHO = {f"GIT_{side}_NAME": "A" for side in SIDES} | {f"GIT_{side}_EMAIL": "a@x" for side in SIDES}
-# a line of a commit that no stream keeps
+# a line of a commit that no stream of git 2.39 keeps
 SIGNATURE = "\ngpgsig -----BEGIN\n \n -----END\n\n"
 
 
@@ -136,7 +136,7 @@ class World:
         return self.written("commit", lambda text: text.replace("\n\n", SIGNATURE, 1), of)
 
     def early(self) -> str:
-        """The last commit as of a second before 1970, which gx refuses."""
+        """The last commit as of a second before 1970, which no store holds."""
         line = "committer A <a@x> "
         return self.written("commit", lambda text: text.replace(f"{line}1", f"{line}-1"))
 
@@ -150,7 +150,8 @@ class World:
     def before_import(self, command: str) -> dict[str, str]:
         """A program that runs a command before its first import."""
         begun = self.folder / "begun"
-        return self.wrapped(f'if [ "$2" = import ] && mkdir {begun}; then {command}; fi')
+        first = f'[ "$2" = import ] && mkdir {begun} 2> /dev/null'
+        return self.wrapped(f"if {first}; then {command}; fi")
 
     def pushed_at_once(self, pushes: list[tuple[str, str]]) -> list[int]:
         """The status of each push, of a repository and what it sends, all at the same time."""

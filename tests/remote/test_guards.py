@@ -35,7 +35,7 @@ fi"""
     world.refused(*push, told="main -> main (gx: write failed", more=world.wrapped(full))
     world.git(*push)
     before = world.git("for-each-ref", where="clone")
-    cut = 'if [ "$2" = export ]; then "$gx" "$@" | head -c %s; exit %d; fi'
+    cut = 'if [ "$2" = bundle ]; then "$gx" "$@" | head -c %s; exit %d; fi'
     sizes = ("100000", "-1", "-5", "-100", "20")
     for number, (size, status) in enumerate((size, status) for size in sizes for status in (9, 0)):
         copy = f"clone{number}"
@@ -108,6 +108,26 @@ def test_import_between(world: World, words: list[str]) -> None:
     assert named["refs/heads/side"] == world.git("rev-parse", "side")
 
 
+@pytest.mark.parametrize("change", [":main", "+main~1:main"])
+def test_fetch_between(world: World, change: str) -> None:
+    """A ref that goes or is forced between what git was told and its fetch: git sets none, and the
+    next fetch has what the store has."""
+    world.started()
+    world.commit({"file": "4\n"})
+    world.git("push", "-q", "origin", "main")
+    before = world.git("for-each-ref", where="clone")
+    begun = world.folder / "begun"
+    theirs = f"GX=$gx git -C {world.folder}/work push -q origin {change}"
+    script = f'if [ "$2" = bundle ] && mkdir {begun} 2> /dev/null; then {theirs}; fi'
+    done = world.run("fetch", "origin", where="clone", more=world.wrapped(script))
+    assert done.status != 0 and world.git("for-each-ref", where="clone") == before, done.err
+    world.git("fetch", "-q", "--prune", "origin", where="clone")
+    asked = ["for-each-ref", "--format=%(objectname)", "refs/remotes/origin/main"]
+    held = world.git(*asked, where="clone")
+    assert held == world.named().get("refs/heads/main", "")
+    world.git("rev-list", "--objects", "--branches", "--remotes", where="clone")
+
+
 def test_let_go_between(world: World) -> None:
     """What the store lets go meanwhile is sent again."""
     world.started()
@@ -118,10 +138,29 @@ def test_let_go_between(world: World) -> None:
     assert world.named()["refs/heads/above"] == above
 
 
-@pytest.mark.parametrize("text, held", [("Tagged", "above"), ("Changed", "v2"), ("body", "v2")])
-def test_changed_on_the_way(world: World, text: str, held: str) -> None:
-    """A push never leaves other objects than git has, also where a stream is changed: the text of a
-    tag, of a commit or of a file. What isn't concerned goes."""
+def test_collected_between(world: World) -> None:
+    """What a gc takes away before its refs are set is sent again."""
+    world.started()
+    above = world.commit({"file": "above"})
+    begun = world.folder / "begun"
+    gc = f'"$gx" gc {world.remote}'
+    script = f'if [[ "$*" == *--push=* ]] && mkdir {begun} 2> /dev/null; then {gc}; fi'
+    done = world.run("push", "origin", "main:above", ":side", more=world.wrapped(script))
+    assert done.status == 0 and begun.exists(), done.err
+    assert world.short_named()["above"] == above and "side" not in world.short_named()
+
+
+@pytest.mark.parametrize(
+    "text, held, told",
+    [
+        ("Tagged", "above", b"UnknownObject"),
+        ("Changed", "v2", b"NameMismatch: commit "),
+        ("body", "v2", b"NameMismatch: blob "),
+    ],
+)
+def test_changed_on_the_way(world: World, text: str, held: str, told: bytes) -> None:
+    """A push never leaves other objects than git has, also where its bytes are changed: the text of
+    a tag, of a commit or of a file. What isn't concerned goes."""
     world.started()
     world.git("tag", "-m", "Tagged", "v2")
     world.git("checkout", "-q", "-b", "above")
@@ -131,7 +170,7 @@ def test_changed_on_the_way(world: World, text: str, held: str) -> None:
     changed = f"sed 's/^{text}$/{text.swapcase()}/'"
     more = world.wrapped(f'[ "$2" != import ] || exec "$gx" "$@" < <({changed})')
     done = world.run("push", "origin", "above", "v2", more=more)
-    assert done.status == 1 and b"UnknownObject" in done.err, done.err
+    assert done.status == 1 and told in done.err, done.err
     assert world.short_named() == {**before, held: world.git("rev-parse", held)}
 
 
@@ -155,8 +194,7 @@ def test_atomic(world: World) -> None:
     world.git("branch", "other", world.commit({"file": "4\n"}))
     atomic = ["push", "--atomic", "origin", ":side", "main"]
     told = "main -> main (atomic push failure)"
-    for wrong in (world.signed(), world.early()):
-        world.refused(*atomic, f"{wrong}:refs/heads/wrong", told=told)
+    world.refused(*atomic, f"{world.early()}:refs/heads/wrong", told=told)
     blob = world.git("rev-parse", "main:file")
     world.refused(*atomic, f"{blob}:refs/tags/blob", told=told)
     world.refused(*atomic, "main:refs/heads/main/below", told=told)
@@ -168,7 +206,7 @@ def test_atomic(world: World) -> None:
     assert world.named()["refs/heads/main"] != world.git("rev-parse", "main")
     more, commands = world.counted()
     world.git(*atomic, "other", ":refs/heads/none", more=more)
-    assert commands() == ["refs", "import"]
+    assert commands() == ["refs", "import", "import"]
     wanted = {name: world.git("rev-parse", name) for name in ("main", "other")}
     assert {name: world.named()[f"refs/heads/{name}"] for name in wanted} == wanted
     assert "refs/heads/side" not in world.named()

@@ -17,15 +17,13 @@ def test_unheld(world: World) -> None:
     """What no store holds is told by ref, and what stands beside it goes into the store."""
     world.started()
     world.commit({"file": "4\n"})
-    signed, early = world.signed(), world.early()
-    blob = world.git("rev-parse", "main:file")
+    early, blob = world.early(), world.git("rev-parse", "main:file")
     world.git("tag", "-m", "Of a blob", "of-blob", blob)
     world.git("tag", "-m", "Of a tag", "of-tag", "v1")
     lines = "tag signed\ngpgsig-sha256 x\n"
     other = world.written("tag", lambda text: text.replace("tag v1\n", lines))
     causes = {
-        f"{signed}:refs/heads/signed": f"signed (Unsupported: gpgsig of commit {signed})",
-        f"{early}:refs/heads/early": "early (gx: command 2: BadIdent; gx: line ",
+        f"{early}:refs/heads/early": f"early (BadObject: commit {early})",
         "of-blob": "of-blob -> of-blob (WrongKind: a tag of a blob)",
         "of-tag": "of-tag -> of-tag (WrongKind: a tag of a tag)",
         f"{blob}:refs/tags/blob": "blob (WrongKind: a blob)",
@@ -45,37 +43,48 @@ def test_unheld(world: World) -> None:
         world.refused(*push, "--dry-run", sent, told=told)
     unnamed = world.written("commit", lambda text: text.replace("\ncommitter ", "\nx ", 1))
     of_nothing = world.written("tag", lambda text: text.partition("\n")[2].replace("v1", "nothing"))
-    wrong = {"signed": signed, "early": early, "unnamed": unnamed}
+    wrong = {"early": early, "unnamed": unnamed}
     words = [f"{digits}:refs/heads/{name}" for name, digits in wrong.items()]
     words += ["of-tag", f"{of_nothing}:refs/tags/nothing"]
-    done = world.run(*push, *words[:2], "main", *words[2:], ":side", "main:beside")
+    done = world.run(*push, *words[:1], "main", *words[1:], ":side", "main:beside")
     assert done.err.count(b"[remote rejected]") == len(words), done.err
     wanted = {name: world.git("rev-parse", name) for name in ("light", "main", "v1")}
     assert world.short_named() == {**wanted, "beside": wanted["main"]}
 
 
 def test_odd_forms(world: World) -> None:
-    """What a stream makes in another form is told, and what doesn't reach it goes."""
+    """What no store holds is told, and what doesn't reach it goes: an odd tree, also deep in
+    others, and commits that have it from their parents."""
     world.started()
     world.commit({"file": "4\n"})
     tree = b"100664 f\0" + bytes.fromhex(world.git("rev-parse", "HEAD:file"))
     tree = world.git("hash-object", "-t", "tree", "-w", "--literally", "--stdin", stdin=tree)
+    entry = f"040000 tree {tree}\tdir\n".encode()
+    above = world.git("mktree", stdin=entry)
     zone = world.written("commit", lambda text: text.replace(" +0000\nc", " +00000\nc"))
     wanted = {
         "refs/heads/main": world.git("rev-parse", "main"),
         "refs/heads/zone": zone,
         "refs/heads/above": world.git("commit-tree", "-p", zone, "-m", "Above", "HEAD^{tree}"),
         "refs/heads/group": world.git("commit-tree", "-p", "HEAD", "-m", "For the group", tree),
+        "refs/heads/deep": world.git("commit-tree", "-m", "Deep", above),
         "refs/tags/odd": world.written("tag", lambda text: text.replace("\n\n", "\n\n\0", 1)),
         "refs/tags/long": world.written("tag", lambda text: text.replace("v1\n", "long\n more\n")),
     }
+    deep = wanted["refs/heads/deep"]
+    parents = ["-p", "HEAD", "-p", deep]
+    wanted["refs/heads/merged"] = world.git("commit-tree", *parents, "-m", "Merged", above)
+    wanted["refs/heads/gone"] = world.git("commit-tree", "-p", deep, "-m", "Gone", "HEAD^{tree}")
     done = world.run("push", "origin", *(f"{digits}:{name}" for name, digits in wanted.items()))
     said, named = done.err.decode(), world.named()
     group = wanted["refs/heads/group"]
-    assert f"group (Unsupported: the form of commit {group})" in said
+    assert f"group (BadObject: tree {tree} of commit {group})" in said
+    for name in ("deep", "merged", "gone"):
+        assert f"{name} (BadObject: tree {tree} of commit {deep})" in said, said
     assert "long (Unsupported: the form of the tag long)" in said
     assert "refs/heads/main" in named, said
-    assert not {"refs/heads/group", "refs/tags/long"} & named.keys()
+    names = ("group", "deep", "merged", "gone")
+    assert not {"refs/tags/long", *(f"refs/heads/{name}" for name in names)} & named.keys()
     assert [name for name, digits in named.items() if wanted.get(name, digits) != digits] == []
     world.git("clone", "-q", "--mirror", world.url, "mirror", where=".")
     assert world.git("rev-list", "--objects", "--all", where="mirror")
@@ -98,7 +107,7 @@ def test_missing(world: World) -> None:
     world.refused("clone", world.url, "clone", told=f"git-remote-gx: no such store: {world.remote}")
     world.refused("fetch", "origin", told="no such store")
     world.commit({"file": "1\n"})
-    world.refused("push", "origin", f"{world.early()}:refs/heads/early", told="BadIdent")
+    world.refused("push", "origin", f"{world.early()}:refs/heads/early", told="BadObject: commit")
     world.refused("push", "gx::nowhere/store.gx", "main", told="No such file")
     world.refused("fetch", "gx::file", told="gx: store: BadMagic")
     world.refused("push", "gx::file", "main", told="gx: store: BadMagic")
@@ -186,22 +195,6 @@ def test_partial(world: World) -> None:
     world.commit({"file": "5\n"}, where="partial")
     world.git("push", "-q", "origin", "HEAD:side", where="partial")
     world.git("fsck", where="partial")
-
-
-def test_spelled(world: World) -> None:
-    """Commits that are left out of a stream may be named by their digits, with or without `^0`."""
-    world.started()
-    for behind in ("", "^0"):
-        world.commit({f"file{behind}": "1\n"})
-        world.git("tag", "-f", "-m", "Of old", "old", "side")
-        other = world.git("commit-tree", "-p", "side", "-m", "Beside", "HEAD^{tree}")
-        world.git("merge", "-q", "-m", "Merge", other)
-        world.git("push", "-q", "-f", "origin", "main", "old")
-        changed = f"sed -E 's/^(from|merge) ([0-9a-f]{{40}})(\\^0)?$/\\1 \\2{behind}/'"
-        more = world.wrapped(f'[ "$2" != export ] || exec "$gx" "$@" > >({changed})')
-        world.git("fetch", "-q", where="clone", more=more)
-        fetched = world.git("rev-parse", "origin/main", where="clone")
-        assert fetched == world.git("rev-parse", "main")
 
 
 def test_deleted_in_vain(world: World) -> None:
@@ -310,14 +303,18 @@ def test_nothing_can_be_told(world: World) -> None:
 
 
 def test_refs_that_are_set_all_the_same(world: World) -> None:
-    """Where gx fails behind the publication, as by a folder that can't be synced, git is told that
-    the refs are set, with a warning; where it fails before, that they aren't."""
+    """Where gx fails behind the publication of refs, as by a folder that can't be synced, git is
+    told that they are set, with a warning; where it fails before, that they aren't."""
     world.started()
     here = world.commit({"file": "7\n"})
-    fails = 'if [ "$2" = import ]; then %secho "gx: write failed" >&2; exit 1; fi'
+    fails = '[[ "$*" != *--push=* ]] || { %secho "gx: write failed" >&2; exit 1; }'
+    sent = 'if [ "$3" = --objects ]; then "$gx" "$@"; echo "gx: write failed" >&2; exit 1; fi'
     push = ["push", "--porcelain", "origin", "main", ":side"]
-    more = world.wrapped(fails % "")
-    world.refused(*push, told="", more=more)
+    before = world.named()
+    for wrong in (fails % "", sent):
+        done = world.run(*push, more=world.wrapped(wrong))
+        assert (done.status, done.out.count(b"(gx: write failed)")) == (1, 2), done
+        assert world.named() == before
     done = world.run(*push, more=world.wrapped(fails % '"$gx" "$@"; '))
     assert done.status == 0 and b"rejected" not in done.out, done
     assert b"warning: the refs are set, but gx: write failed" in done.err, done

@@ -24,14 +24,14 @@ use Rattle.gx_told.proofs.Prints.{none_sent, sent_prints}
 
 module _ (told : Option Records) (s : Standing) where
   -- a patch that was made goes out
-  pub patch_sent : (was now : Option Taken) (before text : Bytes) (answer : Result (Unit {0}) ToldFault) → before ≡ [] → IfSome told (λ r. Puts (IsPatch (named_values r.records) s) before text) → Sent text was now answer
+  pub patch_sent : (was now : Option Taken) (before made text : Bytes) (answer : Result (Unit {0}) ToldFault) → before ≡ [] → text ≡ made → IfSome told (λ r. Puts (IsPatch (named_values r.records) s) before made) → Sent text was now answer
       → IfSome told (λ r. PrintsPatch r s was now answer)
-  patch_sent was now before text answer none h k = by told h
+  patch_sent was now before made text answer none e h k = by told h
     where
-      by : (told : Option Records) → IfSome told (λ r. Puts (IsPatch (named_values r.records) s) before text) → IfSome told (λ r. PrintsPatch r s was now answer)
+      by : (told : Option Records) → IfSome told (λ r. Puts (IsPatch (named_values r.records) s) before made) → IfSome told (λ r. PrintsPatch r s was now answer)
       by None h = tt
       by (Some r) h =
-          let same : text ≡ h.0 = h.1 ∙ ap (λ b. b ++ h.0) none in
+          let same : text ≡ h.0 = e ∙ h.1 ∙ ap (λ b. b ++ h.0) none in
           (h.0, h.2, subst (λ t. PrintsText t was now answer) same (sent_prints text was now answer k))
 
   -- none was made

@@ -79,8 +79,7 @@ module _ {A : Type 0} (found : List (Difference A)) (was : Option Taken) where
       let s = shown_difference d in
       let rest = some_patches named (shown_differences left) in
       let whole = h.front ++ (k.0 ++ rest.0) in
-      let all = patches_join named h.done (s ∷ shown_differences left) h.front (k.0 ++ rest.0) h.patches (k.0, rest.0, k.1, rest.1, refl) in
-      (
+      let all = patches_join named h.done (s ∷ shown_differences left) h.front (k.0 ++ rest.0) h.patches (k.0, rest.0, k.1, rest.1, refl) in (
         whole,
         subst (λ ss. ArePatches named ss whole) (sym h.parts) all,
         cut_short was mid now whole k.0 rest.0 fault (record { front = h.front; parts = refl; took = h.took }) k.2,

@@ -11,7 +11,10 @@ use Rattle.gx_model.specs.Histories.{History, Records, empty_repository}
 use Rattle.gx_model.specs.Streams.Commands.{no_features}
 use Rattle.gx_model.specs.Records.HistoryOf.{history_of}
 use Rattle.gx_model.specs.Records.Sound.{IsSound}
-use Rattle.gx_model.specs.Export.{export_text}
+use Rattle.gx_model.specs.Export.{export_text, reached_commits}
+use Rattle.gx_model.specs.Histories.Values.{IsEncodingAlone, text_of}
+use Rattle.gx_model.specs.Laws.ExportLaws.{HaveEncodingsAlone, IsSayable}
+use Rattle.gx_model.proofs.Export.KeptCommits.{each_one}
 use Rattle.gx_model.specs.Streams.Gitlinks.{HoldsSayable, HoldsTellsHas}
 use Rattle.gx_model.specs.Texts.Sinks.{Taken, Took}
 use Rattle.gx_text.specs.Devices.{Coming}
@@ -25,7 +28,7 @@ use Rattle.gx_import.specs.declared.report.Report.{Report}
 use Rattle.gx_import.specs.declared.fault.ImportFault.{ImportFault}
 use Rattle.gx_export.specs.Outputs.{StopsAt, most}
 use Rattle.gx_export.specs.declared.fault.ExportFault.{ExportFault}
-use Rattle.gx_export.specs.declared.fault.ExportFault.TheVariants.{WriteFailed}
+use Rattle.gx_export.specs.declared.fault.ExportFault.TheVariants.{Unsupported, WriteFailed}
 use Rattle.gx_asks.specs.declared.question.ExportForm.{ExportForm}
 use Rattle.gx_asks.specs.declared.question.ExportForm.TheVariants.{Changes, FullTree}
 use Rattle.gx_cli.specs.Again.{FormsAreImported, LeaveForm}
@@ -63,8 +66,21 @@ module _ (name : Kind → Bytes → Bytes) where
   -- that went out whole
   pub exported_whole : (form : ExportForm) (repository : Records) (was now : Taken) (text : Bytes) (done : Unit {0}) → was ≡ no_bytes → text ≡ now.bytes → ExportsAs name form repository (Some was) (Some now) (Ok done)
       → (text ≡ text_as name form (history_of repository)) × (length text ≤ most)
-  exported_whole FullTree repository was now text done empty is h = sent_whole (export_text (history_of repository)) was now text empty is h
-  exported_whole (Changes closed) repository was now text done empty is h = sent_whole (changes_text name closed (history_of repository)) was now text empty is h
+  exported_whole FullTree repository was now text done empty is h = sent_whole (export_text (history_of repository)) was now text empty is h.1
+  exported_whole (Changes closed) repository was now text done empty is h = sent_whole (changes_text name closed (history_of repository)) was now text empty is h.1
+
+  -- that a stream could say, and yet wasn't said
+  pub never_unsaid : (form : ExportForm) (repository : Records) (was now : Option Taken) (answer : Result (Unit {0}) ExportFault) (fault : ExportFault) → HoldsTellsHas → HoldsSayable (history_of repository)
+      → answer ≡ Err fault → fault ≡ Unsupported → ExportsAs name form repository was now answer → ⊥
+  never_unsaid form repository was now answer fault tells holds refused unsaid h =
+      by form (subst (λ r. ExportsAs name form repository was now r) (refused ∙ ap Err unsaid) h)
+    where
+      alone : HaveEncodingsAlone (reached_commits (history_of repository))
+      alone = each_one IsSayable (λ made. IsEncodingAlone (text_of made).headers) (λ made s. s.headers) (reached_commits (history_of repository)) (tells (history_of repository) holds)
+
+      by : (form : ExportForm) → ExportsAs name form repository was now (Err Unsupported) → ⊥
+      by FullTree k = k.1 alone
+      by (Changes closed) k = k.1 alone
 
   -- that stopped at the sink
   stopped_as : (form : ExportForm) (repository : Records) (was now : Option Taken) (count : ℕ) → ExportsAs name form repository was now (Err (WriteFailed count)) → StopsAt 0 count was now (text_as name form (history_of repository))

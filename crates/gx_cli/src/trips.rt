@@ -144,8 +144,10 @@ fn exported<N: Namer, A: Allocator + Copy>(
     repo: &Repo<N, A>,
     form: ExportForm,
 ) -> Result<Vec<u8, A>, CliFault>
+    requires { HoldsSayable (history_of repo.now.1) }
     ensures { GivesText (text_as (N.name_of repo.now.0) form (history_of repo.now.1)) result }
 {
+    replays_keep_none();
     let mut sink = Growing::new(alloc);
     match export_as(alloc, repo, form, &mut sink) {
         Ok(()) => Ok(sink.into_bytes()),
@@ -156,6 +158,7 @@ fn exported<N: Namer, A: Allocator + Copy>(
             Err(CliFault::Export(ExportFault::WriteFailed { written }))
         }
         Err(ExportFault::OutOfMemory) => Err(CliFault::OutOfMemory),
+        Err(ExportFault::Unsupported) => unreachable!(),
     }
 }
 

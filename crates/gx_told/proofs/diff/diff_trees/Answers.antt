@@ -22,4 +22,4 @@ returns-in-Err g c =
     let o = c.args.objects.now in
     let name = g.O.Objects.name_of o in
     rw c.refused.ensures
-    (list_stops c.args.options (g.O.Objects.told o) _ (λ r. asked_between name (lent_texts c.args.asked.now) (files_at r c.args.old) (files_at r c.args.new)) (g.W.Sink.taken c.args.sink.now) c.in-Err.fault c.in-Err.ensures.fault)
+    (list_stops c.args.options (g.O.Objects.told o) (Unit {0}) (λ r. asked_between name (lent_texts c.args.asked.now) (files_at r c.args.old) (files_at r c.args.new)) (g.W.Sink.taken c.args.sink.now) c.in-Err.fault c.in-Err.ensures.fault)

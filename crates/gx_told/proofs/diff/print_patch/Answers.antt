@@ -12,4 +12,4 @@ returns-in-Ok g c =
 pub returns : goal.returns
 returns g c =
     let told = g.O.Objects.told c.args.objects.now in
-    rw c.refused.ensures (patch_stops told (shown_difference c.args.difference.now) _ (g.W.Sink.taken c.args.sink.now) c.in-Err.fault c.in-Err.ensures.fault)
+    rw c.refused.ensures (patch_stops told (shown_difference c.args.difference.now) (Unit {0}) (g.W.Sink.taken c.args.sink.now) c.in-Err.fault c.in-Err.ensures.fault)

@@ -139,6 +139,22 @@ def test_below_a_shallow_boundary(world: World) -> None:
     assert world.git("show", "FETCH_HEAD:file", where="shallow") == "1"
 
 
+def test_commit_without_its_tree(world: World) -> None:
+    """Where a repository has a ref's commit alone, git refuses what descends from it, and sets no
+    ref. A fetch of that ref brings what is missing."""
+    world.started()
+    text = world.git("cat-file", "commit", "side") + "\n"
+    world.git("init", "-q", "--bare", "other", where=".")
+    hashed = ["hash-object", "-t", "commit", "-w", "--stdin"]
+    made = world.git(*hashed, where="other", stdin=text.encode())
+    assert made == world.git("rev-parse", "side")
+    told = "did not send all necessary objects"
+    world.refused("fetch", world.url, "main:main", where="other", told=told)
+    assert world.git("for-each-ref", where="other") == ""
+    world.git("fetch", "-q", world.url, "side:side", "main:main", where="other")
+    assert world.git("fsck", "--full", where="other") == ""
+
+
 def test_named(world: World) -> None:
     """Odd names: of the file, of refs that only a store has, and of what gx can't be told."""
     commit = world.commit({"file": "1\n"})

@@ -77,4 +77,5 @@ of_changes changes.OutOfMemory = Command cli.OutOfMemory
 of_changes changes.ReadFailed = Command cli.ReadFailed
 of_changes changes.Damaged = Damaged
 of_changes (changes.WriteFailed written) = Command (cli.Export (export.WriteFailed written))
+of_changes changes.Unsupported = Command (cli.Export export.Unsupported)
 of_changes (changes.Word number kind) = Command (cli.Revision number kind)

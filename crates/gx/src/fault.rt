@@ -178,6 +178,9 @@ impl From<ChangesFault> for RunFault {
             ChangesFault::WriteFailed { written } => {
                 RunFault::Command(CliFault::Export(ExportFault::WriteFailed { written }))
             }
+            ChangesFault::Unsupported => {
+                RunFault::Command(CliFault::Export(ExportFault::Unsupported))
+            }
             ChangesFault::Word { number, kind } => RunFault::Command(CliFault::Revision {
                 number: number as u64,
                 kind,

@@ -1,5 +1,5 @@
 -- What the files at each path at which two trees differ are named by is held.
-use Rattle.std.proofs.Common.{◌≡◌, [], ◌∷◌, map, List, Option, Some, None, sym, subst}
+use Rattle.std.proofs.Common.{[], ◌∷◌, map, List, Option, Some, None, sym, subst}
 use Rattle.std.specs.Prelude.{IfSome}
 use Rattle.std.specs.List.{AllByRecursion}
 use Rattle.std.specs.declared.cmp.Ordering.{Ordering}

@@ -1,5 +1,5 @@
 -- The files that are held, and the texts that a patch has of them.
-use Rattle.std.proofs.Common.{◌≡◌, ◌∙◌, ◌++◌, true, false, [], refl, sym, Option, None, Some}
+use Rattle.std.proofs.Common.{◌≡◌, ◌∙◌, true, false, refl, sym, Some}
 use Rattle.std.specs.Prelude.{IsTrue, is_some}
 use Rattle.std.proofs.lemmas.Bool.{false≢true}
 use Rattle.gx_model.specs.declared.objects.Kind.{Kind}
@@ -11,7 +11,7 @@ use Rattle.gx_model.specs.Objects.{IsNamer, hex}
 use Rattle.gx_model.specs.Records.Growth.{record_named}
 use Rattle.gx_model.specs.Records.HistoryOf.{bytes_of_blob, content_of, named_values, value_of_name}
 use Rattle.gx_model.specs.Records.RecordFaults.{is_held}
-use Rattle.gx_model.specs.Records.Sound.{Holds, IsHeldAs, IsSound}
+use Rattle.gx_model.specs.Records.Sound.{Holds, IsSound}
 use Rattle.gx_model.specs.Records.{body_of, kind_of}
 use Rattle.gx_model.specs.Texts.{Bytes}
 use Rattle.gx_model.proofs.Records.HeldValues.{blob_body, holds_held, kind_held}

@@ -1,5 +1,5 @@
 -- What is put behind a text, part by part.
-use Rattle.std.proofs.Common.{◌≡◌, ◌∙◌, true, false, ◌++◌, append_assoc, append-nil, [], Option, None, Some, Result, Ok, Err, OnOk, refl, sym, ap, subst}
+use Rattle.std.proofs.Common.{◌≡◌, ◌∙◌, true, false, ◌++◌, append_assoc, append-nil, [], Option, None, Result, Ok, Err, OnOk, refl, sym, ap, subst}
 use Rattle.std.specs.Prelude.{IfSome, codes}
 use Rattle.std.proofs.lemmas.Result.{on_ok_weaker}
 use Rattle.gx_model.specs.Histories.Files.{Leaf}
@@ -42,7 +42,7 @@ module _ (from to old new : Bytes) where
         binary_line from to,
         e,
         subst (λ s. TellsBy s (are_binary old new) from to old new (binary_line from to)) (sym other)
-        (subst (λ b. TellsBy false b from to old new (binary_line from to)) (sym is) refl),
+            (subst (λ b. TellsBy false b from to old new (binary_line from to)) (sym is) refl),
       ))
 
   pub hunks_body : {E : Type 0} (r : Result (Unit {0}) E) (was one two now : Bytes) → same_bytes old new ≡ false → are_binary old new ≡ false
@@ -55,7 +55,7 @@ module _ (from to old new : Bytes) where
         a ++ b ++ t.0,
         t.1 ∙ ap (λ x. x ++ t.0) (second ∙ ap (λ x. x ++ b) first ∙ append_assoc was a b) ∙ append_assoc was (a ++ b) t.0,
         subst (λ s. TellsBy s (are_binary old new) from to old new (a ++ b ++ t.0)) (sym other)
-        (subst (λ x. TellsBy false x from to old new (a ++ b ++ t.0)) (sym text) (t.0, t.2, refl)),
+            (subst (λ x. TellsBy false x from to old new (a ++ b ++ t.0)) (sym text) (t.0, t.2, refl)),
       ))
 
 -- ---- the patch of a path

@@ -65,10 +65,7 @@ fn is_submodule(mode: Mode) -> bool
 }
 
 /// Appends the line of a submodule.
-fn put_submodule<A: Allocator + Copy>(
-    text: &mut Vec<u8, A>,
-    name: &Name,
-) -> Result<(), AllocError>
+fn put_submodule<A: Allocator + Copy>(text: &mut Vec<u8, A>, name: &Name) -> Result<(), AllocError>
     ensures { OnOk result (text.new.items ≡ text.old.items ++ submodule_text (hex name.now.bytes)) }
 {
     text.extend_from_slice(b"Subproject commit ")?;

@@ -1,5 +1,5 @@
 -- What is told of what differs between two revisions, or why a word is refused.
-use Rattle.std.proofs.Common.{◌≡◌, ◌∙◌, ℕ, [], Bool, true, false, List, Option, None, Some, Result, Ok, Err, refl, sym, ap, subst}
+use Rattle.std.proofs.Common.{◌≡◌, ◌∙◌, [], Bool, true, false, List, Option, None, Some, Result, Ok, Err, refl, sym, ap, subst}
 use Rattle.std.specs.Prelude.{IfSome}
 use Rattle.std.specs.List.{AllByRecursion}
 use Rattle.gx_model.specs.declared.objects.Kind.{Kind}
@@ -12,7 +12,6 @@ use Rattle.gx_model.specs.Texts.Paths.{path_text}
 use Rattle.gx_model.specs.Texts.Sinks.{Taken}
 use Rattle.gx_model.proofs.Texts.SentTexts.{took_nothing}
 use Rattle.gx_object.specs.declared.name.Name.{Name}
-use Rattle.gx_rev.specs.Objects.{files_at}
 use Rattle.gx_tree.proofs.NamedFiles.{each-filter}
 use Rattle.gx_asks.specs.declared.question.DiffOptions.{DiffOptions}
 use Rattle.gx_differences.specs.Listed.{AreListed, HasLeaves, HaveLeaves, Standing, shown_differences}

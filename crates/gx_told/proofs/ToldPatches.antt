@@ -24,14 +24,14 @@ use Rattle.gx_told.proofs.Prints.{none_sent, sent_prints}
 
 module _ (told : Option Records) (s : Standing) where
   -- a patch that was made goes out
-  pub patch_sent : (was now : Option Taken) (before text : Bytes) (answer : Result (Unit {0}) ToldFault) → before ≡ [] → IfSome told (λ r. Puts (IsPatch (named_values r.records) s) before text) → Sent text was now answer
+  pub patch_sent : (was now : Option Taken) (before made text : Bytes) (answer : Result (Unit {0}) ToldFault) → before ≡ [] → text ≡ made → IfSome told (λ r. Puts (IsPatch (named_values r.records) s) before made) → Sent text was now answer
       → IfSome told (λ r. PrintsPatch r s was now answer)
-  patch_sent was now before text answer none h k = by told h
+  patch_sent was now before made text answer none e h k = by told h
     where
-      by : (told : Option Records) → IfSome told (λ r. Puts (IsPatch (named_values r.records) s) before text) → IfSome told (λ r. PrintsPatch r s was now answer)
+      by : (told : Option Records) → IfSome told (λ r. Puts (IsPatch (named_values r.records) s) before made) → IfSome told (λ r. PrintsPatch r s was now answer)
       by None h = tt
       by (Some r) h =
-          let same : text ≡ h.0 = h.1 ∙ ap (λ b. b ++ h.0) none in
+          let same : text ≡ h.0 = e ∙ h.1 ∙ ap (λ b. b ++ h.0) none in
           (h.0, h.2, subst (λ t. PrintsText t was now answer) same (sent_prints text was now answer k))
 
   -- none was made
@@ -79,8 +79,7 @@ module _ {A : Type 0} (found : List (Difference A)) (was : Option Taken) where
       let s = shown_difference d in
       let rest = some_patches named (shown_differences left) in
       let whole = h.front ++ (k.0 ++ rest.0) in
-      let all = patches_join named h.done (s ∷ shown_differences left) h.front (k.0 ++ rest.0) h.patches (k.0, rest.0, k.1, rest.1, refl) in
-      (
+      let all = patches_join named h.done (s ∷ shown_differences left) h.front (k.0 ++ rest.0) h.patches (k.0, rest.0, k.1, rest.1, refl) in (
         whole,
         subst (λ ss. ArePatches named ss whole) (sym h.parts) all,
         cut_short was mid now whole k.0 rest.0 fault (record { front = h.front; parts = refl; took = h.took }) k.2,

@@ -1,6 +1,6 @@
 //! The paths at which two revisions differ, or the patch of them, and whether any differs. Source: git-diff-tree(1).
 
-ghost use Rattle.std.specs.Prelude.{◌≡◌, IfSome};
+ghost use Rattle.std.specs.Prelude.{◌≡◌, IfSome, true};
 ghost use Rattle.gx_model.specs.declared.objects.Kind.TheVariants as kinds;
 ghost use Rattle.gx_model.specs.Records.HistoryOf.{history_of};
 ghost use Rattle.gx_rev.specs.Objects.{IsHeldAs};
@@ -89,10 +89,7 @@ fn tell_found<O: Objects, A: Allocator + Copy, W: Sink>(
         (shown_differences found.now) (W.taken sink.old) (W.taken sink.new)) result }
 {
     if is_patch(options.form) {
-        match print_patches(alloc, objects, found, sink) {
-            Ok(()) => Ok(ends_well(options, found)),
-            Err(fault) => Err(fault),
-        }
+        tell_patches(alloc, objects, options, found, sink)
     } else {
         print_found(alloc, options, found, sink)
     }
@@ -102,6 +99,25 @@ fn is_patch(form: DiffForm) -> bool
     ensures { result ≡ is_patch form }
 {
     matches!(form, DiffForm::Patch)
+}
+
+/// Prints the patches of these paths, and answers.
+fn tell_patches<O: Objects, A: Allocator + Copy, W: Sink>(
+    alloc: A,
+    objects: &O,
+    options: DiffOptions,
+    found: &[Difference<A>],
+    sink: &mut W,
+) -> Result<bool, ToldFault>
+    requires held { IfSome (O.told objects.now) (HaveLeaves found.now) }
+    requires form { is_patch options.form ≡ true }
+    ensures { IfTold (O.told objects.now) (λ r. TellsFound r options
+        (shown_differences found.now) (W.taken sink.old) (W.taken sink.new)) result }
+{
+    match print_patches(alloc, objects, found, sink) {
+        Ok(()) => Ok(ends_well(options, found)),
+        Err(fault) => Err(fault),
+    }
 }
 
 /// Prints the patch of each of these paths, one at a time.

@@ -3,12 +3,12 @@ use Rattle.std.proofs.lemmas.Result.{err_from_is_err_and}
 use Rattle.gx_model.specs.Faults.{◌>>=◌}
 use Rattle.gx_model.specs.Records.HistoryOf.{history_of}
 use Rattle.gx_text.specs.Lent.{lent_texts}
-use Rattle.gx_diff.specs.Lines.{diff_text}
 use Rattle.gx_told.specs.Answering.{IsTold}
 use Rattle.gx_told.specs.Differing.{differing_words}
 use Rattle.gx_told.specs.declared.fault.ToldFault.TheVariants.{OutOfMemory}
 use Rattle.gx_told.proofs.Prints.{none_printed}
 use Rattle.gx_told.proofs.Tellings.{each_told}
+use Rattle.gx_told.proofs.ToldDifferences.{some_given}
 use Rattle.gx_told.proofs.telling.tell.Goals as goal
 
 pub returns-in_err-asked-in-Diff : goal.returns-in_err-asked-in-Diff
@@ -20,4 +20,6 @@ returns-in_err-asked-in-Diff g c =
     let asked = c.in-Diff in
     rw (p.1, p.2) (each_told told _ (λ r.
     subst (λ q. IsTold name q r was was (Err OutOfMemory)) (sym asked.is)
-    (none_printed (differing_words name (history_of r) asked.old.now asked.new.now (lent_texts asked.paths.items) >>= λ ss. Ok (diff_text asked.options ss)) was)))
+    (let given = differing_words name (history_of r) asked.old.now asked.new.now (lent_texts asked.paths.items) in
+    let t = some_given r asked.options given in
+    (t.0, t.1, none_printed (given >>= λ ss. Ok t.0) was))))

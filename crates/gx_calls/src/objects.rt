@@ -107,12 +107,14 @@ fn encode_again<N: Namer>(room: &mut Room<'_>, namer: &N, body: &[u8]) {
     };
     let mut parents = Vec::new(room.alloc);
     put_parents(&mut parents, &commit);
+    // its line stands among the headers
+    let encoding: Option<&[u8]> = None;
     let parts = CommitParts {
         tree: commit.tree(),
         parents: &parents,
         author,
         committer,
-        encoding: None,
+        encoding,
         further: commit.headers(),
         message: commit.message(),
     };

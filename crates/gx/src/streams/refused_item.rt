@@ -34,7 +34,7 @@ fn explained(alloc: Global, kind: &Refused<Global>) -> Result<Vec<u8>, AllocErro
         Refused::BadObject(name) => of_object(
             alloc,
             name,
-            b" isn't canonical, or has what no stream can say, as a signature",
+            b" isn't canonical, or has what no store holds, as a tag of a blob",
         ),
         Refused::NameHeld(name) => of_object(alloc, name, b" is held with other bytes"),
         Refused::Dangling(name, link) => {

@@ -1,0 +1,3 @@
+pub mod Paths
+pub mod Following
+pub mod Found

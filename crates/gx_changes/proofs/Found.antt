@@ -4,12 +4,14 @@ use Rattle.std.specs.Prelude.{IfErr, IfOk, IfSome}
 use Rattle.gx_model.specs.declared.objects.Kind.{Kind}
 use Rattle.gx_model.specs.Changes.{range_text, set_refs}
 use Rattle.gx_model.specs.Histories.{Records}
+use Rattle.gx_model.specs.Laws.ExportLaws.{HaveEncodingsAlone}
 use Rattle.gx_model.specs.Records.HistoryOf.{history_of}
 use Rattle.gx_model.specs.Revisions.{RangeWord}
 use Rattle.gx_model.specs.Revisions.Ranges.{Word, WordFault, listing, words_denoted}
 use Rattle.gx_model.specs.Texts.{Bytes}
 use Rattle.gx_model.specs.Texts.Sinks.{Taken, TookFront}
 use Rattle.gx_object.specs.declared.name.Name.{Name}
+use Rattle.gx_print.specs.Logs.{AreCommits}
 use Rattle.gx_rev.specs.Objects.{commit_at}
 use Rattle.gx_export.specs.ChangedParts.{DeliversRange}
 use Rattle.gx_export.proofs.Writing.{nothing_yet}
@@ -20,6 +22,7 @@ use Rattle.gx_tips.specs.Spans.{AreHeld, AreListed, AreNewestFirst, AreSetRefs, 
 use Rattle.gx_tips.specs.Tips.{AreTips, targets}
 use Rattle.gx_tips.specs.declared.spans.Spans.{Spans}
 use Rattle.gx_changes.specs.Faults.{of_send}
+use Rattle.gx_changes.specs.Sayable.{FindsSayable}
 use Rattle.gx_changes.specs.Sending.{FindsSent, IsFoundIn, IsSent, SendsFront, SendsRange}
 use Rattle.gx_changes.specs.Texts.{DeliversAll, commits_sent}
 use Rattle.gx_changes.specs.declared.fault.ChangesFault.{ChangesFault}
@@ -50,6 +53,10 @@ module _ {A : Type 0} (name : Kind → Bytes → Bytes) (stands : ℕ → ℕ) (
   order_found None sent h = tt
   order_found (Some r) sent h = h.2.order
 
+  pub commits_found : (told : Option Records) (sent : Sent A) → FindsSent name stands told asked (Ok sent) → IfSome told (λ r. AreCommits r sent.commits.items)
+  commits_found None sent h = tt
+  commits_found (Some r) sent h = h.2.order.commits
+
 -- ---- what an export answers
 
 module _ (name : Kind → Bytes → Bytes) (closed : Bool) (asked : List RangeWord) where
@@ -76,6 +83,16 @@ module _ (name : Kind → Bytes → Bytes) (closed : Bool) (asked : List RangeWo
   not_found A stands (Some r) Unsupported was h = absurd h
   not_found A stands (Some r) (Refused number kind) was h = (refl, h)
 
+  -- where a stream can't say what was found, or a look at it stops, nothing goes out
+  pub not_said : {A : Type 0} (stands : ℕ → ℕ) (sent : Sent A) (was : Option Taken) (told : Option Records) (e : SendFault) → FindsSent name stands told asked (Ok sent)
+      → IfSome told (λ r. FindsSayable (commits_sent r sent.commits.items) (Err e)) → IfSome told (SendsRange name closed asked was was (Err (of_send e)))
+  not_said stands sent was None e h k = tt
+  not_said stands sent was (Some r) send.OutOfMemory h k = none_out r was
+  not_said stands sent was (Some r) send.ReadFailed h k = none_out r was
+  not_said stands sent was (Some r) send.Damaged h k = absurd k
+  not_said stands sent was (Some r) (send.WriteFailed n) h k = absurd k
+  not_said stands sent was (Some r) send.Unsupported h k = (h.0, h.1, (refl, λ each. k (subst HaveEncodingsAlone (sym h.2.commits) each)))
+
   module _ {A : Type 0} (stands : ℕ → ℕ) (sent : Sent A) (was now : Option Taken) where
     -- what goes out is the text of the words
     of_words : (r : Records) (words : List Word) (result : Result (Unit {0}) SendFault) → IsSent stands words r sent → DeliversAll name closed (commits_sent r sent.commits.items) (targets r sent.refs.items) was now (stopped result)
@@ -91,9 +108,10 @@ module _ (name : Kind → Bytes → Bytes) (closed : Bool) (asked : List RangeWo
       none = subst (λ g. IfErr g (λ refusal. now ≡ was)) (sym e) tt;
     }
 
-    pub sent_out : (told : Option Records) → FindsSent name stands told asked (Ok sent) → IfSome told (λ r. DeliversAll name closed (commits_sent r sent.commits.items) (targets r sent.refs.items) was now (Ok tt)) → IfSome told (SendsRange name closed asked was now (Ok tt))
-    sent_out None h k = tt
-    sent_out (Some r) h k = (h.0, h.1, of_words r h.0 (Ok tt) h.2 k)
+    pub sent_out : (told : Option Records) → FindsSent name stands told asked (Ok sent) → IfSome told (λ r. FindsSayable (commits_sent r sent.commits.items) (Ok tt))
+        → IfSome told (λ r. DeliversAll name closed (commits_sent r sent.commits.items) (targets r sent.refs.items) was now (Ok tt)) → IfSome told (SendsRange name closed asked was now (Ok tt))
+    sent_out None h s k = tt
+    sent_out (Some r) h s k = (h.0, h.1, (subst HaveEncodingsAlone h.2.commits s, of_words r h.0 (Ok tt) h.2 k))
 
     pub sent_stops : (told : Option Records) (e : SendFault) → FindsSent name stands told asked (Ok sent) → IsOnTheWay {X = Unit {0}} told (Err e)
         → IfSome told (λ r. DeliversAll name closed (commits_sent r sent.commits.items) (targets r sent.refs.items) was now (stopped (Err e))) → IfSome told (SendsRange name closed asked was now (Err (of_send e)))
@@ -102,4 +120,4 @@ module _ (name : Kind → Bytes → Bytes) (closed : Bool) (asked : List RangeWo
     sent_stops (Some r) send.ReadFailed h w k = front_out r h.0 h.1 (of_words r h.0 (Err send.ReadFailed) h.2 k)
     sent_stops (Some r) send.Damaged h w k = absurd (cc w)
     sent_stops (Some r) (send.WriteFailed n) h w k = (h.0, h.1, of_words r h.0 (Err (send.WriteFailed n)) h.2 k)
-    sent_stops (Some r) send.Unsupported h w k = (h.0, h.1, of_words r h.0 (Err send.Unsupported) h.2 k)
+    sent_stops (Some r) send.Unsupported h w k = absurd k

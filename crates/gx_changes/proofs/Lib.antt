@@ -5,4 +5,5 @@ mod CommitLines
 mod Parents
 mod SentRefs
 mod Texts
+mod Sayable
 mod Found

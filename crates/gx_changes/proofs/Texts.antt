@@ -148,20 +148,24 @@ module _ {W A : Type 0} (name : Kind → Bytes → Bytes) (closed : Bool) (commi
 
 module _ (r : Records) (commits : List Name) (i : ℕ) (called : Name) (l : i < length commits) (e : called ≡ get_or commits i called) where
   -- one more
-  sent_next : commits_sent r (drop i commits) ≡ commits_sent r (drop (suc i) commits) ++ commit_at r called ∷ []
+  pub sent_next : commits_sent r (drop i commits) ≡ commits_sent r (drop (suc i) commits) ++ commit_at r called ∷ []
   sent_next = ap (commits_sent r) (dropped commits i called l e) ∙ reverse-append (commit_at r called ∷ []) (map (commit_at r) (drop (suc i) commits))
     where
       dropped : (xs : List Name) (i : ℕ) (x : Name) → i < length xs → x ≡ get_or xs i x → drop i xs ≡ x ∷ drop (suc i) xs
       dropped xs i x l e = drop-cons xs i x l ∙ ap (λ y. y ∷ drop (suc i) xs) (sym e)
 
   -- those that went out before, this one, and those behind it
-  sent_parts : commits_sent r commits ≡ commits_sent r (drop (suc i) commits) ++ (commit_at r called ∷ commits_sent r (take i commits))
+  pub sent_parts : commits_sent r commits ≡ commits_sent r (drop (suc i) commits) ++ (commit_at r called ∷ commits_sent r (take i commits))
   sent_parts =
       let rest = drop (suc i) commits in
       let before = map (commit_at r) (take i commits) in
       ap (commits_sent r) (listed_parts commits i called l e) ∙ ap reverse (map-append (commit_at r) (take i commits) (called ∷ rest)) ∙ reverse-append before (map (commit_at r) (called ∷ rest))
       ∙ ap (λ cs. cs ++ reverse before) (reverse-append (commit_at r called ∷ []) (map (commit_at r) rest))
       ∙ append_assoc (commits_sent r (drop (suc i) commits)) (commit_at r called ∷ []) (commits_sent r (take i commits))
+
+pub none_left : (xs : List Name) → drop (length xs) xs ≡ []
+none_left [] = refl
+none_left (x ∷ xs) = none_left xs
 
 module _ {W A B : Type 0} (name : Kind → Bytes → Bytes) (commits : List Name) (branches : Branches B) (first : Written W A) where
   -- these commits went out
@@ -172,10 +176,6 @@ module _ {W A B : Type 0} (name : Kind → Bytes → Bytes) (commits : List Name
   -- those from a place on
   abbrev pub SentFrom : Written W A → ℕ → Records → Type 0
   SentFrom now i r = SentAs (commits_sent r (drop i commits)) now r
-
-  none_left : (xs : List Name) → drop (length xs) xs ≡ []
-  none_left [] = refl
-  none_left (x ∷ xs) = none_left xs
 
   pub none_sent : (told : Option Records) (i : ℕ) → i ≡ length commits → IfSome told (λ r. HasWritten r [] first) → IfSome told (SentFrom first i)
   none_sent None i e h = tt

@@ -1,4 +1,5 @@
 pub mod Commits
 pub mod Faults
+pub mod Sayable
 pub mod Sending
 pub mod Texts

@@ -6,6 +6,7 @@ ghost use Rattle.gx_changes.specs.Sending.{SendsRange};
 
 use crate::ChangesFault;
 use crate::finding::{Sent, find_sent};
+use crate::sayable::check_sayable;
 use crate::sending::write_sent;
 use gx_objects::Objects;
 use gx_rev::Range;
@@ -15,7 +16,8 @@ use std::alloc::Allocator;
 /// Writes the commits that range words list as a stream, with the refs whose commits some word includes or excludes, as
 /// `gx_export::export_range` writes those of a repository.
 ///
-/// Word: a word is refused, and nothing went out. WriteFailed: the sink failed, or has taken 2^63 - 1 bytes of a longer text.
+/// Word: a word is refused, and nothing went out. Unsupported: a commit that is listed has a header but that of an encoding, as
+/// a signature, which no stream can say, and nothing went out. WriteFailed: the sink failed, or has taken 2^63 - 1 bytes of a longer text.
 /// OutOfMemory: a growth is refused. ReadFailed: a read failed. Damaged: this is no repository. What went out is a front of the
 /// text.
 /// Cost: what the words cost; the bodies of the commits that the words reach down to the oldest ref that they reach, and of those
@@ -36,6 +38,7 @@ pub fn export_range<O: Objects, A: Allocator + Copy, W: Sink>(
     let mut room = Vec::new(alloc);
     let mut lines = Vec::new(alloc);
     let Sent { refs, commits } = find_sent(alloc, objects, &mut room, &mut lines, words)?;
+    check_sayable(objects, &mut room, &commits)?;
     write_sent(alloc, objects, &mut room, sink, &refs, &commits, closed)?;
     Ok(())
 }

@@ -7,6 +7,7 @@ mod exporting;
 mod fault;
 mod finding;
 mod refs;
+mod sayable;
 mod sending;
 
 pub use exporting::export_range;

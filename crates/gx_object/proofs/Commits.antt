@@ -58,10 +58,10 @@ encoding_is headers = by (starts_with nat_eq headers (codes "encoding ")) refl
 
 -- what is read at the front tells whether headers are that of an encoding alone
 pub alone_is : (headers : Bytes) → is_line_alone (field (codes "encoding") headers) headers ≡ is_encoding_alone headers
+unfolding encoding_field
 alone_is headers = by (field (codes "encoding") headers) refl
   where
     told : (o : Option (Bytes × Bytes)) → field (codes "encoding") headers ≡ o → encoding_in headers ≡ (o >>= λ a. cond (nat_eq (length a.0) 0) None (Some a.0))
-    unfolding encoding_field
     told o e = sym (encoding_is headers) ∙ rw e refl
 
     nothing : (h : Bytes) → nat_eq (length h) 0 ≡ same_bytes h []

@@ -1,6 +1,6 @@
 -- A small repository that stands for a whole one: some of its blobs and commits have, behind a nonce, the name of what they stand for.
 -- Source: Pro Git, "Git Objects", on names and on the texts of commits.
-use Rattle.std.specs.Prelude.{◌≡◌, ◌&&◌, if◌then◌else◌, MatchOption, false, List, length, take, drop, Option, None, Some, Ok, codes}
+use Rattle.std.specs.Prelude.{[], ◌≡◌, ◌&&◌, if◌then◌else◌, MatchOption, false, List, length, take, drop, Option, None, Some, Ok, codes}
 use Rattle.std.specs.List.{AllByRecursion}
 use Rattle.std.specs.Map.{lookup}
 use Rattle.std.specs.Option.{option_map, unwrap_or}

@@ -1,7 +1,7 @@
 -- Commits and tags as Git has them: with a message or none, by anybody that a line can name; tags of anything, with any further
 -- headers behind those that Git reads itself. Source: gitglossary(7), "commit object" and "tag object", and gitformat-signature(5), on
 -- `gpgsig` and `mergetag`.
-use Rattle.std.specs.Prelude.{◌≡◌, ℕ, ◌+◌, Bool, true, not, ◌&&◌, ◌==◌, nat_eq, nat_lt, if◌then◌else◌, List, [], ◌∷◌, ◌++◌, length, codes, Option, None, Some, IsTrue, ⊤}
+use Rattle.std.specs.Prelude.{◌≡◌, ℕ, Bool, true, not, ◌&&◌, ◌==◌, nat_eq, if◌then◌else◌, List, [], ◌∷◌, ◌++◌, length, codes, Option, None, Some, IsTrue, ⊤}
 use Rattle.std.specs.List.{flat_map, list_all, starts_with}
 use Rattle.std.specs.Option.{option_map, unwrap_or}
 use Rattle.gx_model.specs.declared.objects.Kind.{Kind}

@@ -36,4 +36,4 @@ returns c =
     (ap (ident_field (codes "author")) (sym c.split_parents.ensures.rest) ∙ sym c.in_ok-author.ensures)
     (sym c.in_ok-committer.ensures)
     (sym c.in_ok-headers.ensures)
-    (ap option_copied c.in_ok-message.ensures))
+    (ap option_copied c.in_ok-message.was))

@@ -9,7 +9,7 @@ use Rattle.gx_model.specs.declared.objects.Mode.{Mode}
 use Rattle.gx_model.specs.declared.objects.Mode.TheVariants.{Dir}
 use Rattle.gx_model.specs.Histories.{Record, Records}
 use Rattle.gx_model.specs.Histories.Files.{FileMap, Leaf}
-use Rattle.gx_model.specs.Histories.Values.{Commit}
+use Rattle.gx_model.specs.Histories.Values.{Commit, files_of}
 use Rattle.gx_model.specs.Texts.{Bytes}
 use Rattle.gx_model.specs.Texts.Paths.{Path}
 use Rattle.gx_object.specs.declared.name.Name.{Name}
@@ -19,7 +19,7 @@ use Rattle.gx_rev.specs.Objects.{IsHeldAs, commit_at, files_at}
 use Rattle.gx_rev.specs.Places.{IsHeldPlace}
 use Rattle.gx_tips.specs.Spans.{AreNewestFirst}
 use Rattle.gx_touched.specs.Following.{IsFollowed, is_among, is_listed, own_parents}
-use Rattle.gx_touched.specs.declared.touched.Walked.{Walked}
+use Rattle.gx_touched.specs.declared.walking.Walked.{Walked}
 
 -- a tree that may be there is held
 abbrev pub IsTreeIf : Option Name → Records → Type 0
@@ -44,6 +44,17 @@ HasPlacesOf stands places commits repository =
 pub record AreParents (stands : ℕ → ℕ) (made : Name) (repository : Records) (parents : List (ℕ × Name)) : Type 0 where
   pub commits : map (λ tip. commit_at repository tip.1) parents ≡ own_parents (commit_at repository made)
   pub tips : AreTips stands parents repository
+
+-- a commit has this tree and these parents
+pub record IsMadeOf (tree : Name) (parents : List (ℕ × Name)) (repository : Records) (made : Commit) : Type 0 where
+  pub files : files_of made ≡ files_at repository tree
+  pub parents : own_parents made ≡ map (λ tip. commit_at repository tip.1) parents
+
+-- this is the place of the parent to which the way leads alone, where it leads to one alone
+abbrev pub IsWay : (ℕ → ℕ) → Records → Option Commit → Option ℕ → Type 0
+IsWay stands repository None None = ⊤
+IsWay stands repository (Some parent) (Some place) = (called : Name) × IsTip stands repository (place, called) × (commit_at repository called ≡ parent)
+IsWay stands repository _ _ = ⊥
 
 -- what is walked over: commits, each of which stands behind the next, those where the walk starts, and those where it ends
 pub record AreWalked (walked : Walked) (repository : Records) : Type 0 where

@@ -1,3 +1,4 @@
 pub mod Paths
 pub mod Following
+pub mod Places
 pub mod Found

@@ -1,14 +1,16 @@
 //! Where the way leads on from a commit, and whether the commit is listed.
 
-ghost use Rattle.std.specs.Prelude.{◌≡◌, ◌≢◌, ◌++◌, ◌&&◌, not, [], IfSome, List, Option};
-ghost use Rattle.std.specs.List.{AllByRecursion};
-ghost use Rattle.std.specs.Option.{option_map};
+ghost use Rattle.std.specs.Prelude.{◌≡◌, ◌≢◌, ◌++◌, ◌&&◌, ◌||◌, not, [], IfSome, List};
+ghost use Rattle.std.specs.BTreeSet.{contains};
+ghost use Rattle.std.specs.List.{AllByRecursion, list_any};
+ghost use Rattle.std.specs.Ordering.{nat_cmp};
 ghost use Rattle.gx_model.specs.declared.objects.Kind.TheVariants as kinds;
 ghost use Rattle.gx_model.specs.Histories.Values.{Commit, files_of};
 ghost use Rattle.gx_questions.specs.Answers.{IfTold, IsOfTold, RefusesUntold};
 ghost use Rattle.gx_rev.specs.Objects.{IsHeldAs, commit_at, files_at};
-ghost use Rattle.gx_touched.specs.Following.{differs, is_listed, is_same, only_way, ways};
-ghost use Rattle.gx_touched.specs.Found.{AreParents, HasPlacesOf, IsTreeIf, files_if};
+ghost use Rattle.gx_ranges.specs.Fronts.{AreTips, IsTip};
+ghost use Rattle.gx_touched.specs.Following.{differs, is_among, is_listed, is_same, only_way, ways};
+ghost use Rattle.gx_touched.specs.Found.{HasPlacesOf, IsMadeOf, IsTreeIf, IsWay, files_if};
 ghost use Rattle.gx_touched.specs.Paths.{same_at};
 
 use crate::parents::{parents_of, tree_of};
@@ -71,17 +73,49 @@ fn only_way<O: Objects, A: Allocator + Copy>(
     parents: &[(u64, Name)],
     room: &mut Vec<u8, A>,
 ) -> Result<Option<u64>, AskFault>
+    requires tree { IfTold (O.told objects.now) (IsHeldAs kinds.Tree) tree.now }
+    requires parents { IfSome (O.told objects.now) (AreTips (O.stands objects.now) parents.now) }
+    requires paths { AllByRecursion (λ path. path ≢ []) asked.paths.now }
+    ensures way { IsOfTold (O.told objects.now) (λ r way. (near : List Commit) (made : Commit)
+        → HasPlacesOf (O.stands objects.now) asked.near.now near r
+        → IsMadeOf tree.now parents.now r made
+        → IsWay (O.stands objects.now) r (only_way asked.paths.now near asked.full_history made) way) result }
+    ensures fault { RefusesUntold (O.told objects.now) result }
 {
     objects.sound_if_told();
     if asked.full_history {
         return Ok(None);
     }
     for (place, parent) in parents {
-        if asked.near.contains(place) && is_same(objects, asked.paths, tree, parent, room)? {
+        if is_near_and_same(objects, asked, tree, *place, parent, room)? {
             return Ok(Some(*place));
         }
     }
     Ok(None)
+}
+
+/// Whether a parent is near, and has the same at the paths as a commit of this tree.
+fn is_near_and_same<O: Objects, A: Allocator + Copy>(
+    objects: &O,
+    asked: Asked<'_, A>,
+    tree: &Name,
+    place: u64,
+    parent: &Name,
+    room: &mut Vec<u8, A>,
+) -> Result<bool, AskFault>
+    requires tree { IfTold (O.told objects.now) (IsHeldAs kinds.Tree) tree.now }
+    requires parent { IfSome (O.told objects.now) (λ r. IsTip (O.stands objects.now) r (place, parent.now)) }
+    requires paths { AllByRecursion (λ path. path ≢ []) asked.paths.now }
+    ensures test { IsOfTold (O.told objects.now) (λ r test. (near : List Commit) (made : Commit)
+        → HasPlacesOf (O.stands objects.now) asked.near.now near r
+        → files_of made ≡ files_at r tree.now
+        → test ≡ (is_among near (commit_at r parent.now) && is_same asked.paths.now near asked.full_history made (commit_at r parent.now))) result }
+    ensures fault { RefusesUntold (O.told objects.now) result }
+{
+    if !asked.near.contains(&place) {
+        return Ok(false);
+    }
+    is_same(objects, asked.paths, tree, parent, room)
 }
 
 /// Whether a commit of this tree differs from a parent by which it is judged, or has something at the paths and no parent.
@@ -92,6 +126,14 @@ fn differs<O: Objects, A: Allocator + Copy>(
     parents: &[(u64, Name)],
     room: &mut Vec<u8, A>,
 ) -> Result<bool, AskFault>
+    requires tree { IfTold (O.told objects.now) (IsHeldAs kinds.Tree) tree.now }
+    requires parents { IfSome (O.told objects.now) (AreTips (O.stands objects.now) parents.now) }
+    requires paths { AllByRecursion (λ path. path ≢ []) asked.paths.now }
+    ensures differs { IsOfTold (O.told objects.now) (λ r differs. (near : List Commit) (made : Commit)
+        → HasPlacesOf (O.stands objects.now) asked.near.now near r
+        → IsMadeOf tree.now parents.now r made
+        → differs ≡ differs asked.paths.now near asked.full_history made) result }
+    ensures fault { RefusesUntold (O.told objects.now) result }
 {
     objects.sound_if_told();
     if parents.is_empty() {
@@ -99,15 +141,42 @@ fn differs<O: Objects, A: Allocator + Copy>(
     }
     let all = !some_near(asked.near, parents);
     for (place, parent) in parents {
-        if (all || asked.near.contains(place)) && !is_same(objects, asked.paths, tree, parent, room)? {
+        if tells(objects, asked, all, tree, *place, parent, room)? {
             return Ok(true);
         }
     }
     Ok(false)
 }
 
+/// Whether a commit of this tree is judged by a parent, and differs from it.
+fn tells<O: Objects, A: Allocator + Copy>(
+    objects: &O,
+    asked: Asked<'_, A>,
+    all: bool,
+    tree: &Name,
+    place: u64,
+    parent: &Name,
+    room: &mut Vec<u8, A>,
+) -> Result<bool, AskFault>
+    requires tree { IfTold (O.told objects.now) (IsHeldAs kinds.Tree) tree.now }
+    requires parent { IfSome (O.told objects.now) (λ r. IsTip (O.stands objects.now) r (place, parent.now)) }
+    requires paths { AllByRecursion (λ path. path ≢ []) asked.paths.now }
+    ensures test { IsOfTold (O.told objects.now) (λ r test. (near : List Commit) (made : Commit)
+        → HasPlacesOf (O.stands objects.now) asked.near.now near r
+        → files_of made ≡ files_at r tree.now
+        → test ≡ ((is_among near (commit_at r parent.now) || all) && not (is_same asked.paths.now near asked.full_history made (commit_at r parent.now)))) result }
+    ensures fault { RefusesUntold (O.told objects.now) result }
+{
+    if !all && !asked.near.contains(&place) {
+        return Ok(false);
+    }
+    Ok(!is_same(objects, asked.paths, tree, parent, room)?)
+}
+
 /// Whether some parent is near.
-fn some_near<A: Allocator + Copy>(near: &BTreeSet<u64, A>, parents: &[(u64, Name)]) -> bool {
+fn some_near<A: Allocator + Copy>(near: &BTreeSet<u64, A>, parents: &[(u64, Name)]) -> bool
+    ensures { result ≡ list_any (λ tip. contains nat_cmp near.now tip.0) parents.now }
+{
     for (place, _) in parents {
         if near.contains(place) {
             return true;
@@ -124,8 +193,13 @@ fn is_same<O: Objects, A: Allocator + Copy>(
     parent: &Name,
     room: &mut Vec<u8, A>,
 ) -> Result<bool, AskFault>
+    requires tree { IfTold (O.told objects.now) (IsHeldAs kinds.Tree) tree.now }
+    requires parent { IfTold (O.told objects.now) (IsHeldAs kinds.Commit) parent.now }
+    requires paths { AllByRecursion (λ path. path ≢ []) paths.now }
+    ensures same { IsOfTold (O.told objects.now) (λ r same. same
+        ≡ same_at paths.now (files_of (commit_at r parent.now)) (files_at r tree.now)) result }
+    ensures fault { RefusesUntold (O.told objects.now) result }
 {
-    objects.sound_if_told();
     let old = tree_of(objects, room, parent)?;
     same_at(objects, paths, Some(old), *tree, room)
 }
@@ -138,8 +212,13 @@ fn same_at<O: Objects, A: Allocator + Copy>(
     new: Name,
     room: &mut Vec<u8, A>,
 ) -> Result<bool, AskFault>
+    requires old { IfSome (O.told objects.now) (IsTreeIf old) }
+    requires new { IfTold (O.told objects.now) (IsHeldAs kinds.Tree) new }
+    requires paths { AllByRecursion (λ path. path ≢ []) paths.now }
+    ensures same { IsOfTold (O.told objects.now) (λ r same.
+        same ≡ same_at paths.now (files_if r old) (files_at r new)) result }
+    ensures fault { RefusesUntold (O.told objects.now) result }
 {
-    objects.sound_if_told();
     for path in paths {
         if !same_below(objects, old, Some(new), path, room)? {
             return Ok(false);

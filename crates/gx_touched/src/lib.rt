@@ -6,6 +6,6 @@ mod judging;
 mod parents;
 mod places;
 mod sets;
-mod touched;
+mod walking;
 
-pub use touched::{Walked, touched};
+pub use walking::{Walked, touched};

@@ -1,18 +1,19 @@
 //! What two trees have at a path. Directories are read along it, as long as they differ.
 
 ghost use Rattle.std.specs.Prelude.{◌≡◌, ◌≢◌, [], IfSome};
-ghost use Rattle.gx_questions.specs.Answers.{IfTold, IsOfTold, RefusesUntold};
+ghost use Rattle.std.specs.Option.{option_map};
+ghost use Rattle.gx_model.specs.Records.Walks.{entry_at};
+ghost use Rattle.gx_questions.specs.Answers.{IsOfTold, RefusesUntold};
+ghost use Rattle.gx_rev.specs.Places.{IsOfEntry, shown_place};
 ghost use Rattle.gx_touched.specs.Found.{IsTreeIf, files_if};
 ghost use Rattle.gx_touched.specs.Paths.{same_below};
+ghost use Rattle.gx_touched.specs.Places.{IsHeldIf, entry_below, root_place, same_places};
 
 use gx_object::{Mode, Name, TreeEntries};
 use gx_objects::Objects;
 use gx_questions::{AskFault, entries};
 use gx_text::TreePath;
 use std::alloc::Allocator;
-
-/// The mode and the name of what stands at a path, where something does.
-type Place = Option<(Mode, Name)>;
 
 /// Whether two held trees have the same at a path and below it. No tree has nothing.
 ///
@@ -40,14 +41,16 @@ pub(crate) fn same_below<O: Objects, A: Allocator + Copy>(
             return Ok(true);
         }
         let component = path.component(number);
-        old = below(objects, old, component, room)?;
-        new = below(objects, new, component, room)?;
+        old = below(objects, &old, component, room)?;
+        new = below(objects, &new, component, room)?;
     }
     Ok(is_same(&old, &new))
 }
 
 /// A tree as what stands at the root.
-fn root_of(tree: Option<Name>) -> Place {
+fn root_of(tree: Option<Name>) -> Option<(Mode, Name)>
+    ensures { result ≡ root_place tree }
+{
     match tree {
         None => None,
         Some(tree) => Some((Mode::Dir, tree)),
@@ -55,36 +58,48 @@ fn root_of(tree: Option<Name>) -> Place {
 }
 
 /// Whether the same stands at two places, or nothing at either.
-fn is_same(old: &Place, new: &Place) -> bool {
-    match (old, new) {
-        (None, None) => true,
-        (Some(old), Some(new)) => is_dir_as(old.0, new.0) && old.1 == new.1,
-        _ => false,
+fn is_same(old: &Option<(Mode, Name)>, new: &Option<(Mode, Name)>) -> bool
+    ensures { result ≡ same_places old.now new.now }
+{
+    match old {
+        None => match new {
+            None => true,
+            Some(_) => false,
+        },
+        Some((old_mode, old_name)) => match new {
+            None => false,
+            Some((new_mode, new_name)) => *old_mode == *new_mode && *old_name == *new_name,
+        },
     }
 }
 
-/// Whether two modes are the same.
-fn is_dir_as(old: Mode, new: Mode) -> bool {
-    old == new
-}
-
-/// What stands at a component below a place: below what is no directory nothing does.
+/// What stands at a component below a place.
 fn below<O: Objects, A: Allocator + Copy>(
     objects: &O,
-    place: Place,
+    place: &Option<(Mode, Name)>,
     component: &[u8],
     room: &mut Vec<u8, A>,
-) -> Result<Place, AskFault>
+) -> Result<Option<(Mode, Name)>, AskFault>
+    requires held { IfSome (O.told objects.now) (IsHeldIf place.now) }
+    ensures place { IsOfTold (O.told objects.now) (λ r found.
+        option_map shown_place found ≡ entry_below r place.now component.now) result }
+    ensures held { IsOfTold (O.told objects.now) (λ r found. IsHeldIf found r) result }
+    ensures fault { RefusesUntold (O.told objects.now) result }
 {
     objects.sound_if_told();
-    match place {
-        Some((Mode::Dir, tree)) => Ok(find(entries(objects, &tree, room)?, component)),
+    let Some((mode, tree)) = place else {
+        return Ok(None);
+    };
+    match mode {
+        Mode::Dir => Ok(find(entries(objects, tree, room)?, component)),
         _ => Ok(None),
     }
 }
 
 /// What the entry with this component tells, where there is one.
-fn find(entries: TreeEntries<'_>, component: &[u8]) -> Place {
+fn find(entries: TreeEntries<'_>, component: &[u8]) -> Option<(Mode, Name)>
+    ensures { IsOfEntry (entry_at entries component.now) result }
+{
     for entry in entries {
         if entry.component == component {
             return Some((entry.mode, entry.name));

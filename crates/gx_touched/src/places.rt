@@ -101,7 +101,7 @@ fn find(entries: TreeEntries<'_>, component: &[u8]) -> Option<(Mode, Name)>
     ensures { IsOfEntry (entry_at entries component.now) result }
 {
     for entry in entries {
-        if entry.component == component {
+        if component == entry.component {
             return Some((entry.mode, entry.name));
         }
     }

@@ -26,7 +26,9 @@ use Rattle.gx_model.proofs.Records.TreeWalks.{walk_sound}
 use Rattle.gx_model.proofs.Texts.PathTests.{is_same, is_true, same_is}
 use Rattle.gx_object.specs.declared.name.Name.{Name}
 use Rattle.gx_rev.specs.Objects.{files_at}
-use Rattle.gx_rev.specs.Places.{place_of_entry, shown_place}
+use Rattle.gx_questions.specs.Objects.{AreEntriesAt}
+use Rattle.gx_rev.specs.Places.{IsOfEntry, place_of_entry, shown_place}
+use Rattle.gx_rev.proofs.PathSteps.{place_held}
 use Rattle.gx_rev.proofs.ShownPaths.{AtPlace, walk_shown}
 use Rattle.gx_touched.specs.Found.{IsTreeIf, files_if}
 use Rattle.gx_touched.specs.Paths.{same_below}
@@ -202,3 +204,9 @@ module _ (name : Kind → Bytes → Bytes) (namer : IsNamer name) (told : Option
       by (Some r) s h k o p = tells name namer r s old new path n h k found
           (λ z. o.walk ∙ same_walk r a b (drop i path) (sym e ∙ z) ∙ sym p.walk)
           (λ z w. let again : same_places a b ≡ true = same_again a b (sym (ended r (root_place old) a o) ∙ w ∙ ended r (root_place new) b p) in let clash : false ≡ true = sym z ∙ e ∙ again in cc clash)
+
+-- what an entry of a held tree names is held where it is a directory
+pub entry_held : (name : Kind → Bytes → Bytes) (namer : IsNamer name) (told : Option Records) (mode : Mode) (tree : Name) (component : Bytes) (entries : List Entry) (found : Place) → IfSome told (IsSound name) → IfSome told (IsHeldIf (Some (mode, tree)))
+    → mode ≡ Dir → IfSome told (λ r. AreEntriesAt name tree r entries) → IsOfEntry (entry_at entries component) found → IfSome told (IsHeldIf found)
+entry_held name namer None mode tree component entries found s h d a f = tt
+entry_held name namer (Some r) mode tree component entries found s h d a f = place_held name namer r s tree.bytes component entries found (h d) a.of_files f

@@ -1,6 +1,6 @@
 -- Which commits are followed, and which of these touched paths. Source: git-rev-list(1), "History Simplification": the default mode,
 -- and `--full-history`.
-use Rattle.std.specs.Prelude.{Bool, true, not, ◌&&◌, ◌||◌, if◌then◌else◌, IsTrue, List, [], ◌∷◌, Option, Some, None, is_none}
+use Rattle.std.specs.Prelude.{◌≡◌, ◌++◌, Bool, true, not, ◌&&◌, ◌||◌, if◌then◌else◌, IsTrue, List, [], ◌∷◌, Option, Some, None, is_none}
 use Rattle.std.specs.List.{filter, list_any}
 use Rattle.gx_model.specs.Histories.Values.{Commit, files_of, list_of, parents_of, same_commit}
 use Rattle.gx_model.specs.Texts.Paths.{Path}
@@ -45,6 +45,15 @@ module _ (paths : List Path) (near : List Commit) (full_history : Bool) where
   -- whether a commit that is followed is listed
   abbrev pub is_listed : Commit → Bool
   is_listed made = elim (only_way made) [ | Some parent ↦ not true | None ↦ differs made ]
+
+  -- those to which the way has come, with one that is walked over
+  abbrev pub marked_then : List Commit → Commit → List Commit
+  marked_then marked made = if is_among marked made then marked ++ ways made else marked
+
+  -- where the way has come to a commit it is told whether that is listed, and the way leads on
+  pub record IsStep (marked : List Commit) (made : Commit) (listed : Bool) (IsMarked : List Commit → Type 0) : Type 0 where
+    pub is_so : listed ≡ (is_among marked made && is_listed made)
+    pub leads : IsMarked (marked_then marked made)
 
   -- The way leads to some commits first, and then from parent to parent, through these commits alone.
   pub data IsFollowed (through starts : List Commit) : Commit → Type 0 where

@@ -48,7 +48,7 @@ pub record AreParents (stands : ℕ → ℕ) (made : Name) (repository : Records
 -- a commit has this tree and these parents
 pub record IsMadeOf (tree : Name) (parents : List (ℕ × Name)) (repository : Records) (made : Commit) : Type 0 where
   pub files : files_of made ≡ files_at repository tree
-  pub parents : own_parents made ≡ map (λ tip. commit_at repository tip.1) parents
+  pub own : own_parents made ≡ map (λ tip. commit_at repository tip.1) parents
 
 -- this is the place of the parent to which the way leads alone, where it leads to one alone
 abbrev pub IsWay : (ℕ → ℕ) → Records → Option Commit → Option ℕ → Type 0

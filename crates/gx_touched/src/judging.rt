@@ -43,13 +43,13 @@ pub(crate) fn follow<O: Objects, A: Allocator + Copy>(
     requires held { IfTold (O.told objects.now) (IsHeldAs kinds.Commit) commit.now }
     requires paths { AllByRecursion (λ path. path ≢ []) asked.paths.now }
     ensures listed { IsOfTold (O.told objects.now) (λ r listed. (near : List Commit)
-        → HasPlacesOf (O.stands objects.now) asked.near.now near r
-        → listed ≡ is_listed asked.paths.now near asked.full_history (commit_at r commit.now)) result }
+        → HasPlacesOf (O.stands objects.now) asked.entry.near.now near r
+        → listed ≡ is_listed asked.entry.paths.now near asked.entry.full_history (commit_at r commit.now)) result }
     ensures ways { IsOfTold (O.told objects.now) (λ r _. (near had : List Commit)
-        → HasPlacesOf (O.stands objects.now) asked.near.now near r
+        → HasPlacesOf (O.stands objects.now) asked.entry.near.now near r
         → HasPlacesOf (O.stands objects.now) followed.old had r
         → HasPlacesOf (O.stands objects.now) followed.new
-        (had ++ ways asked.paths.now near asked.full_history (commit_at r commit.now)) r) result }
+        (had ++ ways asked.entry.paths.now near asked.entry.full_history (commit_at r commit.now)) r) result }
     ensures fault { RefusesUntold (O.told objects.now) result }
 {
     objects.sound_if_told();
@@ -77,9 +77,9 @@ fn only_way<O: Objects, A: Allocator + Copy>(
     requires parents { IfSome (O.told objects.now) (AreTips (O.stands objects.now) parents.now) }
     requires paths { AllByRecursion (λ path. path ≢ []) asked.paths.now }
     ensures way { IsOfTold (O.told objects.now) (λ r way. (near : List Commit) (made : Commit)
-        → HasPlacesOf (O.stands objects.now) asked.near.now near r
+        → HasPlacesOf (O.stands objects.now) asked.entry.near.now near r
         → IsMadeOf tree.now parents.now r made
-        → IsWay (O.stands objects.now) r (only_way asked.paths.now near asked.full_history made) way) result }
+        → IsWay (O.stands objects.now) r (only_way asked.entry.paths.now near asked.entry.full_history made) way) result }
     ensures fault { RefusesUntold (O.told objects.now) result }
 {
     objects.sound_if_told();
@@ -107,9 +107,9 @@ fn is_near_and_same<O: Objects, A: Allocator + Copy>(
     requires parent { IfSome (O.told objects.now) (λ r. IsTip (O.stands objects.now) r (place, parent.now)) }
     requires paths { AllByRecursion (λ path. path ≢ []) asked.paths.now }
     ensures test { IsOfTold (O.told objects.now) (λ r test. (near : List Commit) (made : Commit)
-        → HasPlacesOf (O.stands objects.now) asked.near.now near r
+        → HasPlacesOf (O.stands objects.now) asked.entry.near.now near r
         → files_of made ≡ files_at r tree.now
-        → test ≡ (is_among near (commit_at r parent.now) && is_same asked.paths.now near asked.full_history made (commit_at r parent.now))) result }
+        → test ≡ (is_among near (commit_at r parent.now) && is_same asked.entry.paths.now near asked.entry.full_history made (commit_at r parent.now))) result }
     ensures fault { RefusesUntold (O.told objects.now) result }
 {
     if !asked.near.contains(&place) {
@@ -130,9 +130,9 @@ fn differs<O: Objects, A: Allocator + Copy>(
     requires parents { IfSome (O.told objects.now) (AreTips (O.stands objects.now) parents.now) }
     requires paths { AllByRecursion (λ path. path ≢ []) asked.paths.now }
     ensures differs { IsOfTold (O.told objects.now) (λ r differs. (near : List Commit) (made : Commit)
-        → HasPlacesOf (O.stands objects.now) asked.near.now near r
+        → HasPlacesOf (O.stands objects.now) asked.entry.near.now near r
         → IsMadeOf tree.now parents.now r made
-        → differs ≡ differs asked.paths.now near asked.full_history made) result }
+        → differs ≡ differs asked.entry.paths.now near asked.entry.full_history made) result }
     ensures fault { RefusesUntold (O.told objects.now) result }
 {
     objects.sound_if_told();
@@ -162,9 +162,9 @@ fn tells<O: Objects, A: Allocator + Copy>(
     requires parent { IfSome (O.told objects.now) (λ r. IsTip (O.stands objects.now) r (place, parent.now)) }
     requires paths { AllByRecursion (λ path. path ≢ []) asked.paths.now }
     ensures test { IsOfTold (O.told objects.now) (λ r test. (near : List Commit) (made : Commit)
-        → HasPlacesOf (O.stands objects.now) asked.near.now near r
+        → HasPlacesOf (O.stands objects.now) asked.entry.near.now near r
         → files_of made ≡ files_at r tree.now
-        → test ≡ ((is_among near (commit_at r parent.now) || all) && not (is_same asked.paths.now near asked.full_history made (commit_at r parent.now)))) result }
+        → test ≡ ((is_among near (commit_at r parent.now) || all) && not (is_same asked.entry.paths.now near asked.entry.full_history made (commit_at r parent.now)))) result }
     ensures fault { RefusesUntold (O.told objects.now) result }
 {
     if !all && !asked.near.contains(&place) {

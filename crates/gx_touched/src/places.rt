@@ -41,8 +41,10 @@ pub(crate) fn same_below<O: Objects, A: Allocator + Copy>(
             return Ok(true);
         }
         let component = path.component(number);
-        old = below(objects, &old, component, room)?;
-        new = below(objects, &new, component, room)?;
+        let next_old = below(objects, &old, component, room)?;
+        let next_new = below(objects, &new, component, room)?;
+        old = next_old;
+        new = next_new;
     }
     Ok(is_same(&old, &new))
 }
@@ -98,7 +100,7 @@ fn below<O: Objects, A: Allocator + Copy>(
 
 /// What the entry with this component tells, where there is one.
 fn find(entries: TreeEntries<'_>, component: &[u8]) -> Option<(Mode, Name)>
-    ensures { IsOfEntry (entry_at entries component.now) result }
+    ensures { IsOfEntry (entry_at entries.entry component.now) result }
 {
     for entry in entries {
         if component == entry.component {

@@ -1,9 +1,13 @@
 //! The commits that touched paths, of those that are walked over.
 
-ghost use Rattle.std.specs.Prelude.{◌≢◌, [], IfSome};
+ghost use Rattle.std.specs.Prelude.{◌≢◌, [], IfSome, List};
 ghost use Rattle.std.specs.List.{AllByRecursion};
-ghost use Rattle.gx_questions.specs.Answers.{IsOfTold, RefusesUntold};
-ghost use Rattle.gx_touched.specs.Found.{AreTouched, AreWalked};
+ghost use Rattle.gx_model.specs.declared.objects.Kind.TheVariants as kinds;
+ghost use Rattle.gx_model.specs.Histories.Values.{Commit};
+ghost use Rattle.gx_questions.specs.Answers.{IfTold, IsOfTold, RefusesUntold};
+ghost use Rattle.gx_rev.specs.Objects.{IsHeldAs, commit_at};
+ghost use Rattle.gx_touched.specs.Following.{IsStep};
+ghost use Rattle.gx_touched.specs.Found.{AreTouched, AreWalked, HasPlacesOf};
 
 use crate::judging::{Asked, follow};
 use crate::sets::{add, add_places};
@@ -44,7 +48,7 @@ pub fn touched<O: Objects, A: Allocator + Copy>(
     requires walked { IfSome (O.told objects.now) (AreWalked walked) }
     requires paths { AllByRecursion (λ path. path ≢ []) paths.now }
     ensures names { IsOfTold (O.told objects.now) (λ r names.
-        AreTouched paths.now full_history walked r names.items) result }
+        AreTouched paths.now full_history walked.entry r names.items) result }
     ensures fault { RefusesUntold (O.told objects.now) result }
 {
     objects.sound_if_told();
@@ -61,10 +65,35 @@ pub fn touched<O: Objects, A: Allocator + Copy>(
     let mut room = Vec::new(alloc);
     let mut names = Vec::new(alloc);
     for commit in walked.commits {
-        let place = place_of(objects, commit)?;
-        if followed.contains(&place) && follow(alloc, objects, asked, commit, &mut followed, &mut room)? {
+        if step(alloc, objects, asked, commit, &mut followed, &mut room)? {
             add(&mut names, *commit)?;
         }
     }
     Ok(names)
+}
+
+/// Follows a commit that is walked over, where the way has come to it, and tells whether it is listed.
+fn step<O: Objects, A: Allocator + Copy>(
+    alloc: A,
+    objects: &O,
+    asked: Asked<'_, A>,
+    commit: &Name,
+    followed: &mut BTreeSet<u64, A>,
+    room: &mut Vec<u8, A>,
+) -> Result<bool, AskFault>
+    requires held { IfTold (O.told objects.now) (IsHeldAs kinds.Commit) commit.now }
+    requires paths { AllByRecursion (λ path. path ≢ []) asked.paths.now }
+    ensures step { IsOfTold (O.told objects.now) (λ r listed. (near had : List Commit)
+        → HasPlacesOf (O.stands objects.now) asked.entry.near.now near r
+        → HasPlacesOf (O.stands objects.now) followed.old had r
+        → IsStep asked.entry.paths.now near asked.entry.full_history had (commit_at r commit.now) listed
+        (λ marked. HasPlacesOf (O.stands objects.now) followed.new marked r)) result }
+    ensures fault { RefusesUntold (O.told objects.now) result }
+{
+    objects.sound_if_told();
+    let place = place_of(objects, commit)?;
+    if !followed.contains(&place) {
+        return Ok(false);
+    }
+    follow(alloc, objects, asked, commit, followed, room)
 }

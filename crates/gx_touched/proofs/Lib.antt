@@ -5,3 +5,4 @@ pub mod PlaceSets
 pub mod HeldParents
 pub mod Order
 pub mod Loops
+pub mod Tests

@@ -35,16 +35,16 @@ pub same_begins : (told : Option Records) (old : Option Name) (new : Name) (path
 same_begins None old new paths = tt
 same_begins (Some r) old new paths = refl
 
-pub same_next : (told : Option Records) (old : Option Name) (new : Name) (paths : List Path) (i : ℕ) → i < length paths → (same : Bool) → same ≡ true
-    → IfSome told (λ r. same ≡ same_below (files_if r old) (files_at r new) (get_or paths i [])) → IfSome told (SameFrom old new paths i) → IfSome told (SameFrom old new paths (i + 1))
-same_next None old new paths i l same e f h = tt
-same_next (Some r) old new paths i l same e f h = sym (all_next (same_below (files_if r old) (files_at r new)) paths i [] true l (sym f ∙ e)) ∙ h
+pub same_next : (told : Option Records) (old : Option Name) (new : Name) (paths : List Path) (i : ℕ) (path : Path) → i < length paths → get_or paths i path ≡ path → (same : Bool) → same ≡ true
+    → IfSome told (λ r. same ≡ same_below (files_if r old) (files_at r new) path) → IfSome told (SameFrom old new paths i) → IfSome told (SameFrom old new paths (i + 1))
+same_next None old new paths i path l is same e f h = tt
+same_next (Some r) old new paths i path l is same e f h = sym (all_next (same_below (files_if r old) (files_at r new)) paths i path true l (ap (same_below (files_if r old) (files_at r new)) is ∙ sym f ∙ e)) ∙ h
 
-pub same_stops : (told : Option Records) (old : Option Name) (new : Name) (paths : List Path) (i : ℕ) → i < length paths → (same : Bool) → same ≡ false
-    → IfSome told (λ r. same ≡ same_below (files_if r old) (files_at r new) (get_or paths i [])) → IfSome told (SameFrom old new paths i) → IfSome told (λ r. false ≡ same_at paths (files_if r old) (files_at r new))
-same_stops None old new paths i l same e f h = tt
-same_stops (Some r) old new paths i l same e f h = sym (all_next (same_below (files_if r old) (files_at r new)) paths i [] false l (sym f ∙ e)) ∙ h
+pub same_stops : (told : Option Records) (old : Option Name) (new : Name) (paths : List Path) (i : ℕ) (path : Path) → i < length paths → get_or paths i path ≡ path → (same : Bool) → same ≡ false
+    → IfSome told (λ r. same ≡ same_below (files_if r old) (files_at r new) path) → IfSome told (SameFrom old new paths i) → IfSome told (λ r. false ≡ same_at paths (files_if r old) (files_at r new))
+same_stops None old new paths i path l is same e f h = tt
+same_stops (Some r) old new paths i path l is same e f h = sym (all_next (same_below (files_if r old) (files_at r new)) paths i path false l (ap (same_below (files_if r old) (files_at r new)) is ∙ sym f ∙ e)) ∙ h
 
-pub same_ends : (told : Option Records) (old : Option Name) (new : Name) (paths : List Path) (i : ℕ) → (i < length paths → ⊥) → IfSome told (SameFrom old new paths i) → IfSome told (λ r. true ≡ same_at paths (files_if r old) (files_at r new))
+pub same_ends : (told : Option Records) (old : Option Name) (new : Name) (paths : List Path) (i : ℕ) → length paths ≤ i → IfSome told (SameFrom old new paths i) → IfSome told (λ r. true ≡ same_at paths (files_if r old) (files_at r new))
 same_ends None old new paths i l h = tt
-same_ends (Some r) old new paths i l h = sym (ap (list_all (same_below (files_if r old) (files_at r new))) (drop_of_length-le paths (let m : length paths ≤ i = omega (arith, l) in m))) ∙ h
+same_ends (Some r) old new paths i l h = sym (ap (list_all (same_below (files_if r old) (files_at r new))) (drop_of_length-le paths l)) ∙ h

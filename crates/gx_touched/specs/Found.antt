@@ -40,6 +40,11 @@ abbrev pub HasPlacesOf : (ℕ → ℕ) → BTreeSet ℕ → List Commit → Reco
 HasPlacesOf stands places commits repository =
     (tip : ℕ × Name) → IsTip stands repository tip → contains nat_cmp places tip.0 ≡ is_among commits (commit_at repository tip.1)
 
+-- a commit that may be there was added behind others, with its place
+abbrev pub AddsTip : (ℕ → ℕ) → Records → Option Name → List (ℕ × Name) → List (ℕ × Name) → Type 0
+AddsTip stands repository None old new = new ≡ old
+AddsTip stands repository (Some called) old new = (place : ℕ) × IsTip stands repository (place, called) × (new ≡ old ++ (place, called) ∷ [])
+
 -- these are the parents of a commit, each with its place
 pub record AreParents (stands : ℕ → ℕ) (made : Name) (repository : Records) (parents : List (ℕ × Name)) : Type 0 where
   pub commits : map (λ tip. commit_at repository tip.1) parents ≡ own_parents (commit_at repository made)

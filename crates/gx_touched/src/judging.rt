@@ -129,10 +129,10 @@ fn differs<O: Objects, A: Allocator + Copy>(
     requires tree { IfTold (O.told objects.now) (IsHeldAs kinds.Tree) tree.now }
     requires parents { IfSome (O.told objects.now) (AreTips (O.stands objects.now) parents.now) }
     requires paths { AllByRecursion (λ path. path ≢ []) asked.paths.now }
-    ensures differs { IsOfTold (O.told objects.now) (λ r differs. (near : List Commit) (made : Commit)
+    ensures differs { IsOfTold (O.told objects.now) (λ r found. (near : List Commit) (made : Commit)
         → HasPlacesOf (O.stands objects.now) asked.entry.near.now near r
         → IsMadeOf tree.now parents.now r made
-        → differs ≡ differs asked.entry.paths.now near asked.entry.full_history made) result }
+        → found ≡ differs asked.entry.paths.now near asked.entry.full_history made) result }
     ensures fault { RefusesUntold (O.told objects.now) result }
 {
     objects.sound_if_told();

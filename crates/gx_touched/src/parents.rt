@@ -3,11 +3,9 @@
 ghost use Rattle.std.specs.Prelude.{◌≡◌, IfSome};
 ghost use Rattle.gx_model.specs.declared.objects.Kind.TheVariants as kinds;
 ghost use Rattle.gx_model.specs.Histories.Values.{files_of};
-ghost use Rattle.gx_model.specs.Records.{parts_of_commit};
 ghost use Rattle.gx_questions.specs.Answers.{IfTold, IsOfTold, RefusesUntold};
-ghost use Rattle.gx_ranges.specs.Fronts.{IsTip};
 ghost use Rattle.gx_rev.specs.Objects.{IsHeldAs, commit_at, files_at};
-ghost use Rattle.gx_touched.specs.Found.{AreParents};
+ghost use Rattle.gx_touched.specs.Found.{AddsTip, AreParents};
 
 use crate::sets::add;
 use gx_object::Name;
@@ -53,10 +51,27 @@ pub(crate) fn parents_of<O: Objects, A: Allocator + Copy>(
     let (_, view) = commit_in(objects, commit, room)?;
     let mut parents = Vec::new(alloc);
     for number in 0..view.parent_count() {
-        if let Some(parent) = view.parent(number) {
-            let place = place_of(objects, &parent)?;
-            add(&mut parents, (place, parent))?;
-        }
+        add_parent(objects, &mut parents, view.parent(number))?;
     }
     Ok(parents)
+}
+
+/// Adds a parent, where there is one.
+fn add_parent<O: Objects, A: Allocator + Copy>(
+    objects: &O,
+    parents: &mut Vec<(u64, Name), A>,
+    parent: Option<Name>,
+) -> Result<(), AskFault>
+    requires held { IfSome (O.told objects.now) (λ r. IfSome parent (IsHeldAs kinds.Commit r)) }
+    ensures added { IsOfTold (O.told objects.now) (λ r _.
+        AddsTip (O.stands objects.now) r parent parents.old.items parents.new.items) result }
+    ensures fault { RefusesUntold (O.told objects.now) result }
+{
+    objects.sound_if_told();
+    let Some(parent) = parent else {
+        return Ok(());
+    };
+    let place = place_of(objects, &parent)?;
+    add(parents, (place, parent))?;
+    Ok(())
 }

@@ -18,8 +18,8 @@ loop-number-preserved g c =
     let path = c.args.path.now in
     let within : l.number < length path = omega (arith, c.loop-number-test.true, c.len-number-end.ensures.length) in
     record {
-      old = goes_on told (root_place c.args.old) l.old c.in_ok-next_old.next_old path l.number c.component.result.now within c.component.ensures.component l.invariant.old c.in_ok-next_old.ensures.place c.in_ok-next_old.ensures.held;
-      new = goes_on told (root_place c.args.new) l.new c.in_ok-next_new.next_new path l.number c.component.result.now within c.component.ensures.component l.invariant.new c.in_ok-next_new.ensures.place c.in_ok-next_new.ensures.held;
+      old = goes_on told (root_place c.args.old) l.old c.in_ok-next_old.next_old path l.number c.component-component.result.now within c.component-component.ensures.component l.invariant.old c.in_ok-next_old.ensures.place c.in_ok-next_old.ensures.held;
+      new = goes_on told (root_place c.args.new) l.new c.in_ok-next_new.next_new path l.number c.component-component.result.now within c.component-component.ensures.component l.invariant.new c.in_ok-next_new.ensures.place c.in_ok-next_new.ensures.held;
     }
 
 pub returns-then-is_same-clause-same : goal.returns-then-is_same-clause-same

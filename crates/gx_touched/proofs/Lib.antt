@@ -6,3 +6,4 @@ pub mod HeldParents
 pub mod Order
 pub mod Loops
 pub mod Tests
+pub mod SoleWays

@@ -36,11 +36,20 @@ module _ (stands : ℕ → ℕ) (paths : List Path) (full : Bool) (places : BTre
   Tells all test r = (near : List Commit) (made : Commit) → HasPlacesOf stands places near r → files_of made ≡ files_at r tree
       → test ≡ ((is_among near (commit_at r parent) || all) && not (is_same paths near full made (commit_at r parent)))
 
-  pub tells_nothing : (told : Option Records) (all : Bool) → false ≡ all → false ≡ contains nat_cmp places place → IfSome told (λ r. IsTip stands r (place, parent)) → IfSome told (Tells all false)
-  tells_nothing None all a e t = tt
-  tells_nothing (Some r) all a e t = λ near made h f. by (is_among near (commit_at r parent)) all (e ∙ h (place, parent) t) a
-    where
-      by : (b c : Bool) → false ≡ b → false ≡ c → {d : Bool} → false ≡ ((b || c) && d)
-      by true c e a = absurd (cc e)
-      by false true e a = absurd (cc a)
-      by false false e a = refl
+  turned : (a b : Bool) → (a || b) ≡ (b || a)
+  turned true true = refl
+  turned true false = refl
+  turned false true = refl
+  turned false false = refl
+
+  pub tells_nothing : (told : Option Records) (all : Bool) → false ≡ (all || contains nat_cmp places place) → IfSome told (λ r. IsTip stands r (place, parent)) → IfSome told (Tells all false)
+  tells_nothing None all e t = tt
+  tells_nothing (Some r) all e t = λ near made h f.
+      ap (λ b. b && not (is_same paths near full made (commit_at r parent))) (e ∙ ap (λ b. all || b) (h (place, parent) t) ∙ turned all (is_among near (commit_at r parent)))
+
+  pub tells_other : (told : Option Records) (all same : Bool) → true ≡ (all || contains nat_cmp places place) → IfSome told (λ r. IsTip stands r (place, parent)) → IfSome told (λ r. same ≡ same_at paths (files_of (commit_at r parent)) (files_at r tree))
+      → IfSome told (Tells all (not same))
+  tells_other None all same e t s = tt
+  tells_other (Some r) all same e t s = λ near made h f.
+      ap not (s ∙ ap (same_at paths (files_of (commit_at r parent))) (sym f))
+      ∙ ap (λ b. b && not (is_same paths near full made (commit_at r parent))) (e ∙ ap (λ b. all || b) (h (place, parent) t) ∙ turned all (is_among near (commit_at r parent)))

@@ -167,10 +167,17 @@ fn tells<O: Objects, A: Allocator + Copy>(
         → test ≡ ((is_among near (commit_at r parent.now) || all) && not (is_same asked.entry.paths.now near asked.entry.full_history made (commit_at r parent.now)))) result }
     ensures fault { RefusesUntold (O.told objects.now) result }
 {
-    if !all && !asked.near.contains(&place) {
+    if !is_judge(asked.near, all, place) {
         return Ok(false);
     }
     Ok(!is_same(objects, asked.paths, tree, parent, room)?)
+}
+
+/// Whether a commit is judged by the parent at a place.
+fn is_judge<A: Allocator + Copy>(near: &BTreeSet<u64, A>, all: bool, place: u64) -> bool
+    ensures { result ≡ (all || contains nat_cmp near.now place) }
+{
+    all || near.contains(&place)
 }
 
 /// Whether some parent is near.

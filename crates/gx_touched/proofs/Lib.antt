@@ -7,3 +7,4 @@ pub mod Order
 pub mod Loops
 pub mod Tests
 pub mod SoleWays
+pub mod Judged

@@ -23,10 +23,10 @@ pub returns-then-branch-clause-way : goal.returns-then-branch-clause-way
 returns-then-branch-clause-way g c =
     let o = c.args.objects.now in
     let a = c.args.asked in
-    found_way (g.O.Objects.stands o) a.paths.now a.full_history a.near.now c.args.tree.now c.args.parents.now (g.O.Objects.told o) c.loop-place.place-index c.in_ok-is_near_and_same.field-0 c.loop-place-test.true c.if-branch.true c.if-full_history.false c.requires.parents c.in_ok-is_near_and_same.ensures.test c.loop-place.invariant
+    found_way (g.O.Objects.stands o) a.paths.now a.full_history a.near.now c.args.tree.now c.args.parents.now (g.O.Objects.told o) c.loop-place.place-index c.in_ok-is_near_and_same.field-0 c.loop-place-test.true c.if-branch.true c.if-asked.false c.requires.parents c.in_ok-is_near_and_same.ensures.test c.loop-place.invariant
 
 pub returns-clause-way : goal.returns-clause-way
 returns-clause-way g c =
     let o = c.args.objects.now in
     let a = c.args.asked in
-    no_way (g.O.Objects.stands o) a.paths.now a.full_history a.near.now c.args.tree.now c.args.parents.now (g.O.Objects.told o) c.loop-place.place-index c.loop-place-test.false c.if-full_history.false c.loop-place.invariant
+    no_way (g.O.Objects.stands o) a.paths.now a.full_history a.near.now c.args.tree.now c.args.parents.now (g.O.Objects.told o) c.loop-place.place-index c.loop-place-test.false c.if-asked.false c.loop-place.invariant

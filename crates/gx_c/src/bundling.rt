@@ -1,6 +1,6 @@
 //! The repository as a bundle. Source: git-bundle(1), and gitformat-bundle(5).
 
-ghost use Rattle.std.specs.Prelude.{◌≡◌, Some, length, map};
+ghost use Rattle.std.specs.Prelude.{◌≡◌, ◌<◌, ◌^◌, length, map};
 ghost use Rattle.gx_model.specs.declared.objects.Kind.TheVariants as kinds;
 ghost use Rattle.gx_model.specs.Faults.{Gives};
 ghost use Rattle.gx_model.specs.Records.RecordFaults.{is_held};
@@ -38,11 +38,12 @@ pub(crate) fn bundle<N: Namer, A: Allocator + Copy>(
     words: &[Range<A>],
     head: &[u8],
 ) -> Answer<A>
+    requires few { length words.now < 2 ^ 63 }
     ensures { AnswersBundle (N.name_of repo.now.0) repo.now.1 (map shown_range words.now) head.now
         result }
 {
     match told_by(alloc, repo, words, words.is_empty(), !head.is_empty()) {
-        Ok(told) => bundle_told(alloc, repo, state, &told, words, head),
+        Ok(told) => bundle_told(alloc, repo, state, &told, words.len(), head),
         Err(fault) => Answer::refused(alloc, why_of(fault.kind), fault.word as u64),
     }
 }
@@ -59,25 +60,26 @@ fn why_of(kind: AskFault) -> Why
     }
 }
 
-/// The bundle that tells what these words have it tell.
+/// The bundle that tells what so many words have it tell.
 fn bundle_told<N: Namer, A: Allocator + Copy>(
     alloc: A,
     repo: &Repo<N, A>,
     state: RandomState,
     told: &Told<A>,
-    words: &[Range<A>],
+    words: usize,
     head: &[u8],
 ) -> Answer<A>
+    requires few { words < 2 ^ 63 }
     requires spelled { SpellsRefs told.now.refs.items }
     requires held { SpellsRefsOf told.now.refs.items repo.now.1 }
-    ensures { AnswersTold repo.now.1 told.now (length words.now) head.now result }
+    ensures { AnswersTold repo.now.1 told.now words head.now result }
 {
-    if told.refs.is_empty() && head.is_empty() && !words.is_empty() {
+    if told.refs.is_empty() && head.is_empty() && words > 0 {
         return Answer::refused(alloc, Why::Empty, 0);
     }
     match commit_of_head(repo, head) {
         Ok(head) => bundle_of(alloc, repo, state, &told.bundled(repo, head)),
-        Err(fault) => Answer::refused(alloc, Why::Revision(fault), words.len() as u64 + 1),
+        Err(fault) => Answer::refused(alloc, Why::Revision(fault), words as u64 + 1),
     }
 }
 

@@ -66,10 +66,10 @@ abbrev pub Excludes : (Kind → Bytes → Bytes) → Records → List RangeWord 
 Excludes name r asked bundled = (words : List Word) × (words_denoted name (history_of r) asked ≡ Ok words) × AreExcluded words r bundled.had.now
 
 -- what words and a text for HEAD have a bundle tell
-pub record IsToldBy (name : Kind → Bytes → Bytes) (r : Records) (words : List RangeWord) (head : Bytes) (bundled : Bundled) : Type 0 where
-  pub refs : bundled.refs.now ≡ lines_told r words head
+pub record IsToldBy (name : Kind → Bytes → Bytes) (r : Records) (words : List RangeWord) (asked : Bytes) (bundled : Bundled) : Type 0 where
+  pub refs : bundled.refs.now ≡ lines_told r words asked
   pub spelled : SpellsRefs bundled.refs.now
-  pub head : head_given r head ≡ Ok (bytes_if bundled.head)
+  pub head : head_given r asked ≡ Ok (bytes_if bundled.head)
   pub had : Excludes name r words bundled
 
 -- ---- what is answered

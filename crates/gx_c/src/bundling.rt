@@ -1,12 +1,14 @@
 //! The repository as a bundle. Source: git-bundle(1), and gitformat-bundle(5).
 
-ghost use Rattle.std.specs.Prelude.{◌≡◌, Some, map};
+ghost use Rattle.std.specs.Prelude.{◌≡◌, ◌<◌, ◌^◌, length, map};
 ghost use Rattle.gx_model.specs.declared.objects.Kind.TheVariants as kinds;
 ghost use Rattle.gx_model.specs.Faults.{Gives};
 ghost use Rattle.gx_model.specs.Records.RecordFaults.{is_held};
 ghost use Rattle.gx_object.specs.Parts.{bytes_if};
 ghost use Rattle.gx_objects.specs.Answers.{SpellsRefs};
 ghost use Rattle.gx_kept.specs.Telling.{SpellsRefsOf};
+ghost use Rattle.gx_model.specs.Revisions.Denotation.{ref_names};
+ghost use Rattle.gx_repo.specs.Refs.{FindsFirst};
 ghost use Rattle.gx_rev.specs.RevFaults.{fault_of};
 ghost use Rattle.gx_rev.specs.Views.{shown_range};
 ghost use Rattle.gx_c.specs.Bundles.{AnswersBundle, AnswersBundled, AnswersTold, head_given, why_of};
@@ -36,11 +38,12 @@ pub(crate) fn bundle<N: Namer, A: Allocator + Copy>(
     words: &[Range<A>],
     head: &[u8],
 ) -> Answer<A>
+    requires few { length words.now < 2 ^ 63 }
     ensures { AnswersBundle (N.name_of repo.now.0) repo.now.1 (map shown_range words.now) head.now
         result }
 {
     match told_by(alloc, repo, words, words.is_empty(), !head.is_empty()) {
-        Ok(told) => bundle_told(alloc, repo, state, &told, head, words.len()),
+        Ok(told) => bundle_told(alloc, repo, state, &told, words.len(), head),
         Err(fault) => Answer::refused(alloc, why_of(fault.kind), fault.word as u64),
     }
 }
@@ -63,9 +66,10 @@ fn bundle_told<N: Namer, A: Allocator + Copy>(
     repo: &Repo<N, A>,
     state: RandomState,
     told: &Told<A>,
-    head: &[u8],
     words: usize,
+    head: &[u8],
 ) -> Answer<A>
+    requires few { words < 2 ^ 63 }
     requires spelled { SpellsRefs told.now.refs.items }
     requires held { SpellsRefsOf told.now.refs.items repo.now.1 }
     ensures { AnswersTold repo.now.1 told.now words head.now result }
@@ -89,13 +93,23 @@ fn commit_of_head<N: Namer, A: Allocator + Copy>(
     if head.is_empty() {
         return Ok(None);
     }
-    let Ok(Some(name)) = repo.find_ref(head) else {
+    let Some(name) = object_of_ref(repo, head) else {
         return Err(RevFault::UnknownRef);
     };
     if is_commit(repo, &name) {
         Ok(Some(name))
     } else {
         Err(RevFault::WrongKind)
+    }
+}
+
+/// The object of the first ref among the six names that a name may stand for.
+fn object_of_ref<N: Namer, A: Allocator + Copy>(repo: &Repo<N, A>, name: &[u8]) -> Option<Name>
+    ensures { FindsFirst repo.now.1.refs (ref_names name.now) result }
+{
+    match repo.find_ref(name) {
+        Ok(found) => found,
+        Err(_) => None,
     }
 }
 

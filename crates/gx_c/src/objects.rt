@@ -1,6 +1,6 @@
 //! The import of a text of refs and objects. Source: git-cat-file(1), "BATCH OUTPUT", and git-for-each-ref(1).
 
-ghost use Rattle.std.specs.Prelude.{◌≡◌, ◌-◌, IfOk, Some, [], length};
+ghost use Rattle.std.specs.Prelude.{◌≡◌, ◌-◌, IfOk, Some, [], false, length};
 ghost use Rattle.gx_taken.specs.Calls.{TakesText};
 ghost use Rattle.gx_c.specs.Called.{git_name};
 ghost use Rattle.gx_c.specs.Objects.{TellsRefusal};

@@ -79,9 +79,9 @@ impl Opened {
         ensures { called.ImportsObjects force text.now self.old self.new }
     {
         match with_objects(alloc, &self.repo, self.state, text, force) {
-            Ok(repo) => {
-                self.answer = taken_into(alloc, &self.repo, &repo);
-                self.repo = repo;
+            Ok(taken) => {
+                self.answer = taken_into(alloc, &self.repo, &taken);
+                self.repo = taken;
             }
             Err(fault) => self.answer = refusal(alloc, &fault),
         }

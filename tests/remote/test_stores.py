@@ -326,9 +326,9 @@ def test_refs_that_are_set_all_the_same(world: World) -> None:
     fails = '[[ "$*" != *--push=* ]] || { %secho "gx: write failed" >&2; exit 1; }'
     sent = 'if [ "$3" = --objects ]; then "$gx" "$@"; echo "gx: write failed" >&2; exit 1; fi'
     push = ["push", "--porcelain", "origin", "main", ":side"]
-    before = world.named()
-    for wrong in (fails % "", sent):
-        done = world.run(*push, more=world.wrapped(wrong))
+    before, signed = world.named(), world.signed()
+    for wrong, words in ((fails % "", push), (sent, [*push[:3], f"{signed}:main", ":side"])):
+        done = world.run(*words, more=world.wrapped(wrong))
         assert (done.status, done.out.count(b"(gx: write failed)")) == (1, 2), done
         assert world.named() == before
     done = world.run(*push, more=world.wrapped(fails % '"$gx" "$@"; '))

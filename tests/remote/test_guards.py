@@ -125,8 +125,8 @@ def test_fetch_between(world: World, by: str, change: str) -> None:
     script = f'if [ "$2" = {by} ] && mkdir {begun} 2> /dev/null; then {theirs}; fi'
     done = world.run("fetch", "origin", where="clone", more=world.wrapped(script))
     assert begun.exists() and (done.status == 0) == (by == "export"), done.err
-    after = world.git("for-each-ref", where="clone")
-    assert after == before if by == "bundle" else f"{told} commit\trefs/remotes/origin/main" in after
+    after, row = world.git("for-each-ref", where="clone"), f"{told} commit\trefs/remotes/origin/main"
+    assert row in after if by == "export" else after == before
     world.git("fetch", "-q", "--prune", "origin", where="clone")
     asked = ["for-each-ref", "--format=%(objectname)", "refs/remotes/origin/main"]
     held = world.git(*asked, where="clone")
@@ -145,7 +145,7 @@ def test_let_go_between(world: World) -> None:
 
 
 def test_collected_between(world: World) -> None:
-    """What a gc takes away before its refs are set is sent again, where objects come before these."""
+    """What a gc takes away before its refs are set is sent again, where objects come first."""
     world.started()
     world.commit({"file": "above"})
     above = world.signed()

@@ -213,6 +213,23 @@ def test_partial(world: World) -> None:
     world.git("fsck", where="partial")
 
 
+def test_spelled(world: World) -> None:
+    """Commits that are left out of a stream may be named by their digits, with or without `^0`."""
+    world.started()
+    for behind in ("", "^0"):
+        world.commit({f"file{behind}": "1\n"})
+        world.git("tag", "-f", "-m", "Of old", "old", "side")
+        other = world.git("commit-tree", "-p", "side", "-m", "Beside", "HEAD^{tree}")
+        world.git("merge", "-q", "-m", "Merge", other)
+        world.git("push", "-q", "-f", "origin", "main", "old")
+        changed = f"sed -E 's/^(from|merge) ([0-9a-f]{{40}})(\\^0)?$/\\1 \\2{behind}/'"
+        streams = f'[ "$2" != export ] || exec "$gx" "$@" > >({changed})'
+        more = world.wrapped(f'[ "$2" != bundle ] || exit 9; {streams}')
+        world.git("fetch", "-q", where="clone", more=more)
+        fetched = world.git("rev-parse", "origin/main", where="clone")
+        assert fetched == world.git("rev-parse", "main")
+
+
 def test_deleted_in_vain(world: World) -> None:
     """A ref that isn't there is told in a warning, and the others go."""
     world.started()

@@ -50,7 +50,7 @@ def test_what_a_run_takes(world: World, counted: Counted) -> None:
     world.follows(env=counted.environment)
     assert counted.runs("gx") == ["refs", "import", "import"]
     log = counted.log.read_text()
-    assert log.count("\ngit cat-file --batch --buffer\n") == log.count(" --objects ") == 1
+    assert log.count("\ngit cat-file --batch --buffer\n") == log.count(" import --objects ") == 1
 
 
 def test_head(world: World) -> None:

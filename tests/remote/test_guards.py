@@ -125,7 +125,8 @@ def test_fetch_between(world: World, by: str, change: str) -> None:
     script = f'if [ "$2" = {by} ] && mkdir {begun} 2> /dev/null; then {theirs}; fi'
     done = world.run("fetch", "origin", where="clone", more=world.wrapped(script))
     assert begun.exists() and (done.status == 0) == (by == "export"), done.err
-    after, row = world.git("for-each-ref", where="clone"), f"{told} commit\trefs/remotes/origin/main"
+    after = world.git("for-each-ref", where="clone")
+    row = f"{told} commit\trefs/remotes/origin/main"
     assert row in after if by == "export" else after == before
     world.git("fetch", "-q", "--prune", "origin", where="clone")
     asked = ["for-each-ref", "--format=%(objectname)", "refs/remotes/origin/main"]

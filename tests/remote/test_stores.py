@@ -230,6 +230,17 @@ def test_spelled(world: World) -> None:
         assert fetched == world.git("rev-parse", "main")
 
 
+def test_changed_by_gits_reader(world: World) -> None:
+    """An author without a name, before whom git's fast-import puts a space, comes by objects."""
+    world.started()
+    nameless = world.written("commit", lambda text: text.replace("author A <", "author <"))
+    world.git("push", "-q", "origin", f"{nameless}:refs/heads/nameless")
+    more, commands = world.counted()
+    world.git("fetch", "-q", where="clone", more=more)
+    assert commands() == ["refs", "export", "bundle"]
+    assert world.git("rev-parse", "origin/nameless", where="clone") == nameless
+
+
 def test_deleted_in_vain(world: World) -> None:
     """A ref that isn't there is told in a warning, and the others go."""
     world.started()

@@ -36,16 +36,21 @@ def test_nothing_new(world: World, counted: Counted) -> None:
 
 
 def test_what_a_run_takes(world: World, counted: Counted) -> None:
-    """A new commit, a forced branch, a new tag and a deleted branch: one look, an import of objects
-    and one of refs."""
+    """A new commit, a forced branch, a new tag and a deleted branch: one look and one import."""
     repository = world.repository
     repository.delete(b"refs/heads/side")
     repository.commit("new", repository.refs()[b"refs/heads/main"])
     repository.git("tag", "-m", "Two", "v2", "main")
     repository.git("update-ref", "refs/heads/main", "main~1")
     world.follows(env=counted.environment)
+    assert counted.runs("gx") == ["refs", "import"]
+    assert counted.runs("git").count("fast-export") == 1
+    repository.set({b"refs/heads/new": repository.signed(repository.commit("new"))})
+    counted.log.write_text("")
+    world.follows(env=counted.environment)
     assert counted.runs("gx") == ["refs", "import", "import"]
-    assert counted.log.read_text().count("\ngit cat-file --batch --buffer\n") == 1
+    log = counted.log.read_text()
+    assert log.count("\ngit cat-file --batch --buffer\n") == log.count(" import --objects ") == 1
 
 
 def test_head(world: World) -> None:

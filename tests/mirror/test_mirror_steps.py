@@ -149,6 +149,6 @@ def test_imports_all_the_time(world: World, counted: Counted) -> None:
     world.follows(env=counted.environment)
     rows = [line.split() for line in brought.read_bytes().splitlines()]
     made = {row[1] for row in rows if row[2:] == [b"refs/heads/main"]}
-    assert len(made) == 3
+    assert len(made) == 2
     noted = {digits for digits, _ in world.store.notes()}
     assert noted <= made <= world.store.names() and len(noted) == 1, "the last one, and all before"

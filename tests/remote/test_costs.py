@@ -73,7 +73,8 @@ def test_fetch_beside_many_refs(
     assert of_store <= most * of_git, f"{of_store:.2f} s, and git's {of_git:.2f} s"
 
 
-def test_fetch_sets_no_refs(world: World, monkeypatch: pytest.MonkeyPatch) -> None:
+@pytest.mark.parametrize("by", ["export", "bundle"])
+def test_fetch_sets_no_refs(world: World, monkeypatch: pytest.MonkeyPatch, by: str) -> None:
     """The empty repository of a fetch has no refs behind it, and the real one has all objects."""
     refs = (b"refs/heads/" + (b"topic%d" % row if row else b"main") for row in range(50))
     stream = line_of_commits(50, refs) + b"".join(TAG % (row, row) for row in range(1, 20))
@@ -84,9 +85,13 @@ def test_fetch_sets_no_refs(world: World, monkeypatch: pytest.MonkeyPatch) -> No
     script = helper()
     with ExitStack() as ends:
         repository = script.Repository(ends)
-        words = [world.gx, "bundle", "--pack", world.remote]
-        asked = [digits.encode() for digits in world.named().values()]
-        repository.take(script.Program(words, stdout=PIPE), asked, None)
+        named = {ref.encode(): digits.encode() for ref, digits in world.named().items()}
+        if by == "export":
+            words = [world.gx, "export", "--changes", world.remote]
+            repository.take_stream(script.Program(words, stdout=PIPE), named.keys(), None)
+        else:
+            words = [world.gx, "bundle", "--pack", world.remote]
+            repository.take(script.Program(words, stdout=PIPE), list(named.values()), None)
         folder = Path(repository.there["GIT_DIR"])
         paths = [folder / "packed-refs", *folder.glob("refs/**/*")]
         assert [path for path in paths if path.is_file() and path.stat().st_size] == []

@@ -35,7 +35,8 @@ fi"""
     world.refused(*push, told="main -> main (gx: write failed", more=world.wrapped(full))
     world.git(*push)
     before = world.git("for-each-ref", where="clone")
-    cut = 'if [ "$2" = bundle ]; then "$gx" "$@" | head -c %s; exit %d; fi'
+    sends = '[ "$2" = export ] || [ "$2" = bundle ]'
+    cut = f'if {sends}; then "$gx" "$@" | head -c %s; exit %d; fi'
     sizes = ("100000", "-1", "-5", "-100", "20")
     for number, (size, status) in enumerate((size, status) for size in sizes for status in (9, 0)):
         copy = f"clone{number}"
@@ -109,18 +110,24 @@ def test_import_between(world: World, words: list[str]) -> None:
 
 
 @pytest.mark.parametrize("change", [":main", "+main~1:main"])
-def test_fetch_between(world: World, change: str) -> None:
-    """A ref that goes or is forced between what git was told and its fetch: git sets none, and the
-    next fetch has what the store has."""
+@pytest.mark.parametrize("by", ["export", "bundle"])
+def test_fetch_between(world: World, by: str, change: str) -> None:
+    """A ref that goes or is forced between what git was told and its fetch. By a stream git has
+    what it was told. By objects, as of a signed commit, it sets no ref. The next fetch has what the
+    store has."""
     world.started()
-    world.commit({"file": "4\n"})
-    world.git("push", "-q", "origin", "main")
+    plain = world.commit({"file": "4\n"})
+    told = plain if by == "export" else world.signed()
+    world.git("push", "-q", "origin", f"{told}:refs/heads/main")
     before = world.git("for-each-ref", where="clone")
     begun = world.folder / "begun"
     theirs = f"GX=$gx git -C {world.folder}/work push -q origin {change}"
-    script = f'if [ "$2" = bundle ] && mkdir {begun} 2> /dev/null; then {theirs}; fi'
+    script = f'if [ "$2" = {by} ] && mkdir {begun} 2> /dev/null; then {theirs}; fi'
     done = world.run("fetch", "origin", where="clone", more=world.wrapped(script))
-    assert done.status != 0 and world.git("for-each-ref", where="clone") == before, done.err
+    assert begun.exists() and (done.status == 0) == (by == "export"), done.err
+    after = world.git("for-each-ref", where="clone")
+    row = f"{told} commit\trefs/remotes/origin/main"
+    assert row in after if by == "export" else after == before
     world.git("fetch", "-q", "--prune", "origin", where="clone")
     asked = ["for-each-ref", "--format=%(objectname)", "refs/remotes/origin/main"]
     held = world.git(*asked, where="clone")
@@ -139,13 +146,15 @@ def test_let_go_between(world: World) -> None:
 
 
 def test_collected_between(world: World) -> None:
-    """What a gc takes away before its refs are set is sent again."""
+    """What a gc takes away before its refs are set is sent again, where objects come first."""
     world.started()
-    above = world.commit({"file": "above"})
+    world.commit({"file": "above"})
+    above = world.signed()
     begun = world.folder / "begun"
     gc = f'"$gx" gc {world.remote}'
     script = f'if [[ "$*" == *--push=* ]] && mkdir {begun} 2> /dev/null; then {gc}; fi'
-    done = world.run("push", "origin", "main:above", ":side", more=world.wrapped(script))
+    sent = f"{above}:refs/heads/above"
+    done = world.run("push", "origin", sent, ":side", more=world.wrapped(script))
     assert done.status == 0 and begun.exists(), done.err
     assert world.short_named()["above"] == above and "side" not in world.short_named()
 
@@ -206,7 +215,7 @@ def test_atomic(world: World) -> None:
     assert world.named()["refs/heads/main"] != world.git("rev-parse", "main")
     more, commands = world.counted()
     world.git(*atomic, "other", ":refs/heads/none", more=more)
-    assert commands() == ["refs", "import", "import"]
+    assert commands() == ["refs", "import"]
     wanted = {name: world.git("rev-parse", name) for name in ("main", "other")}
     assert {name: world.named()[f"refs/heads/{name}"] for name in wanted} == wanted
     assert "refs/heads/side" not in world.named()

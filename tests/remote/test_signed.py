@@ -109,6 +109,32 @@ def test_increments_rewinds_and_deletions(signing: World) -> None:
     signing.store("verify")
 
 
+def test_increments_by_streams(signing: World) -> None:
+    """What a stream says isn't sent by objects, also above a signed commit; that one is."""
+    history(signing)
+    signing.git("push", "-q", "--mirror", "origin")
+    signing.git("clone", "-q", "--mirror", signing.url, "mirror", where=".")
+    signing.git("checkout", "-q", "signed")
+    for is_signed in (False, True, False):
+        made = signing.commit({"file": f"{signing.git('rev-parse', 'HEAD')}\n"})
+        if is_signed:
+            made = signing.signed()
+            signing.git("reset", "-q", "--hard", made)
+        signing.git("tag", "-f", "-m", "Of it", "v-more")
+        push, fetch = (signing.folder / name for name in ("push", "fetch"))
+        for log in (push, fetch):
+            log.write_text("")
+        note = 'echo "$2 $3" >> {}'
+        signing.git("push", "-q", "--mirror", "origin", more=signing.wrapped(note.format(push)))
+        more = signing.wrapped(note.format(fetch))
+        signing.git("fetch", "-q", "origin", where="mirror", more=more)
+        sent = ["import --objects"] if is_signed else []
+        assert push.read_text().splitlines() == ["refs --", *sent, "import --done"]
+        brought = ["export --changes", *(["bundle --pack"] if is_signed else [])]
+        assert [row for row in fetch.read_text().splitlines() if row[:2] in ("ex", "bu")] == brought
+        equal(signing, "mirror")
+
+
 def test_branches_move_by_the_rules(signing: World) -> None:
     """A signed commit goes forward, and back by force alone; an atomic push sets all or nothing."""
     made = history(signing)

@@ -213,6 +213,34 @@ def test_partial(world: World) -> None:
     world.git("fsck", where="partial")
 
 
+def test_spelled(world: World) -> None:
+    """Commits that are left out of a stream may be named by their digits, with or without `^0`."""
+    world.started()
+    for behind in ("", "^0"):
+        world.commit({f"file{behind}": "1\n"})
+        world.git("tag", "-f", "-m", "Of old", "old", "side")
+        other = world.git("commit-tree", "-p", "side", "-m", "Beside", "HEAD^{tree}")
+        world.git("merge", "-q", "-m", "Merge", other)
+        world.git("push", "-q", "-f", "origin", "main", "old")
+        changed = f"sed -E 's/^(from|merge) ([0-9a-f]{{40}})(\\^0)?$/\\1 \\2{behind}/'"
+        streams = f'[ "$2" != export ] || exec "$gx" "$@" > >({changed})'
+        more = world.wrapped(f'[ "$2" != bundle ] || exit 9; {streams}')
+        world.git("fetch", "-q", where="clone", more=more)
+        fetched = world.git("rev-parse", "origin/main", where="clone")
+        assert fetched == world.git("rev-parse", "main")
+
+
+def test_changed_by_gits_reader(world: World) -> None:
+    """An author without a name, before whom git's fast-import puts a space, comes by objects."""
+    world.started()
+    nameless = world.written("commit", lambda text: text.replace("author A <", "author <"))
+    world.git("push", "-q", "origin", f"{nameless}:refs/heads/nameless")
+    more, commands = world.counted()
+    world.git("fetch", "-q", where="clone", more=more)
+    assert commands() == ["refs", "export", "bundle"]
+    assert world.git("rev-parse", "origin/nameless", where="clone") == nameless
+
+
 def test_deleted_in_vain(world: World) -> None:
     """A ref that isn't there is told in a warning, and the others go."""
     world.started()
@@ -326,9 +354,9 @@ def test_refs_that_are_set_all_the_same(world: World) -> None:
     fails = '[[ "$*" != *--push=* ]] || { %secho "gx: write failed" >&2; exit 1; }'
     sent = 'if [ "$3" = --objects ]; then "$gx" "$@"; echo "gx: write failed" >&2; exit 1; fi'
     push = ["push", "--porcelain", "origin", "main", ":side"]
-    before = world.named()
-    for wrong in (fails % "", sent):
-        done = world.run(*push, more=world.wrapped(wrong))
+    before, signed = world.named(), world.signed()
+    for wrong, words in ((fails % "", push), (sent, [*push[:3], f"{signed}:main", ":side"])):
+        done = world.run(*words, more=world.wrapped(wrong))
         assert (done.status, done.out.count(b"(gx: write failed)")) == (1, 2), done
         assert world.named() == before
     done = world.run(*push, more=world.wrapped(fails % '"$gx" "$@"; '))

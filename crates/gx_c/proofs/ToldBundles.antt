@@ -1,6 +1,6 @@
 -- What range words have a bundle tell, and why they are refused.
 use Rattle.std.proofs.Common.{◌≡◌, inl, inr, ℕ, ◌+◌, ◌<◌, false, arith, ap, refl, subst, sym, ◌∙◌, List, [], ◌∷◌, length, map, Some, Ok, Err}
-use Rattle.std.specs.Prelude.{◌⊎◌, Bool, not}
+use Rattle.std.specs.Prelude.{not}
 use Rattle.std.specs.Bool.{◌==◌}
 use Rattle.std.proofs.lemmas.Bool.Decides.{nat_tests}
 use Rattle.gx_model.specs.declared.objects.Kind.{Kind}

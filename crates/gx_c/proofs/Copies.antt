@@ -1,5 +1,5 @@
 -- The repository of a plain store text, as stores of each version are read.
-use Rattle.std.proofs.Common.{◌≡◌, ◌<◌, ◌^◌, Bool, false, ap, refl, subst, sym, ◌∙◌, [], ◌++◌, length, Option, None, Some, Result, Ok, Err}
+use Rattle.std.proofs.Common.{◌≡◌, ◌<◌, ◌^◌, Bool, false, ap, refl, subst, ◌∙◌, [], ◌++◌, length, Option, None, Some, Result, Ok, Err}
 use Rattle.std.specs.Prelude.{codes, if◌then◌else◌}
 use Rattle.std.specs.Result.{is_err, result_map_both}
 use Rattle.sha2.specs.Sha256.{sha256}

@@ -1,7 +1,8 @@
 -- What range words have a bundle tell, and why they are refused.
-use Rattle.std.proofs.Common.{◌≡◌, inl, inr, ℕ, ◌+◌, ◌<◌, ap, refl, subst, sym, ◌∙◌, List, [], ◌∷◌, length, map, Some, Ok, Err}
-use Rattle.std.specs.Prelude.{◌⊎◌, Bool, not}
+use Rattle.std.proofs.Common.{◌≡◌, inl, inr, ℕ, ◌+◌, ◌<◌, false, arith, ap, refl, subst, sym, ◌∙◌, List, [], ◌∷◌, length, map, Some, Ok, Err}
+use Rattle.std.specs.Prelude.{not}
 use Rattle.std.specs.Bool.{◌==◌}
+use Rattle.std.proofs.lemmas.Bool.Decides.{nat_tests}
 use Rattle.gx_model.specs.declared.objects.Kind.{Kind}
 use Rattle.gx_model.specs.Histories.{Records}
 use Rattle.gx_model.specs.Records.HistoryOf.{history_of}
@@ -22,17 +23,17 @@ use Rattle.gx_c.specs.declared.answer.Why.{Why}
 use Rattle.gx_c.specs.declared.answer.Why.TheVariants.{Done, Empty, Field, Import, Item, Revision, Store, Unsupported}
 
 -- whether a list is empty, by its length
-pub is_none : {X : Type 0} (xs : List X) → (length xs == 0) ≡ not (has_some xs)
-is_none [] = refl
-is_none (x ∷ xs) = refl
+some_length : {X : Type 0} (x : X) (xs : List X) → (length (x ∷ xs) == 0) ≡ false
+some_length x xs = grind (arith, nat_tests)
 
 pub is_some : {X : Type 0} (xs : List X) → not (length xs == 0) ≡ has_some xs
 is_some [] = refl
-is_some (x ∷ xs) = refl
+is_some (x ∷ xs) = ap not (some_length x xs)
 
+-- the same of its elements as they are seen
 pub is_none_mapped : {X Y : Type 0} (f : X → Y) (xs : List X) → (length xs == 0) ≡ not (has_some (map f xs))
 is_none_mapped f [] = refl
-is_none_mapped f (x ∷ xs) = refl
+is_none_mapped f (x ∷ xs) = some_length x xs
 
 module _ (name : Kind → Bytes → Bytes) (r : Records) (words : List RangeWord) (head : Bytes) {A : Type 0} where
   module _ (told : Told A) (count : ℕ) (refs : told.refs.items ≡ lines_told r words head) (counted : count ≡ length words)

@@ -19,7 +19,7 @@ returns-in-Ok g c =
     let with_head = ap not c.is_empty-2.ensures ∙ is_some head in
     let refs = c.in-Ok.ensures.refs ∙ (λ i. flat_map stored_ref (told_refs (all i) (with_head i) words r.refs)) in
     let counted = sym (length-map c.args.words.now (shown_range {A = g.row.A.Denot})) in
-    from_told name r words head c.in-Ok.told _ refs counted c.in-Ok.ensures.excluded c.bundle_told.result.why c.bundle_told.result (rw c.len.ensures at c.bundle_told.ensures)
+    from_told name r words head c.in-Ok.told _ refs counted c.in-Ok.ensures.excluded c.bundle_told.result.why c.bundle_told.result c.bundle_told.ensures
 
 pub returns-in-Err : goal.returns-in-Err
 returns-in-Err g c =

@@ -45,8 +45,8 @@ TABLE = TOP / "docs" / "tried.tsv"
 PAGE = TOP / "docs" / "WRONG_BODIES.md"
 HEAD = "# What each wrong body came to, and over what: docs/WRONG_BODIES.md tells of it."
 PICKED = 5
-# what a check of a large crate takes at most, in bytes
-MEMORY = 4 << 30
+# what a check of a large crate with all its wrong bodies takes, in bytes: 8.5 GB of one alone
+MEMORY = 7 << 30
 
 
 @dataclass(frozen=True)

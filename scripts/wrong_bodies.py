@@ -45,7 +45,7 @@ TABLE = TOP / "docs" / "tried.tsv"
 PAGE = TOP / "docs" / "WRONG_BODIES.md"
 HEAD = "# What each wrong body came to, and over what: docs/WRONG_BODIES.md tells of it."
 PICKED = 5
-# what a check of a large crate with all its wrong bodies takes, in bytes: 8.5 GB of one alone
+# what a check of a large crate takes where all its wrong bodies are in it, in bytes: of gx_cli 8.5 GB
 MEMORY = 7 << 30
 
 

@@ -152,3 +152,18 @@ def test_imports_all_the_time(world: World, counted: Counted) -> None:
     assert len(made) == 2
     noted = {digits for digits, _ in world.store.notes()}
     assert noted <= made <= world.store.names() and len(noted) == 1, "the last one, and all before"
+
+
+@pytest.mark.parametrize("name", ["TERM", "HUP"])
+def test_ended_runs_leave_nothing(world: World, counted: Counted, name: str) -> None:
+    """The system ends a run, or a terminal that is closed does, with all that it runs."""
+    world.repository.commit("main")
+    world.follows()
+    world.repository.commit("main")
+    counted.write("gx", f'[ "$2" = import ] && kill -{name} 0')
+    left = world.folder / "left"
+    left.mkdir()
+    env = {**counted.environment, "TMPDIR": str(left)}
+    assert world.mirror(env=env, start_new_session=True).status == FAILED
+    assert not list(left.iterdir()) and not list(world.folder.glob("*.new"))
+    world.follows()

@@ -6,6 +6,7 @@ from __future__ import annotations
 import fcntl
 import os
 import shutil
+import signal
 import subprocess
 import time
 from pathlib import Path
@@ -277,3 +278,27 @@ def test_turn_of_another_system(world: World) -> None:
     done = run_program(words, asked, **how)
     assert done.status == 0 and done.out.endswith(b"\nok refs/heads/new\n\n"), done
     assert world.named() == {**told, "refs/heads/new": told["refs/heads/main"]}
+
+
+@pytest.mark.parametrize("names", ["TERM", "HUP", "INT", "HUP TERM", "INT TERM"])
+def test_ended_pushes_leave_nothing(world: World, names: str) -> None:
+    """The system ends a push, or the terminal does, and git hands that on."""
+    world.started()
+    world.commit({"file": "9\n"})
+    sent = "; ".join(f"kill -{name} $PPID" for name in names.split())
+    ended = world.wrapped(f'if [ "$2" = import ]; then {sent}; sleep 1; fi')
+    assert world.run("push", "origin", "main", more=ended).status != 0
+    assert not list((world.folder / "left").iterdir())
+
+
+def test_pushes_below_nohup_go_on(world: World) -> None:
+    world.started()
+    here = world.commit({"file": "9\n"})
+    closed = world.wrapped('if [ "$2" = import ]; then kill -HUP $PPID; fi')
+    before = signal.signal(signal.SIGHUP, signal.SIG_IGN)
+    try:
+        assert world.run("push", "origin", "main", more=closed).status == 0
+    finally:
+        signal.signal(signal.SIGHUP, before)
+    assert world.short_named()["main"] == here
+    assert not list((world.folder / "left").iterdir())
